@@ -1,0 +1,162 @@
+-- Laws on parts, sized cells, and what a writer with a room leaves.
+use Prim.Native.Nat.{ℕ, suc, _+_, _-_, _≤_, _<_}
+use native.Mathlib.Omega.{arith}
+use native.Mathlib.Numerals.{add-one}
+use native.Mathlib.Decide.{decLt}
+use mathlib.Core.Logic.{_⊎_, inl, inr, ⊎-elim}
+use mathlib.Core.Path.{_≡_, refl, sym, ap, _∙_, subst}
+use mathlib.Core.List.{List, [], _∷_, _++_, append-assoc, append-nil}
+use lib.ListN.{length, take, drop, getD, set, length-append, length-set}
+use lib.Seq.{getD-append-add, take-suc, take-suc-set, take-at, drop-at}
+use Rattle.cells.specs.declared.Cell.{Cell}
+use Rattle.cells.specs.Cells.{words, sized, cell-at, tag-at, start-at, Part, Sized}
+use Rattle.cells.specs.Room.{Wrote, Seals, Copies}
+
+-- parts
+module _ {s : List ℕ} {lo hi : ℕ} (u v : List ℕ) (p : Part s lo hi (u ++ v)) where
+  pub part-left : Part s lo (lo + length u) u
+  part-left = record { before = p .before; after = v ++ p .after; whole = p .whole ∙ simp append-assoc; low = p .low; high = refl }
+
+  pub part-right : Part s (lo + length u) hi v
+  part-right = record {
+    before = p .before ++ u;
+    after = p .after;
+    whole = p .whole ∙ simp append-assoc;
+    low = omega (arith, length-append (p .before) u, p .low);
+    high = omega (arith, length-append u v, p .high);
+  }
+
+module _ {s : List ℕ} {lo hi : ℕ} {w : List ℕ} (p : Part s lo hi w) where
+  pub part-in : (lo ≤ hi) × (hi ≤ length s)
+  part-in = (omega (arith, p .high), omega (arith, p .low, p .high, ap length (p .whole), length-append (p .before) (w ++ p .after), length-append w (p .after)))
+
+  pub part-word : (i j : ℕ) → i ≡ lo + j → getD s i 0 ≡ getD (w ++ p .after) j 0
+  part-word i j e = rw (e, ← p .low, p .whole) (getD-append-add (p .before) (w ++ p .after) j 0)
+
+  pub part-is : take (hi - lo) (drop lo s) ≡ w
+  part-is = rw (p .whole, drop-at (p .before) (w ++ p .after) lo (p .low)) (take-at w (p .after) (hi - lo) (omega (arith, p .high)))
+
+-- a cell over the words of its children
+module _ {s : List ℕ} {lo hi : ℕ} (b : List ℕ) (k : Cell) (p : Part s lo hi (sized b k)) where
+  pub seam : lo + length b + 6 ≡ hi
+  seam = omega (arith, p .high, length-append b (words k (length b + 6)))
+
+  pub body-part : Part s lo (hi - 6) b
+  body-part = let e : lo + length b ≡ hi - 6 = omega (arith, seam) in rw (← e) (part-left b (words k (length b + 6)) p)
+
+  own : Part s (hi - 6) hi (words k (length b + 6))
+  own = let e : lo + length b ≡ hi - 6 = omega (arith, seam) in subst (λ (n : ℕ). Part s n hi (words k (length b + 6))) e (part-right b (words k (length b + 6)) p)
+
+  pub cell-in : (lo + 6 ≤ hi) × (hi ≤ length s)
+  cell-in = (omega (arith, seam), part-in p .1)
+
+  pub cell-is : cell-at s hi ≡ k
+  cell-is =
+      let h : 6 ≤ hi = omega (arith, seam) in
+      rw (part-word own (hi - 6) 0 (omega arith), part-word own (hi - 5) 1 (omega arith), part-word own (hi - 4) 2 (omega arith), part-word own (hi - 3) 3 (omega arith), part-word own (hi - 2) 4 (omega arith))
+
+  pub tag-is : tag-at s hi ≡ k .tag
+  tag-is = ap (λ (x : Cell). x .tag) cell-is
+
+  long-is : getD s (hi - 1) 0 ≡ length b + 6
+  long-is = let h : 6 ≤ hi = omega (arith, seam) in part-word own (hi - 1) 5 (omega arith)
+
+  pub start-is : start-at s hi ≡ lo
+  start-is = omega (arith, seam, long-is)
+
+  pub has-size : Sized s hi
+  has-size = let (h, j) = cell-in in record { first = omega arith; last = j; long = omega (arith, seam, long-is) }
+
+-- writers
+module _ {d : List ℕ} {at : ℕ} {w : List ℕ} {n : ℕ} {d′ : List ℕ} where
+  pub no-room : length d < at + length w → length d < n → Wrote d at w n d′
+  no-room h k = record { fits = λ f. absurd (omega arith); full = λ _. k }
+
+  pub done : at + length w ≤ length d → n ≡ at + length w → take n d′ ≡ take at d ++ w → Wrote d at w n d′
+  done h e t = record { fits = λ _. (e, t); full = λ f. omega arith }
+
+pub lt-or-ge : (a b : ℕ) → (a < b) ⊎ (b ≤ a)
+lt-or-ge a b = go (decLt a b)
+  where
+    go : Dec (a < b) → (a < b) ⊎ (b ≤ a)
+    go (yes h) = inl h
+    go (no h) = inr (omega arith)
+
+-- one piece, and one more after it
+pub then : {d : List ℕ} {at : ℕ} {v w : List ℕ} {m n : ℕ} {d₁ d₂ : List ℕ}
+    → length d₁ ≡ length d → Wrote d at v m d₁ → Wrote d₁ m w n d₂ → Wrote d at (v ++ w) n d₂
+then {d} {at} {v} {w} {m} {n} {d₁} {d₂} k a b = record {
+  fits = λ h.
+      let l = length-append v w in
+      let (e, p) = a .fits (omega arith) in
+      let (f, q) = b .fits (omega arith) in
+      (omega arith, q ∙ ap (λ (x : List ℕ). x ++ w) p ∙ append-assoc (take at d) v w);
+  full = λ h.
+      let l = length-append v w in
+      ⊎-elim
+      (λ (z : length d < at + length v). let y = a .full z in let x = b .full (omega arith) in omega arith)
+      (λ (z : at + length v ≤ length d). let (e, p) = a .fits z in let x = b .full (omega arith) in omega arith)
+      (lt-or-ge (length d) (at + length v));
+}
+
+pub nothing : (d : List ℕ) (at : ℕ) → Wrote d at [] at d
+nothing d at = record { fits = λ h. (omega arith, sym (append-nil (take at d))); full = λ h. omega arith }
+
+-- what was written ends at n or past the end
+pub wrote-up : {d : List ℕ} {at : ℕ} {w : List ℕ} {n : ℕ} {d′ : List ℕ} → Wrote d at w n d′ → n ≤ length d → n ≡ at + length w
+wrote-up {d} {at} {w} {n} a h = ⊎-elim
+    (λ (z : length d < at + length w). absurd (let y = a .full z in omega arith))
+    (λ (z : at + length w ≤ length d). a .fits z .0)
+    (lt-or-ge (length d) (at + length w))
+
+one-more : (l : List ℕ) (i j a : ℕ) → j ≡ i + 1 → i < length l → take j (set l i a) ≡ take i l ++ (a ∷ [])
+one-more l i j a e h = ap (λ (n : ℕ). take n (set l i a)) (e ∙ add-one i) ∙ take-suc-set l i a h
+
+pub put6 : (d : List ℕ) (at t f a b c n : ℕ) → at + 6 ≤ length d
+    → take (at + 6) (set (set (set (set (set (set d at t) (at + 1) f) (at + 2) a) (at + 3) b) (at + 4) c) (at + 5) n) ≡ take at d ++ (t ∷ f ∷ a ∷ b ∷ c ∷ n ∷ [])
+put6 d at t f a b c n g =
+    let l₁ = set d at t in
+    let l₂ = set l₁ (at + 1) f in
+    let l₃ = set l₂ (at + 2) a in
+    let l₄ = set l₃ (at + 3) b in
+    let l₅ = set l₄ (at + 4) c in
+    one-more l₅ (at + 5) (at + 6) n (omega arith) (simp length-set (omega arith))
+    ∙ ap (λ (l : List ℕ). l ++ (n ∷ [])) (one-more l₄ (at + 4) (at + 5) c (omega arith) (simp length-set (omega arith)))
+    ∙ ap (λ (l : List ℕ). (l ++ (c ∷ [])) ++ (n ∷ [])) (one-more l₃ (at + 3) (at + 4) b (omega arith) (simp length-set (omega arith)))
+    ∙ ap (λ (l : List ℕ). ((l ++ (b ∷ [])) ++ (c ∷ [])) ++ (n ∷ [])) (one-more l₂ (at + 2) (at + 3) a (omega arith) (simp length-set (omega arith)))
+    ∙ ap (λ (l : List ℕ). (((l ++ (a ∷ [])) ++ (b ∷ [])) ++ (c ∷ [])) ++ (n ∷ [])) (one-more l₁ (at + 1) (at + 2) f (omega arith) (simp length-set (omega arith)))
+    ∙ ap (λ (l : List ℕ). ((((l ++ (f ∷ [])) ++ (a ∷ [])) ++ (b ∷ [])) ++ (c ∷ [])) ++ (n ∷ [])) (one-more d at (at + 1) t refl (omega arith))
+    ∙ simp append-assoc
+
+-- the ways out of put
+module _ (k : Cell) {d : List ℕ} {lo at : ℕ} where
+  pub seals-low : {n : ℕ} {d′ : List ℕ} → at < lo → length d < n → Seals d lo at k n d′
+  seals-low h j d₀ b q w = ⊎-elim
+      (λ (z : length d₀ < lo + length b). no-room (omega (arith, length-append b (words k (length b + 6)))) (omega arith))
+      (λ (z : lo + length b ≤ length d₀). absurd (omega (arith, w .fits z .0)))
+      (lt-or-ge (length d₀) (lo + length b))
+
+  pub seals-full : {n : ℕ} {d′ : List ℕ} → length d < at + 6 → length d < n → Seals d lo at k n d′
+  seals-full h j d₀ b q w = ⊎-elim
+      (λ (z : length d₀ < lo + length b). no-room (omega (arith, length-append b (words k (length b + 6)))) (omega arith))
+      (λ (z : lo + length b ≤ length d₀). no-room (omega (arith, w .fits z .0, length-append b (words k (length b + 6)))) (omega arith))
+      (lt-or-ge (length d₀) (lo + length b))
+
+  pub seals : {d′ : List ℕ} → lo ≤ at → at + 6 ≤ length d → take (at + 6) d′ ≡ take at d ++ words k (at - lo + 6) → Seals d lo at k (at + 6) d′
+  seals {d′} h j e d₀ b q w =
+      let y = wrote-up w (omega arith) in
+      let z : at - lo ≡ length b = omega arith in
+      then q w (done (omega arith) refl (subst (λ (n : ℕ). take (at + 6) d′ ≡ take at d ++ words k (n + 6)) z e))
+
+-- a turn of the copy
+pub copied : (s d₀ d : List ℕ) (at i : ℕ) → i < length s → at + i < length d → take (at + i) d ≡ take at d₀ ++ take i s
+    → take (at + (i + 1)) (set d (at + i) (getD s i 0)) ≡ take at d₀ ++ take (i + 1) s
+copied s d₀ d at i h k e =
+    let j : at + (i + 1) ≡ suc (at + i) = omega arith in
+    rw (j, take-suc-set d (at + i) (getD s i 0) k, add-one, take-suc s i 0 h, e) (append-assoc (take at d₀) (take i s) (getD s i 0 ∷ []))
+
+pub copies : {s : List ℕ} {lo hi : ℕ} {d : List ℕ} {at n : ℕ} {d′ : List ℕ} → Wrote d at (take (hi - lo) (drop lo s)) n d′ → Copies s lo hi d at n d′
+copies {d} {at} {n} {d′} w v p = subst (λ (l : List ℕ). Wrote d at l n d′) (part-is p) w
+
+pub full-already : {d : List ℕ} {at : ℕ} {w d′ : List ℕ} → length d < at → Wrote d at w at d′
+full-already h = no-room (omega arith) h

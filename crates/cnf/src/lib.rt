@@ -1,0 +1,127 @@
+// expression.rs, into_cnf after into_nnf: Ors are spread over the Ands at the top of their operands. The result is written directly and can be
+// exponentially longer than the source, so each function stops as soon as there is no room.
+ghost use mathlib.Core.Path.{_≡_};
+ghost use Prim.Native.Nat.{ℕ, _+_, _-_, _≤_, _<_};
+ghost use lib.ListN.{length};
+ghost use Rattle.sql.specs.Expression;
+ghost use Rattle.cells.specs.Cells.{tag-at};
+ghost use Rattle.words.specs.Words.{map-operands};
+ghost use Rattle.words.specs.Place.{ExpressionAt, Maps};
+ghost use Rattle.cnf.specs.Cnf.{MapsTwo, spread, spread-right};
+
+// distribute of the expression from lo to hi.
+pub fn distribute(s: &[usize], lo: usize, hi: usize, d: &mut [usize], at: usize) -> usize
+    requires { ⌜ ExpressionAt (now s) lo hi ⌝ }
+    ensures { λ r. ⌜ Maps Expression.distribute (now (s .entry)) lo hi (now (d .entry)) at r (now (d .exit)) ⌝ }
+{
+    if d.len() < at {
+        return at;
+    }
+    if cells::tag_at(s, hi) == 11 {
+        let k = hi - 6;
+        let mid = cells::start(s, k);
+        return or_both(s, lo, mid, mid, k, d, at);
+    }
+    distribute_operands(s, lo, hi, d, at)
+}
+
+// The expression from lo to hi with distribute of its operands.
+fn distribute_operands(s: &[usize], lo: usize, hi: usize, d: &mut [usize], at: usize) -> usize
+    requires { ⌜ ExpressionAt (now s) lo hi ⌝ }
+    ensures { λ r. ⌜ Maps (map-operands Expression.distribute) (now (s .entry)) lo hi (now (d .entry)) at r (now (d .exit)) ⌝ }
+{
+    let c = cells::cell_at(s, hi);
+    if c.tag < 10 {
+        return cells::put(d, at, at, c);
+    }
+    let k = hi - 6;
+    if 30 <= c.tag {
+        let m = distribute(s, lo, k, d, at);
+        return cells::put(d, at, m, c);
+    }
+    let mid = cells::start(s, k);
+    let m = distribute(s, lo, mid, d, at);
+    let j = distribute(s, mid, k, d, m);
+    cells::put(d, at, j, c)
+}
+
+// Or of the expressions from a to x and from b to z, spread over the Ands at the top of both.
+fn or_both(s: &[usize], a: usize, x: usize, b: usize, z: usize, d: &mut [usize], at: usize) -> usize
+    requires { ⌜ ExpressionAt (now s) a x ⌝ }
+    requires { ⌜ ExpressionAt (now s) b z ⌝ }
+    ensures { λ r. ⌜ MapsTwo spread (now (s .entry)) a x b z (now (d .entry)) at r (now (d .exit)) ⌝ }
+{
+    if d.len() < at {
+        return at;
+    }
+    if cells::tag_at(s, x) == 10 {
+        let k = x - 6;
+        let mid = cells::start(s, k);
+        let m = or_both(s, a, mid, b, z, d, at);
+        let j = or_both(s, mid, k, b, z, d, m);
+        return cells::put(
+            d,
+            at,
+            j,
+            cells::Cell {
+                tag: 10,
+                flag: 0,
+                a: 0,
+                b: 0,
+                c: 0,
+            },
+        );
+    }
+    or_right(s, a, x, b, z, d, at)
+}
+
+// The same where the left one is no And.
+fn or_right(
+    s: &[usize],
+    a: usize,
+    x: usize,
+    b: usize,
+    z: usize,
+    d: &mut [usize],
+    at: usize,
+) -> usize
+    requires { ⌜ ExpressionAt (now s) a x ⌝ }
+    requires { ⌜ ExpressionAt (now s) b z ⌝ }
+    ensures { λ r. ⌜ MapsTwo spread-right (now (s .entry)) a x b z (now (d .entry)) at r (now (d .exit)) ⌝ }
+{
+    if d.len() < at {
+        return at;
+    }
+    if cells::tag_at(s, z) == 10 {
+        let k = z - 6;
+        let mid = cells::start(s, k);
+        let m = or_right(s, a, x, b, mid, d, at);
+        let j = or_right(s, a, x, mid, k, d, m);
+        return cells::put(
+            d,
+            at,
+            j,
+            cells::Cell {
+                tag: 10,
+                flag: 0,
+                a: 0,
+                b: 0,
+                c: 0,
+            },
+        );
+    }
+    let m = distribute(s, a, x, d, at);
+    let j = distribute(s, b, z, d, m);
+    cells::put(
+        d,
+        at,
+        j,
+        cells::Cell {
+            tag: 11,
+            flag: 0,
+            a: 0,
+            b: 0,
+            c: 0,
+        },
+    )
+}

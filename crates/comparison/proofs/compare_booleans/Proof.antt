@@ -1,0 +1,35 @@
+-- `comparison::compare_booleans` meets its contract.
+use mathlib.Core.Bool.{Bool, true, false, Bool·beq}
+use mathlib.Core.Path.{_≡_, refl, sym}
+use Rattle.value.proofs.Laws.{false≢true}
+use Rattle.value.specs.Comparison.{Less, Equal, Greater, compare-booleans}
+use Rattle.comparison.proofs.compare_booleans.Statement.{statement}
+use Rattle.comparison.proofs.compare_booleans.Tie as tie
+
+law : (a b : Bool) → Bool·beq a b ≡ true → Equal ≡ compare-booleans a b
+law false false h = refl
+law false true h = absurd (false≢true h)
+law true false h = absurd (false≢true h)
+law true true h = refl
+
+greater : (a b : Bool) → Bool·beq a b ≡ false → a ≡ true → Greater ≡ compare-booleans a b
+greater false b h t = absurd (false≢true t)
+greater true false h t = refl
+greater true true h t = absurd (false≢true (sym h))
+
+less : (a b : Bool) → Bool·beq a b ≡ false → a ≡ false → Less ≡ compare-booleans a b
+less true b h t = absurd (false≢true (sym t))
+less false true h t = refl
+less false false h t = absurd (false≢true (sym h))
+
+returns : tie.Need-returns
+returns c = law (c .before .args .a) (c .before .args .b) (c .if1 .taken)
+
+returns-2 : tie.Need-returns-2
+returns-2 c = greater (c .before .before .args .a) (c .before .before .args .b) (c .before .if1 .left) (c .if2 .taken)
+
+returns-3 : tie.Need-returns-3
+returns-3 c = less (c .before .before .args .a) (c .before .before .args .b) (c .before .if1 .left) (c .if2 .left)
+
+pub compare-booleans-spec : {M : Type 1} → statement M
+compare-booleans-spec = tie.close (tie.spec returns returns-2 returns-3)

@@ -1,0 +1,12 @@
+pub mod Units
+pub mod Nearest
+pub mod Pattern
+pub mod Sign
+pub mod Reading
+pub mod Rounding
+pub mod Conversion
+pub mod Operations
+pub mod Comparisons
+pub mod Negation
+pub mod Agreement
+pub mod Examples

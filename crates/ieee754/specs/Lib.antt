@@ -1,0 +1,3 @@
+pub mod Ieee754
+pub mod Converted
+pub mod Examples

@@ -1,0 +1,4 @@
+pub mod Cells
+pub mod Failing
+pub mod Known
+pub mod Laws

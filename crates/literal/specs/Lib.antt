@@ -1,0 +1,4 @@
+pub mod Expressions
+pub mod Nodes
+pub mod Bounds
+pub mod Shift

@@ -1,0 +1,272 @@
+-- plan.rs and optimizer.rs to the letter: the passes are the Rust's `Node::transform` with one rewrite of a node, before or after its sources, and
+-- push_filters and maybe_push_filter call each other. The bounds on the recursion in crate sql are high enough.
+use Prim.Native.Nat.{ℕ, zero, suc, _+_, _≤_}
+use mathlib.Core.Path.{_≡_, refl, sym, ap, ap₂, _∙_}
+use mathlib.Core.Bool.{Bool}
+use mathlib.Core.List.{List, [], _∷_}
+use mathlib.Core.Option.{Option, none, some}
+use native.Mathlib.Omega.{arith}
+use Rattle.value.specs.Value.{Value}
+use Rattle.sql.specs.Schema.{Schema}
+use Rattle.sql.specs.Expression.{Expression, and-vec, shift-column-down, into-cnf-vec, into-column-values}
+use Rattle.sql.specs.Plan.{Access, Leaf, scan, lookup, nothing, values, limit, offset, order, projection, remap, aggregate, Over, filter, other, Join, nested-loop, hash, Node, leaf, over, join, columns, optional-size, leaf-size, over-size, join-size, node-size}
+use Rattle.sql.specs.Optimizer.{map-sources, push-into, push-part, pushed-or-back, push-left, push-right, map-optional, go-on, maybe-push-join, maybe-push-filter, push-filters, push-filters-from, FilterPushdown, Found, filtered, access, find-lookup, lookup-or-scan, index-lookup, IndexLookup, hash-join, HashJoin, short-circuit, ShortCircuit}
+
+-- `transform`, where `rewrite` is applied before or after the sources. The number bounds how deep the calls go.
+abbrev pub transform-before : (Node → Node) → ℕ → Node → Node
+transform-before rewrite zero n = n
+transform-before rewrite (suc k) n = map-sources (transform-before rewrite k) (rewrite n)
+
+abbrev pub transform-after : (Node → Node) → ℕ → Node → Node
+transform-after rewrite zero n = n
+transform-after rewrite (suc k) n = rewrite (map-sources (transform-after rewrite k) n)
+
+abbrev pub nodes : Node → ℕ
+nodes (leaf l) = 1
+nodes (over o source) = suc (nodes source)
+nodes (join outer j left right) = suc (nodes left + nodes right)
+
+pub nodes-positive : (n : Node) → 1 ≤ nodes n
+nodes-positive (leaf l) = omega arith
+nodes-positive (over o source) = omega arith
+nodes-positive (join outer j left right) = omega arith
+
+-- ---- a plan has no more nodes than cells
+
+leaf-positive : (l : Leaf) → 1 ≤ leaf-size l
+leaf-positive (scan table alias p) = omega arith
+leaf-positive (lookup by table alias constants) = omega arith
+leaf-positive (nothing labels) = omega arith
+leaf-positive (values rows) = omega arith
+
+over-positive : (o : Over) → 1 ≤ over-size o
+over-positive (filter p) = omega arith
+over-positive (other (limit amount)) = omega arith
+over-positive (other (offset amount)) = omega arith
+over-positive (other (order key)) = omega arith
+over-positive (other (projection items)) = omega arith
+over-positive (other (remap targets)) = omega arith
+over-positive (other (aggregate group-by aggregates)) = omega arith
+
+join-positive : (j : Join) → 1 ≤ join-size j
+join-positive (nested-loop p) = omega arith
+join-positive (hash a b) = omega arith
+
+pub nodes-cells : (n : Node) → nodes n ≤ node-size n
+nodes-cells (leaf l) = leaf-positive l
+nodes-cells (over o source) = let h = nodes-cells source in let p = over-positive o in omega arith
+nodes-cells (join outer j left right) = let h = nodes-cells left in let k = nodes-cells right in let p = join-positive j in omega arith
+
+-- ---- FilterPushdown: pushing makes no more nodes
+
+no-node : {A : Type 0} {n : Node} → _≡_ {A = Option Node} none (some n) → A
+no-node h = absurd (let y : _≡_ {A = ℕ} 0 1 = cc in omega arith)
+
+some-node : {a b : Node} → _≡_ {A = Option Node} (some a) (some b) → a ≡ b
+some-node h = cc
+
+pub nodes-into : (e : Expression) (n m : Node) → push-into e n ≡ some m → nodes m ≡ nodes n
+nodes-into e (leaf (scan table alias p)) m h = ap nodes (sym (some-node h))
+nodes-into e (leaf (lookup by table alias constants)) m h = no-node h
+nodes-into e (leaf (nothing labels)) m h = no-node h
+nodes-into e (leaf (values rows)) m h = no-node h
+nodes-into e (over (filter p) source) m h = ap nodes (sym (some-node h))
+nodes-into e (over (other o) source) m h = no-node h
+nodes-into e (join outer (nested-loop p) left right) m h = ap nodes (sym (some-node h))
+nodes-into e (join outer (hash a b) left right) m h = no-node h
+
+nodes-part : (p : Option Expression) (n : Node) → nodes (push-part p n .0) ≡ nodes n
+nodes-part none n = refl
+nodes-part (some e) n = go (push-into e n) refl
+  where
+    go : (o : Option Node) → push-into e n ≡ o → nodes (pushed-or-back e n o .0) ≡ nodes n
+    go none h = refl
+    go (some m) h = nodes-into e n m h
+
+module _ (schema : Schema) where
+  nodes-join : (n : Node) → nodes (maybe-push-join schema n) ≡ nodes n
+  unfolding maybe-push-join
+  nodes-join (leaf l) = refl
+  nodes-join (over o source) = refl
+  nodes-join (join outer (nested-loop none) left right) = refl
+  nodes-join (join outer (nested-loop (some p)) left right) =
+      let n = columns schema left in
+      let cnf = into-cnf-vec p in
+      ap₂ (λ x y. suc (x + y)) (nodes-part (and-vec (push-left n cnf)) left) (nodes-part (map-optional (shift-column-down n) (and-vec (push-right n cnf))) right)
+  nodes-join (join outer (hash a b) left right) = refl
+
+  nodes-filter : (k : ℕ) (n : Node) → nodes (maybe-push-filter schema k n) ≤ nodes n
+  unfolding maybe-push-filter
+  nodes-filter zero n = omega arith
+  nodes-filter (suc k) (leaf l) = omega arith
+  nodes-filter (suc k) (over (filter p) source) = go (push-into p source) refl (nodes-filter k)
+    where
+      on : Node → Node
+      on pushed = maybe-push-join schema (maybe-push-filter schema k pushed)
+
+      go : (o : Option Node) → push-into p source ≡ o → ((n : Node) → nodes (maybe-push-filter schema k n) ≤ nodes n) → nodes (go-on on (over (filter p) source) o) ≤ suc (nodes source)
+      go none h below = omega arith
+      go (some pushed) h below =
+          let a = nodes-join (maybe-push-filter schema k pushed) in
+          let b = below pushed in
+          let c = nodes-into p source pushed h in
+          omega arith
+  nodes-filter (suc k) (over (other o) source) = omega arith
+  nodes-filter (suc k) (join outer j left right) = omega arith
+
+  pub nodes-push : (k : ℕ) (n : Node) → nodes (push-filters schema k n) ≤ nodes n
+  nodes-push k n = let a = nodes-join (maybe-push-filter schema k n) in let b = nodes-filter k n in omega arith
+
+  -- Two bounds that are high enough give the same.
+  filter-enough : (k j : ℕ) (n : Node) → nodes n ≤ k → nodes n ≤ j → maybe-push-filter schema k n ≡ maybe-push-filter schema j n
+  unfolding maybe-push-filter
+  filter-enough zero j n h i = absurd (let p = nodes-positive n in omega arith)
+  filter-enough (suc k) zero n h i = absurd (let p = nodes-positive n in omega arith)
+  filter-enough (suc k) (suc j) (leaf l) h i = refl
+  filter-enough (suc k) (suc j) (over (filter p) source) h i = go (push-into p source) refl (filter-enough k j)
+    where
+      go : (o : Option Node) → push-into p source ≡ o
+          → ((n : Node) → nodes n ≤ k → nodes n ≤ j → maybe-push-filter schema k n ≡ maybe-push-filter schema j n)
+          → go-on (λ pushed. maybe-push-join schema (maybe-push-filter schema k pushed)) (over (filter p) source) o
+          ≡ go-on (λ pushed. maybe-push-join schema (maybe-push-filter schema j pushed)) (over (filter p) source) o
+      go none e below = refl
+      go (some pushed) e below = let c = nodes-into p source pushed e in ap (maybe-push-join schema) (below pushed (omega arith) (omega arith))
+  filter-enough (suc k) (suc j) (over (other o) source) h i = refl
+  filter-enough (suc k) (suc j) (join outer q left right) h i = refl
+
+  -- push_filters, without a bound
+  abbrev pub push-filters-of : Node → Node
+  push-filters-of n = push-filters schema (node-size n) n
+
+  push-enough : (k : ℕ) (n : Node) → nodes n ≤ k → push-filters schema k n ≡ push-filters-of n
+  push-enough k n h = ap (maybe-push-join schema) (filter-enough k (node-size n) n h (nodes-cells n))
+
+  -- maybe_push_filter, by the Rust's text: a Filter that its source takes is gone, and push_filters goes on with the source
+  abbrev pub maybe-push-filter-of : Node → Node
+  maybe-push-filter-of (leaf l) = leaf l
+  maybe-push-filter-of (over (filter p) source) = go-on push-filters-of (over (filter p) source) (push-into p source)
+  maybe-push-filter-of (over (other o) source) = over (other o) source
+  maybe-push-filter-of (join outer j left right) = join outer j left right
+
+  literal-at : (k : ℕ) (n : Node) → node-size n ≡ k → push-filters schema k n ≡ maybe-push-join schema (maybe-push-filter-of n)
+  unfolding maybe-push-filter
+  literal-at zero n e = absurd (let p = nodes-positive n in let q = nodes-cells n in omega arith)
+  literal-at (suc k) (leaf l) e = refl
+  literal-at (suc k) (over (filter p) source) e = ap (maybe-push-join schema) (go (push-into p source) refl)
+    where
+      go : (o : Option Node) → push-into p source ≡ o
+          → go-on (λ pushed. maybe-push-join schema (maybe-push-filter schema k pushed)) (over (filter p) source) o ≡ go-on push-filters-of (over (filter p) source) o
+      go none i = refl
+      go (some pushed) i = let c = nodes-into p source pushed i in let d = nodes-cells source in push-enough k pushed (omega arith)
+  literal-at (suc k) (over (other o) source) e = refl
+  literal-at (suc k) (join outer j left right) e = refl
+
+  pub push-filters-literal : (n : Node) → push-filters-of n ≡ maybe-push-join schema (maybe-push-filter-of n)
+  push-filters-literal n = literal-at (node-size n) n refl
+
+-- what two functions do to plans with few nodes, they do to the sources of plans with one more
+sources-same : (f g : Node → Node) (j : ℕ) → ((n : Node) → nodes n ≤ j → f n ≡ g n) → (n : Node) → nodes n ≤ suc j → map-sources f n ≡ map-sources g n
+sources-same f g j h (leaf l) b = refl
+sources-same f g j h (over o source) b = ap (over o) (h source (omega arith))
+sources-same f g j h (join outer q left right) b = ap₂ (join outer q) (h left (omega arith)) (h right (omega arith))
+
+module _ (schema : Schema) where
+  from-enough : (k j : ℕ) (n : Node) → nodes n ≤ k → nodes n ≤ j → push-filters-from schema k n ≡ push-filters-from schema j n
+  unfolding push-filters-from
+  from-enough zero j n h i = absurd (let p = nodes-positive n in omega arith)
+  from-enough (suc k) zero n h i = absurd (let p = nodes-positive n in omega arith)
+  from-enough (suc k) (suc j) n h i =
+      ap (map-sources (push-filters-from schema k)) (push-enough schema (suc k) n h ∙ sym (push-enough schema (suc j) n i))
+      ∙ go (nodes (push-filters schema (suc j) n)) refl (from-enough k j)
+    where
+      pushed : Node
+      pushed = push-filters schema (suc j) n
+
+      go : (s : ℕ) → nodes pushed ≡ s → ((m : Node) → nodes m ≤ k → nodes m ≤ j → push-filters-from schema k m ≡ push-filters-from schema j m)
+          → map-sources (push-filters-from schema k) pushed ≡ map-sources (push-filters-from schema j) pushed
+      go zero e below = absurd (let p = nodes-positive pushed in omega arith)
+      go (suc s) e below = let q = nodes-push schema (suc j) n in
+          sources-same (push-filters-from schema k) (push-filters-from schema j) s (λ m b. below m (omega arith) (omega arith)) pushed (omega arith)
+
+  pushdown-at : (k : ℕ) (n : Node) → node-size n ≡ k → push-filters-from schema k n ≡ map-sources (FilterPushdown schema) (push-filters-of schema n)
+  unfolding push-filters-from FilterPushdown
+  pushdown-at zero n e = absurd (let p = nodes-positive n in let q = nodes-cells n in omega arith)
+  pushdown-at (suc k) n e =
+      ap (map-sources (push-filters-from schema k)) (ap (λ z. push-filters schema z n) (sym e))
+      ∙ go (nodes (push-filters-of schema n)) refl
+    where
+      go : (s : ℕ) → nodes (push-filters-of schema n) ≡ s
+          → map-sources (push-filters-from schema k) (push-filters-of schema n) ≡ map-sources (λ m. push-filters-from schema (node-size m) m) (push-filters-of schema n)
+      go zero i = absurd (let p = nodes-positive (push-filters-of schema n) in omega arith)
+      go (suc s) i =
+          let q = nodes-push schema (node-size n) n in let c = nodes-cells n in
+          sources-same (push-filters-from schema k) (λ m. push-filters-from schema (node-size m) m) s
+          (λ m b. from-enough k (node-size m) m (omega arith) (nodes-cells m)) (push-filters-of schema n) (omega arith)
+
+  -- A node is pushed, then the sources of what it became are gone into.
+  pub pushdown-literal : (n : Node) → FilterPushdown schema n ≡ map-sources (FilterPushdown schema) (push-filters-of schema n)
+  unfolding FilterPushdown
+  pushdown-literal n = pushdown-at (node-size n) n refl
+
+  -- ---- IndexLookup
+
+  abbrev pub index-lookup-node : Node → Node
+  index-lookup-node (leaf l) = index-lookup schema l
+  index-lookup-node (over o source) = over o source
+  index-lookup-node (join outer j left right) = join outer j left right
+
+  module _ (k : ℕ) where
+    abbrev again : Node → Node
+    again = transform-before index-lookup-node k
+
+    lookup-stays : (m : ℕ) (by : Access) (table : ℕ) (alias : Option ℕ) (constants : List Value) → transform-before index-lookup-node m (leaf (lookup by table alias constants)) ≡ leaf (lookup by table alias constants)
+    unfolding index-lookup
+    lookup-stays zero by table alias constants = refl
+    lookup-stays (suc m) by table alias constants = refl
+
+    found-stays : (table : ℕ) (alias : Option ℕ) (p : Expression) (o : Option Found) → map-sources again (lookup-or-scan schema table alias p o) ≡ lookup-or-scan schema table alias p o
+    found-stays table alias p none = refl
+    found-stays table alias p (some f) = go (and-vec (f .remaining))
+      where
+        looked : Node
+        looked = leaf (lookup (access schema table (f .column-number)) table alias (into-column-values (f .conjunct)))
+
+        go : (q : Option Expression) → map-sources again (filtered q looked) ≡ filtered q looked
+        go none = refl
+        go (some q) = ap (over (filter q)) (lookup-stays k (access schema table (f .column-number)) table alias (into-column-values (f .conjunct)))
+
+    leaf-stays : (l : Leaf) → map-sources again (index-lookup schema l) ≡ index-lookup schema l
+    unfolding index-lookup
+    leaf-stays (scan table alias none) = refl
+    leaf-stays (scan table alias (some p)) = found-stays table alias p (find-lookup schema table (into-cnf-vec p))
+    leaf-stays (lookup by table alias constants) = refl
+    leaf-stays (nothing labels) = refl
+    leaf-stays (values rows) = refl
+
+  pub lookup-literal : (k : ℕ) (n : Node) → nodes n ≤ k → transform-before index-lookup-node k n ≡ IndexLookup schema n
+  unfolding IndexLookup
+  lookup-literal zero n h = absurd (let p = nodes-positive n in omega arith)
+  lookup-literal (suc k) (leaf l) h = leaf-stays k l
+  lookup-literal (suc k) (over o source) h = ap (over o) (lookup-literal k source (omega arith))
+  lookup-literal (suc k) (join outer j left right) h = ap₂ (join outer j) (lookup-literal k left (omega arith)) (lookup-literal k right (omega arith))
+
+  -- ---- HashJoin and ShortCircuit
+
+  abbrev pub hash-join-node : Node → Node
+  hash-join-node (leaf l) = leaf l
+  hash-join-node (over o source) = over o source
+  hash-join-node (join outer j left right) = join outer (hash-join (columns schema left) j) left right
+
+  pub hash-literal : (k : ℕ) (n : Node) → nodes n ≤ k → transform-before hash-join-node k n ≡ HashJoin schema n
+  hash-literal zero n h = absurd (let p = nodes-positive n in omega arith)
+  hash-literal (suc k) (leaf l) h = refl
+  hash-literal (suc k) (over o source) h = ap (over o) (hash-literal k source (omega arith))
+  hash-literal (suc k) (join outer j left right) h =
+      ap₂ (join outer (hash-join (columns schema left) j)) (hash-literal k left (omega arith)) (hash-literal k right (omega arith))
+
+  pub circuit-literal : (k : ℕ) (n : Node) → nodes n ≤ k → transform-after (short-circuit schema) k n ≡ ShortCircuit schema n
+  circuit-literal zero n h = absurd (let p = nodes-positive n in omega arith)
+  circuit-literal (suc k) (leaf l) h = refl
+  circuit-literal (suc k) (over o source) h = ap (λ z. short-circuit schema (over o z)) (circuit-literal k source (omega arith))
+  circuit-literal (suc k) (join outer j left right) h =
+      ap₂ (λ x y. short-circuit schema (join outer j x y)) (circuit-literal k left (omega arith)) (circuit-literal k right (omega arith))

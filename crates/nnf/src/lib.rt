@@ -1,0 +1,96 @@
+// expression.rs, into_nnf: an expression in its working form is read from one slice, and its negation normal form appended to another. The result is
+// written directly, so that its size alone counts for room.
+ghost use mathlib.Core.Logic.{_⊎_};
+ghost use mathlib.Core.Path.{_≡_};
+ghost use Prim.Native.Nat.{ℕ, _+_, _-_, _≤_, _<_};
+ghost use lib.ListN.{length};
+ghost use Rattle.sql.specs.Expression.{into-nnf, into-nnf-not, into-nnf-operands};
+ghost use Rattle.cells.specs.Cells.{tag-at};
+ghost use Rattle.words.specs.Place.{ExpressionAt, Maps};
+ghost use Rattle.nnf.specs.Nnf.{negated};
+
+// into_nnf of the expression from lo to hi.
+pub fn into_nnf(s: &[usize], lo: usize, hi: usize, d: &mut [usize], at: usize) -> usize
+    requires { ⌜ ExpressionAt (now s) lo hi ⌝ }
+    ensures { λ r. ⌜ Maps into-nnf (now (s .entry)) lo hi (now (d .entry)) at r (now (d .exit)) ⌝ }
+{
+    if cells::tag_at(s, hi) == 30 {
+        return into_nnf_not(s, lo, hi - 6, d, at);
+    }
+    into_nnf_operands(s, lo, hi, d, at)
+}
+
+// into_nnf of Not of the expression from lo to hi.
+fn into_nnf_not(s: &[usize], lo: usize, hi: usize, d: &mut [usize], at: usize) -> usize
+    requires { ⌜ ExpressionAt (now s) lo hi ⌝ }
+    ensures { λ r. ⌜ Maps into-nnf-not (now (s .entry)) lo hi (now (d .entry)) at r (now (d .exit)) ⌝ }
+{
+    let t = cells::tag_at(s, hi);
+    if t == 30 {
+        return into_nnf_operands(s, lo, hi - 6, d, at);
+    }
+    if t == 10 {
+        return negate_both(s, lo, hi, d, at, 11);
+    }
+    if t == 11 {
+        return negate_both(s, lo, hi, d, at, 10);
+    }
+    let m = into_nnf_operands(s, lo, hi, d, at);
+    cells::put(
+        d,
+        at,
+        m,
+        cells::Cell {
+            tag: 30,
+            flag: 0,
+            a: 0,
+            b: 0,
+            c: 0,
+        },
+    )
+}
+
+// The two operands of the expression from lo to hi, negated, under the And or Or with tag o.
+fn negate_both(s: &[usize], lo: usize, hi: usize, d: &mut [usize], at: usize, o: usize) -> usize
+    requires { ⌜ ExpressionAt (now s) lo hi ⌝ }
+    requires { ⌜ (10 ≤ tag-at (now s) hi) × (tag-at (now s) hi < 30) ⌝ }
+    requires { ⌜ (o ≡ 10) ⊎ (o ≡ 11) ⌝ }
+    ensures { λ r. ⌜ Maps (negated o) (now (s .entry)) lo hi (now (d .entry)) at r (now (d .exit)) ⌝ }
+{
+    let k = hi - 6;
+    let mid = cells::start(s, k);
+    let m = into_nnf_not(s, lo, mid, d, at);
+    let n = into_nnf_not(s, mid, k, d, m);
+    cells::put(
+        d,
+        at,
+        n,
+        cells::Cell {
+            tag: o,
+            flag: 0,
+            a: 0,
+            b: 0,
+            c: 0,
+        },
+    )
+}
+
+// The expression from lo to hi with into_nnf of its operands.
+fn into_nnf_operands(s: &[usize], lo: usize, hi: usize, d: &mut [usize], at: usize) -> usize
+    requires { ⌜ ExpressionAt (now s) lo hi ⌝ }
+    ensures { λ r. ⌜ Maps into-nnf-operands (now (s .entry)) lo hi (now (d .entry)) at r (now (d .exit)) ⌝ }
+{
+    let c = cells::cell_at(s, hi);
+    if c.tag < 10 {
+        return cells::put(d, at, at, c);
+    }
+    let k = hi - 6;
+    if 30 <= c.tag {
+        let m = into_nnf(s, lo, k, d, at);
+        return cells::put(d, at, m, c);
+    }
+    let mid = cells::start(s, k);
+    let m = into_nnf(s, lo, mid, d, at);
+    let j = into_nnf(s, mid, k, d, m);
+    cells::put(d, at, j, c)
+}

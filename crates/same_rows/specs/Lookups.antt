@@ -1,0 +1,185 @@
+-- Column lookups: T keeps a lookup that is copied to an equal column, and a lookup takes the rows at which its expression is true.
+use Prim.Native.Nat.{ℕ}
+use mathlib.Core.Bool.{Bool, true, false, not, _&&_, _||_, or-assoc, or-false, cond}
+use mathlib.Core.Path.{_≡_, refl, sym, ap, ap₂, _∙_, subst}
+use mathlib.Core.List.{List, [], _∷_, _++_}
+use mathlib.Core.Option.{Option, none, some}
+use native.Mathlib.Omega.{arith}
+use lib.Dec.{eqb}
+use lib.Ieee
+use lib.Ieee.{Float, isNan}
+use Rattle.value.specs.Value.{Truth, False, Unknown, True, Datum, integer, float, string, Value, truth, datum, null, Result, ok, err, ofBool, boolean}
+use Rattle.value.specs.Comparison.{Finding, Less, Greater, Unordered, NotComparable, rounded, number-of, compare-floats, compare, compared-truths, is-equal, answer, against-datum, equal}
+use Rattle.value.specs.Comparison
+use Rattle.value.specs.Undefined.{is-undefined}
+use Rattle.sql.specs.Expression.{Logical, And, Or, Function1, IsNull, IsNaN, Identity, Negate, Unary, Not, function, Binary, logical, Equal, Expression, constant, column, unary, binary, or, contains-column, is-column, is-equal-lookup, is-function-lookup, same-column, is-column-lookup, the-nan, equal-values, into-column-values}
+use Rattle.rows.specs.Reading.{is-true, is-nan-value, is-true-result, takes, any}
+use Rattle.same_rows.specs.Booleans.{false≢true, eqb-eq, eqb-self}
+use Rattle.same_rows.specs.Floats.{nan-unequal}
+use Rattle.same_rows.specs.Total.{Columns, Total, known, figure, no-column, valued, from-value, or-null, plain, found, equal-totals, total-binary, total, true-at}
+use Rattle.same_rows.specs.Normal.{true-or}
+use Rattle.same_rows.specs.Comparing.{found-floats, equal-sym, Alike}
+
+-- ---- what a lookup of column c is
+
+pub data Lookup (c : ℕ) : Expression → Type 0 where
+  column-equal : (v : Value) → Lookup c (binary Equal (column c) (constant v))
+  equal-column : (v : Value) → Lookup c (binary Equal (constant v) (column c))
+  column-null : Lookup c (unary (function IsNull) (column c))
+  column-nan : Lookup c (unary (function IsNaN) (column c))
+  either : {l r : Expression} → Lookup c l → Lookup c r → Lookup c (or l r)
+
+none≢some : {A : Type 0} (c : ℕ) → _≡_ {A = Option ℕ} none (some c) → A
+none≢some c h = absurd (let y : _≡_ {A = ℕ} 0 1 = cc in omega arith)
+
+column-of : (x : Expression) (c : ℕ) → is-column x ≡ some c → x ≡ column c
+column-of (constant v) c h = none≢some c h
+column-of (column d) c h = let k : d ≡ c = cc in ap column k
+column-of (unary o x) c h = none≢some c h
+column-of (binary o l r) c h = none≢some c h
+
+equal-lookup : (l r : Expression) (c : ℕ) → is-equal-lookup l r ≡ some c → Lookup c (binary Equal l r)
+equal-lookup (constant v) r c h = rw (column-of r c h) (equal-column v)
+equal-lookup (column d) (constant v) c h = let k : d ≡ c = cc in rw k (column-equal v)
+equal-lookup (column d) (column e) c h = none≢some c h
+equal-lookup (column d) (unary o x) c h = none≢some c h
+equal-lookup (column d) (binary o x y) c h = none≢some c h
+equal-lookup (unary o x) r c h = none≢some c h
+equal-lookup (binary o x y) r c h = none≢some c h
+
+function-lookup : (f : Function1) (x : Expression) (c : ℕ) → is-function-lookup f x ≡ some c → Lookup c (unary (function f) x)
+function-lookup IsNull x c h = rw (column-of x c h) column-null
+function-lookup IsNaN x c h = rw (column-of x c h) column-nan
+function-lookup Identity x c h = none≢some c h
+function-lookup Negate x c h = none≢some c h
+
+same-both : (a b : Option ℕ) (c : ℕ) → same-column a b ≡ some c → (a ≡ some c) × (b ≡ some c)
+same-both none b c h = none≢some c h
+same-both (some a) none c h = none≢some c h
+same-both (some a) (some b) c h = go (eqb a b) refl h
+  where
+    go : (t : Bool) → eqb a b ≡ t → cond t (some a) none ≡ some c → (some a ≡ some c) × (some b ≡ some c)
+    go true e k = (k, ap some (sym (eqb-eq a b e)) ∙ k)
+    go false e k = none≢some c k
+
+pub lookup-of : (e : Expression) (c : ℕ) → is-column-lookup e ≡ some c → Lookup c e
+lookup-of (constant v) c h = none≢some c h
+lookup-of (column d) c h = none≢some c h
+lookup-of (unary Not x) c h = none≢some c h
+lookup-of (unary (function f) x) c h = function-lookup f x c h
+lookup-of (binary (logical And) l r) c h = none≢some c h
+lookup-of (binary (logical Or) l r) c h =
+    let (a, b) = same-both (is-column-lookup l) (is-column-lookup r) c h in either (lookup-of l c a) (lookup-of r c b)
+lookup-of (binary Equal l r) c h = equal-lookup l r c h
+lookup-of (binary (function f) l r) c h = none≢some c h
+
+-- it looks at no other column
+pub lookup-columns : {c : ℕ} {e : Expression} → Lookup c e → contains-column (λ d. not (eqb d c)) e ≡ false
+lookup-columns {c} (column-equal v) = rw (eqb-self c)
+lookup-columns {c} (equal-column v) = rw (eqb-self c)
+lookup-columns {c} column-null = rw (eqb-self c)
+lookup-columns {c} column-nan = rw (eqb-self c)
+lookup-columns (either l r) = ap₂ _||_ (lookup-columns l) (lookup-columns r)
+
+plain-from : (v : Value) → plain (from-value v) ≡ ok v
+plain-from (truth t) = refl
+plain-from (datum d) = refl
+
+pub lookup-alike : {c : ℕ} {e : Expression} (these those : Columns) → Lookup c e → Alike (these c) (those c) → total these e ≡ total those e
+lookup-alike these those (column-equal v) a = ap (λ z. valued no-column (known z)) (a .left (from-value v))
+lookup-alike these those (equal-column v) a = ap (λ z. valued no-column (known z)) (a .right (from-value v))
+lookup-alike {c} these those column-null a = rw (plain-from (these c), plain-from (those c)) (ap (λ z. valued no-column (or-null z)) (a .same-null))
+lookup-alike {c} these those column-nan a = rw (plain-from (these c), plain-from (those c)) (ap (λ z. valued no-column (or-null z)) (a .same-nan))
+lookup-alike these those (either l r) a = ap₂ (total-binary (logical Or)) (lookup-alike these those l a) (lookup-alike these those r a)
+
+-- ---- a lookup is the Or of its equalities
+
+answer-true : (f : Finding) → is-true-result (answer is-equal f) ≡ is-true (found false f)
+answer-true Less = refl
+answer-true Comparison.Equal = refl
+answer-true Greater = refl
+answer-true Unordered = refl
+answer-true NotComparable = refl
+
+against-false : (b : Truth) → is-true-result (against-datum b) ≡ false
+against-false False = refl
+against-false Unknown = refl
+against-false True = refl
+
+equal-datum : (f : Datum) (x : Value) → is-true-result (equal (datum f) x) ≡ is-true (equal-totals false (figure false f) (from-value x))
+equal-datum f (truth b) = against-false b
+equal-datum f (datum g) = answer-true (compare f g)
+
+nan-finds : (x y : Float) → isNan x ≡ true → is-true (found false (compare-floats x y)) ≡ false
+nan-finds x y h = ap is-true (found-floats false x y) ∙ ap (λ b. is-true (found false (cond b Comparison.Equal Less))) (nan-unequal x y h)
+
+float-taken : (a : ℕ) (b : Bool) → isNan (number-of a) ≡ b → (x : Value)
+    → any (λ u. takes u x) (cond b [] (datum (float a) ∷ [])) ≡ is-true (equal-totals false (figure false (float a)) (from-value x))
+float-taken a true h (truth c) = refl
+float-taken a true h (datum (integer c)) = sym (nan-finds (number-of a) (rounded c) h)
+float-taken a true h (datum (float c)) = sym (nan-finds (number-of a) (number-of c) h)
+float-taken a true h (datum (string r t)) = refl
+float-taken a false h x =
+    ap (λ z. ((z && is-nan-value x) || is-true-result (equal (datum (float a)) x)) || false) h
+    ∙ (or-false (is-true-result (equal (datum (float a)) x)) ∙ equal-datum (float a) x)
+
+equal-taken : (v x : Value) → any (λ u. takes u x) (equal-values (some v)) ≡ is-true (equal-totals false (from-value v) (from-value x))
+equal-taken (truth Unknown) (truth b) = refl
+equal-taken (truth Unknown) (datum g) = refl
+equal-taken (truth False) (truth b) = or-false (is-true (compared-truths is-equal False b))
+equal-taken (truth False) (datum g) = refl
+equal-taken (truth True) (truth b) = or-false (is-true (compared-truths is-equal True b))
+equal-taken (truth True) (datum g) = refl
+equal-taken (datum (integer a)) x = or-false (is-true-result (equal (datum (integer a)) x)) ∙ equal-datum (integer a) x
+equal-taken (datum (float a)) x = float-taken a (isNan (number-of a)) refl x
+equal-taken (datum (string r t)) x = or-false (is-true-result (equal (datum (string r t)) x)) ∙ equal-datum (string r t) x
+
+any-append : {A : Type 0} (f : A → Bool) (xs ys : List A) → any f (xs ++ ys) ≡ (any f xs || any f ys)
+any-append f [] ys = refl
+any-append f (x ∷ xs) ys = ap (λ z. f x || z) (any-append f xs ys) ∙ sym (or-assoc (f x) (any f xs) (any f ys))
+
+null-taken : (x : Value) (columns : Columns) (c : ℕ) → columns c ≡ x → true-at columns (unary (function IsNull) (column c)) ≡ (takes null x || false)
+null-taken (truth False) columns c h = rw h refl
+null-taken (truth Unknown) columns c h = rw h refl
+null-taken (truth True) columns c h = rw h refl
+null-taken (datum d) columns c h = rw h refl
+
+the-nan-is-nan : isNan (number-of the-nan) ≡ true
+unfolding isNan Ieee.ofBits
+the-nan-is-nan = refl
+
+nan-equals-none : (x : Value) → is-true-result (equal (datum (float the-nan)) x) ≡ false
+nan-equals-none (truth b) = against-false b
+nan-equals-none (datum (integer c)) = equal-datum (float the-nan) (datum (integer c)) ∙ nan-finds (number-of the-nan) (rounded c) the-nan-is-nan
+nan-equals-none (datum (float c)) = equal-datum (float the-nan) (datum (float c)) ∙ nan-finds (number-of the-nan) (number-of c) the-nan-is-nan
+nan-equals-none (datum (string r t)) = refl
+
+nan-takes : (x : Value) → (takes (datum (float the-nan)) x || false) ≡ is-nan-value x
+nan-takes x =
+    ap (λ z. ((z && is-nan-value x) || is-true-result (equal (datum (float the-nan)) x)) || false) the-nan-is-nan
+    ∙ (ap (λ z. (is-nan-value x || z) || false) (nan-equals-none x) ∙ (or-false (is-nan-value x || false) ∙ or-false (is-nan-value x)))
+
+nan-true : (x : Value) (columns : Columns) (c : ℕ) → columns c ≡ x → true-at columns (unary (function IsNaN) (column c)) ≡ is-nan-value x
+nan-true (truth False) columns c h = rw h refl
+nan-true (truth Unknown) columns c h = rw h refl
+nan-true (truth True) columns c h = rw h refl
+nan-true (datum (integer a)) columns c h = rw h refl
+nan-true (datum (float a)) columns c h = rw h (go (isNan (number-of a)))
+  where
+    go : (b : Bool) → is-true (ofBool b) ≡ b
+    go true = refl
+    go false = refl
+nan-true (datum (string r t)) columns c h = rw h refl
+
+append-none : (xs : List Value) → xs ++ [] ≡ xs
+append-none [] = refl
+append-none (x ∷ xs) = ap (λ z. x ∷ z) (append-none xs)
+
+pub lookup-taken : {c : ℕ} {e : Expression} (columns : Columns) → Lookup c e → true-at columns e ≡ any (λ v. takes v (columns c)) (into-column-values e)
+lookup-taken {c} columns (column-equal v) = sym (equal-taken v (columns c) ∙ ap is-true (equal-sym false v (columns c)))
+lookup-taken {c} columns (equal-column v) = sym (ap (any (λ u. takes u (columns c))) (append-none (equal-values (some v))) ∙ equal-taken v (columns c))
+lookup-taken {c} columns column-null = null-taken (columns c) columns c refl
+lookup-taken {c} columns column-nan = nan-true (columns c) columns c refl ∙ sym (nan-takes (columns c))
+lookup-taken {c} columns (either {l} {r} a b) =
+    true-or columns l r
+    ∙ (ap₂ _||_ (lookup-taken columns a) (lookup-taken columns b) ∙ sym (any-append (λ v. takes v (columns c)) (into-column-values l) (into-column-values r)))

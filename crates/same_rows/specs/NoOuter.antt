@@ -1,0 +1,139 @@
+-- Passes 2 to 5 make no join outer.
+use Prim.Native.Nat.{ℕ, zero, suc}
+use mathlib.Core.Bool.{Bool, true, false, not, _&&_, cond}
+use mathlib.Core.Path.{_≡_, refl, sym, ap, ap₂, _∙_}
+use mathlib.Core.List.{List}
+use mathlib.Core.Option.{Option, none, some}
+use native.Mathlib.Omega.{arith}
+use Rattle.sql.specs.Schema.{Schema}
+use Rattle.sql.specs.Expression.{Expression, and-vec, shift-column-down, into-cnf-vec, into-column-values}
+use Rattle.sql.specs.Plan.{Leaf, scan, lookup, nothing, values, limit, offset, order, projection, remap, aggregate, Over, filter, other, nested-loop, hash, Node, leaf, over, join, columns, node-size}
+use Rattle.sql.specs.Optimizer.{map-sources, push-into, push-part, pushed-or-back, push-left, push-right, map-optional, split, go-on, maybe-push-join, maybe-push-filter, push-filters, push-filters-from, FilterPushdown, Found, filtered, access, find-lookup, lookup-or-scan, index-lookup, IndexLookup, HashJoin, verdict, is-always, is-noop, is-empty, remove-useless, empty-or-node, short-circuit, ShortCircuit}
+use Rattle.rows.specs.Premises.{no-outer}
+use Rattle.same_rows.specs.Booleans.{and-left, and-right}
+
+no-node : {A : Type 0} (n : Node) → _≡_ {A = Option Node} none (some n) → A
+no-node n h = absurd (let y : _≡_ {A = ℕ} 0 1 = cc in omega arith)
+
+node-same : {a b : Node} → _≡_ {A = Option Node} (some a) (some b) → a ≡ b
+node-same h = cc
+
+into : (e : Expression) (n m : Node) → push-into e n ≡ some m → no-outer m ≡ no-outer n
+into e (leaf (scan table alias p)) m h = ap no-outer (sym (node-same h))
+into e (leaf (lookup access table alias constants)) m h = no-node m h
+into e (leaf (nothing labels)) m h = no-node m h
+into e (leaf (values rows)) m h = no-node m h
+into e (over (filter p) source) m h = ap no-outer (sym (node-same h))
+into e (over (other o) source) m h = no-node m h
+into e (join outer (nested-loop p) left right) m h = ap no-outer (sym (node-same h))
+into e (join outer (hash a b) left right) m h = no-node m h
+
+part : (p : Option Expression) (n : Node) → no-outer (push-part p n .0) ≡ no-outer n
+part none n = refl
+part (some e) n = go (push-into e n) refl
+  where
+    go : (o : Option Node) → push-into e n ≡ o → no-outer (pushed-or-back e n o .0) ≡ no-outer n
+    go none h = refl
+    go (some m) h = into e n m h
+
+module _ (schema : Schema) where
+  a-join : (n : Node) → no-outer (maybe-push-join schema n) ≡ no-outer n
+  unfolding maybe-push-join
+  a-join (leaf l) = refl
+  a-join (over o source) = refl
+  a-join (join outer (nested-loop none) left right) = refl
+  a-join (join outer (nested-loop (some p)) left right) =
+      let n = columns schema left in
+      let cnf = into-cnf-vec p in
+      ap₂ (λ x y. not outer && (x && y)) (part (and-vec (push-left n cnf)) left) (part (map-optional (shift-column-down n) (and-vec (push-right n cnf))) right)
+  a-join (join outer (hash a b) left right) = refl
+
+  a-filter : (k : ℕ) (n : Node) → no-outer (maybe-push-filter schema k n) ≡ no-outer n
+  unfolding maybe-push-filter
+  a-filter zero n = refl
+  a-filter (suc k) (leaf l) = refl
+  a-filter (suc k) (over (filter p) source) = go (push-into p source) refl (a-filter k)
+    where
+      on : Node → Node
+      on pushed = maybe-push-join schema (maybe-push-filter schema k pushed)
+
+      go : (o : Option Node) → push-into p source ≡ o → ((n : Node) → no-outer (maybe-push-filter schema k n) ≡ no-outer n)
+          → no-outer (go-on on (over (filter p) source) o) ≡ no-outer source
+      go none h ih = refl
+      go (some pushed) h ih = a-join (maybe-push-filter schema k pushed) ∙ (ih pushed ∙ into p source pushed h)
+  a-filter (suc k) (over (other o) source) = refl
+  a-filter (suc k) (join outer j left right) = refl
+
+  sources : (f : Node → Node) → ((n : Node) → no-outer (f n) ≡ no-outer n) → (n : Node) → no-outer (map-sources f n) ≡ no-outer n
+  sources f h (leaf l) = refl
+  sources f h (over o source) = h source
+  sources f h (join outer j left right) = ap₂ (λ x y. not outer && (x && y)) (h left) (h right)
+
+  from : (k : ℕ) (n : Node) → no-outer (push-filters-from schema k n) ≡ no-outer n
+  unfolding push-filters-from
+  from zero n = refl
+  from (suc k) n = sources (push-filters-from schema k) (from k) (push-filters schema (suc k) n) ∙ (a-join (maybe-push-filter schema (suc k) n) ∙ a-filter (suc k) n)
+
+  pub pushdown-no-outer : (n : Node) → no-outer (FilterPushdown schema n) ≡ no-outer n
+  unfolding FilterPushdown
+  pushdown-no-outer n = from (node-size n) n
+
+  a-filtered : (o : Option Expression) (n : Node) → no-outer (filtered o n) ≡ no-outer n
+  a-filtered none n = refl
+  a-filtered (some p) n = refl
+
+  a-lookup : (table : ℕ) (alias : Option ℕ) (p : Expression) (o : Option Found) → no-outer (lookup-or-scan schema table alias p o) ≡ true
+  a-lookup table alias p none = refl
+  a-lookup table alias p (some f) = a-filtered (and-vec (f .remaining)) (leaf (lookup (access schema table (f .column-number)) table alias (into-column-values (f .conjunct))))
+
+  a-leaf : (l : Leaf) → no-outer (index-lookup schema l) ≡ true
+  unfolding index-lookup
+  a-leaf (scan table alias none) = refl
+  a-leaf (scan table alias (some p)) = a-lookup table alias p (find-lookup schema table (into-cnf-vec p))
+  a-leaf (lookup access table alias constants) = refl
+  a-leaf (nothing labels) = refl
+  a-leaf (values rows) = refl
+
+  pub lookup-no-outer : (n : Node) → no-outer (IndexLookup schema n) ≡ no-outer n
+  unfolding IndexLookup
+  lookup-no-outer (leaf l) = a-leaf l
+  lookup-no-outer (over o source) = lookup-no-outer source
+  lookup-no-outer (join outer j left right) = ap₂ (λ x y. not outer && (x && y)) (lookup-no-outer left) (lookup-no-outer right)
+
+  pub hash-no-outer : (n : Node) → no-outer (HashJoin schema n) ≡ no-outer n
+  hash-no-outer (leaf l) = refl
+  hash-no-outer (over o source) = hash-no-outer source
+  hash-no-outer (join outer j left right) = ap₂ (λ x y. not outer && (x && y)) (hash-no-outer left) (hash-no-outer right)
+
+  either : (b : Bool) (o : Over) (source : Node) → no-outer (cond b source (over o source)) ≡ no-outer source
+  either true o source = refl
+  either false o source = refl
+
+  useless : (n : Node) → no-outer (remove-useless schema n) ≡ no-outer n
+  useless (leaf (scan table alias p)) = refl
+  useless (leaf (lookup access table alias constants)) = refl
+  useless (leaf (nothing labels)) = refl
+  useless (leaf (values rows)) = refl
+  useless (over (filter p) source) = either (is-always (verdict p)) (filter p) source
+  useless (over (other (limit amount)) source) = refl
+  useless (over (other (offset amount)) source) = refl
+  useless (over (other (order key)) source) = refl
+  useless (over (other (projection items)) source) = either (is-noop schema items source) (other (projection items)) source
+  useless (over (other (remap targets)) source) = refl
+  useless (over (other (aggregate group-by aggregates)) source) = refl
+  useless (join outer (nested-loop p) left right) = refl
+  useless (join outer (hash a b) left right) = refl
+
+  emptied : (b : Bool) (n : Node) → no-outer n ≡ true → no-outer (empty-or-node schema b n) ≡ true
+  emptied true n h = refl
+  emptied false n h = h
+
+  one : (n : Node) → no-outer n ≡ true → no-outer (short-circuit schema n) ≡ true
+  one n h = emptied (is-empty (remove-useless schema n)) (remove-useless schema n) (useless n ∙ h)
+
+  pub circuit-no-outer : (n : Node) → no-outer n ≡ true → no-outer (ShortCircuit schema n) ≡ true
+  circuit-no-outer (leaf l) h = one (leaf l) h
+  circuit-no-outer (over o source) h = one (over o (ShortCircuit schema source)) (circuit-no-outer source h)
+  circuit-no-outer (join true j left right) h = one (join true j (ShortCircuit schema left) (ShortCircuit schema right)) h
+  circuit-no-outer (join false j left right) h = one (join false j (ShortCircuit schema left) (ShortCircuit schema right))
+      (ap₂ _&&_ (circuit-no-outer left (and-left (no-outer left) (no-outer right) h)) (circuit-no-outer right (and-right (no-outer left) (no-outer right) h)))

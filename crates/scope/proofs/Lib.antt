@@ -1,0 +1,5 @@
+pub mod Node
+pub mod Own
+pub mod Reading
+pub mod Stack
+pub mod Walk

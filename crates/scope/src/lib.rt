@@ -1,0 +1,70 @@
+// Refusal 9 of document 01: a plan's columns are in scope. The cells are walked once, from the first to the last. A node's own cells are looked at when the
+// node's cell is met, since only then it is known which sources it has. Each cell belongs to one node's own cells, so the work is linear in the sheet.
+ghost use mathlib.Core.Path.{_≡_};
+ghost use Prim.Native.Nat.{_≤_};
+ghost use Rattle.layout.specs.Layout.{Whole};
+ghost use Rattle.scope.specs.Scope.{width-at, Judges};
+use layout::Found;
+use layout::cell_at;
+use layout::parts_of;
+use node_scope::columns_read;
+use node_scope::node_columns;
+use node_scope::node_outside;
+use node_scope::sources;
+
+// What the scope check of a plan says: the lowest cell out of scope, or the plan's number of columns.
+pub enum Scope {
+    Outside(usize),
+    Within(usize),
+}
+
+// The column count that stands at `at` in a stack of so many, 0 past its top.
+fn width_at(widths: &[usize; 2048], at: usize, depth: usize) -> usize
+    requires { ⌜ depth ≤ 2048 ⌝ }
+    ensures { λ r. ⌜ r ≡ width-at (now (widths .entry)) at depth ⌝ }
+{
+    if at < depth {
+        return widths[at];
+    }
+    0
+}
+
+// The lowest Column or node that is out of scope, or the plan's number of columns. `widths` is a stack: the column counts of the plans read that no node has
+// as a source yet. `own` is the first cell since the last node. Of cells that are not one plan nothing is promised.
+pub fn outside(s: &[u8]) -> Scope
+    requires { ⌜ Whole (now s) ⌝ }
+    ensures { λ r. ⌜ Judges (now (s .entry)) r ⌝ }
+{
+    let p = parts_of(s);
+    let count = p.cells.count;
+    let mut widths = [0usize; 2048];
+    let mut depth: usize = 0;
+    let mut own: usize = 0;
+    let mut i: usize = 0;
+    while i < count {
+        let k = cell_at(s, i);
+        if k.tag < 50 {
+            i += 1;
+            continue;
+        }
+        let n = sources(k.tag);
+        if depth < n {
+            return Scope::Within(0);
+        }
+        let rest = depth - n;
+        let left = width_at(&widths, rest, depth);
+        let right = width_at(&widths, rest + 1, depth);
+        let read = columns_read(s, i, left, right);
+        if let Found::At(place) = node_outside(s, own, i, left, right, read) {
+            return Scope::Outside(place);
+        }
+        widths[rest] = node_columns(s, own, i, read);
+        depth = rest + 1;
+        i += 1;
+        own = i;
+    }
+    if depth == 0 {
+        return Scope::Within(0);
+    }
+    Scope::Within(widths[depth - 1])
+}

@@ -1,0 +1,214 @@
+-- What a cell says by itself, apart from its children, and how that is written as a cell.
+use Prim.Native.Nat.{ℕ, zero, suc, _+_, _-_, _*_, _/_, _%_}
+use mathlib.Core.Bool.{Bool, true, false, cond}
+use mathlib.Core.List.{List, [], _∷_}
+use mathlib.Core.Option.{Option, none, some}
+use lib.Dec.{leb, ltb, eqb}
+use lib.IntN.{ℤ, pos, negsuc}
+use lib.ListN.{getD, take, drop}
+use Rattle.value.specs.Value.{Truth, False, Unknown, True, Datum, integer, float, string, Value, truth, datum, boolean}
+use Rattle.sql.specs.Expression.{Logical, And, Or, Function1, IsNull, IsNaN, Identity, Negate, Function2, GreaterThan, LessThan, Add, Divide, Unary, Not, function, Binary, logical, Equal}
+use Rattle.sql.specs.Plan.{Label, unlabelled, unqualified, qualified}
+use Rattle.sheet.specs.Parts.{offset, text-length}
+use Rattle.sheet.specs.Cell.{Cell, wide}
+
+-- A cell's content, with the number of children where it says one.
+pub data Content : Type 0 where
+  constant-cell : Value → Content
+  column-cell : ℕ → Content
+  unary-cell : Unary → Content
+  binary-cell : Binary → Content
+  label-cell item-cell : Label → Content
+  key-cell : (descending : Bool) → Content
+  target-cell : Option ℕ → Content
+  agg-cell : (aggregate : ℕ) → Content
+  row-cell : (expressions : ℕ) → Content
+  aggregate-cell : (expressions aggs : ℕ) → Content
+  filter-cell : Content
+  hash-join-cell : (outer : Bool) (left right : ℕ) → Content
+  index-lookup-cell : (table : ℕ) (alias : Option ℕ) (column constants : ℕ) → Content
+  key-lookup-cell : (table : ℕ) (alias : Option ℕ) (constants : ℕ) → Content
+  limit-cell offset-cell : ℕ → Content
+  nested-loop-join-cell : (predicate outer : Bool) → Content
+  nothing-cell : (labels : ℕ) → Content
+  order-cell : (keys : ℕ) → Content
+  projection-cell : (items : ℕ) → Content
+  remap-cell : (targets : ℕ) → Content
+  scan-cell : (filter : Bool) (table : ℕ) (alias : Option ℕ) → Content
+  values-cell : (rows : ℕ) → Content
+
+-- ---- numbers of 64 bits, by halves
+
+abbrev pub low : ℕ → ℕ
+low n = n % 4294967296
+
+abbrev pub high : ℕ → ℕ
+high n = n / 4294967296
+
+-- an Integer from its 64 bits, and back (two's complement)
+unfoldable pub signed : ℕ → ℤ
+signed n = cond (ltb n 9223372036854775808) (pos n) (negsuc (18446744073709551615 - n))
+
+unfoldable pub unsigned : ℤ → ℕ
+unsigned (pos n) = n
+unsigned (negsuc n) = 18446744073709551615 - n
+
+-- the bytes of a text that a reference names
+unfoldable pub text-at : List ℕ → ℕ → List ℕ
+text-at text r = take (text-length r) (drop (offset r) text)
+
+-- ---- writing
+
+abbrev pub bit : Bool → ℕ
+bit true = 1
+bit false = 0
+
+abbrev with : (tag flag a b c : ℕ) → Cell
+with t f a b c = record { tag = t; flag = f; zeros = 0; a = a; b = b; c = c }
+
+abbrev pub unary-tag : Unary → ℕ
+unary-tag Not = 30
+unary-tag (function IsNull) = 31
+unary-tag (function IsNaN) = 32
+unary-tag (function Identity) = 33
+unary-tag (function Negate) = 34
+
+abbrev pub binary-tag : Binary → ℕ
+binary-tag (logical And) = 10
+binary-tag (logical Or) = 11
+binary-tag Equal = 12
+binary-tag (function GreaterThan) = 13
+binary-tag (function LessThan) = 14
+binary-tag (function Add) = 15
+binary-tag (function Divide) = 16
+
+abbrev pub constant-as-cell : Value → Cell
+constant-as-cell (truth Unknown) = with 1 0 0 0 0
+constant-as-cell (truth False) = with 2 0 0 0 0
+constant-as-cell (truth True) = with 2 0 1 0 0
+constant-as-cell (datum (integer n)) = with 3 0 (low (unsigned n)) (high (unsigned n)) 0
+constant-as-cell (datum (float b)) = with 4 0 (low b) (high b) 0
+constant-as-cell (datum (string r s)) = with 5 0 r 0 0
+
+-- 40 Label and 41 Item say their label in the same way.
+abbrev pub labelled : ℕ → Label → Cell
+labelled t unlabelled = with t 0 0 0 0
+labelled t (unqualified n) = with t 1 n 0 0
+labelled t (qualified q n) = with t 2 q n 0
+
+abbrev pub target-as-cell : Option ℕ → Cell
+target-as-cell none = with 43 0 0 0 0
+target-as-cell (some i) = with 43 1 i 0 0
+
+-- a lookup's flag, and the alias beside it
+abbrev pub lookup-as-cell : (tag table : ℕ) (alias : Option ℕ) (c : ℕ) → Cell
+lookup-as-cell t table none c = with t 0 table 0 c
+lookup-as-cell t table (some r) c = with t 1 table r c
+
+abbrev pub scan-as-cell : Bool → ℕ → Option ℕ → Cell
+scan-as-cell f table none = with 62 (bit f) table 0 0
+scan-as-cell f table (some r) = with 62 (bit f + 2) table r 0
+
+abbrev pub cell-of : Content → Cell
+cell-of (constant-cell v) = constant-as-cell v
+cell-of (column-cell i) = with 6 0 i 0 0
+cell-of (unary-cell o) = with (unary-tag o) 0 0 0 0
+cell-of (binary-cell o) = with (binary-tag o) 0 0 0 0
+cell-of (label-cell l) = labelled 40 l
+cell-of (item-cell l) = labelled 41 l
+cell-of (key-cell d) = with 42 (bit d) 0 0 0
+cell-of (target-cell t) = target-as-cell t
+cell-of (agg-cell f) = with 44 f 0 0 0
+cell-of (row-cell n) = with 45 0 n 0 0
+cell-of (aggregate-cell n m) = with 50 0 n m 0
+cell-of filter-cell = with 51 0 0 0 0
+cell-of (hash-join-cell o l r) = with 52 (bit o) l r 0
+cell-of (index-lookup-cell t al i n) = lookup-as-cell 53 t al (i + 65536 * n)
+cell-of (key-lookup-cell t al n) = lookup-as-cell 54 t al n
+cell-of (limit-cell n) = with 55 0 (low n) (high n) 0
+cell-of (offset-cell n) = with 58 0 (low n) (high n) 0
+cell-of (nested-loop-join-cell p o) = with 56 (bit p + 2 * bit o) 0 0 0
+cell-of (nothing-cell n) = with 57 0 n 0 0
+cell-of (order-cell n) = with 59 0 n 0 0
+cell-of (projection-cell n) = with 60 0 n 0 0
+cell-of (remap-cell n) = with 61 0 n 0 0
+cell-of (scan-cell f t al) = scan-as-cell f t al
+cell-of (values-cell n) = with 63 0 n 0 0
+
+-- ---- reading, of a cell whose layout is right
+
+-- what the flag's threshold k says is there
+abbrev pub from-flag : ℕ → Cell → ℕ → Option ℕ
+from-flag k c r = cond (leb k (c .flag)) (some r) none
+
+abbrev pub label-of : Cell → Label
+label-of c = cond (eqb (c .flag) 0) unlabelled (cond (eqb (c .flag) 1) (unqualified (c .a)) (qualified (c .a) (c .b)))
+
+-- bit 0 and bit 1 of the flag
+abbrev pub bit0 : Cell → Bool
+bit0 c = eqb (c .flag % 2) 1
+
+abbrev pub bit1 : Cell → Bool
+bit1 c = leb 2 (c .flag)
+
+abbrev pub amount : Cell → ℕ
+amount c = wide (c .a) (c .b)
+
+-- what a tag's cells say; `none` where no cell has the tag
+abbrev pub Reader : Type 0
+Reader = List ℕ → Cell → Option Content
+
+abbrev no-cell : Reader
+no-cell text c = none
+
+abbrev unary-reader : Unary → Reader
+unary-reader o text c = some (unary-cell o)
+
+abbrev binary-reader : Binary → Reader
+binary-reader o text c = some (binary-cell o)
+
+-- cells that say a number of children in a
+abbrev count-reader : (ℕ → Content) → Reader
+count-reader f text c = some (f (c .a))
+
+-- Tags from 0 to 63.
+abbrev pub readers : List Reader
+readers =
+    no-cell
+    ∷ (λ text c. some (constant-cell (truth Unknown)))
+    ∷ (λ text c. some (constant-cell (boolean (eqb (c .a) 1))))
+    ∷ (λ text c. some (constant-cell (datum (integer (signed (amount c))))))
+    ∷ (λ text c. some (constant-cell (datum (float (amount c)))))
+    ∷ (λ text c. some (constant-cell (datum (string (c .a) (text-at text (c .a))))))
+    ∷ (λ text c. some (column-cell (c .a)))
+    ∷ no-cell ∷ no-cell ∷ no-cell
+    ∷ binary-reader (logical And) ∷ binary-reader (logical Or) ∷ binary-reader Equal ∷ binary-reader (function GreaterThan)
+    ∷ binary-reader (function LessThan) ∷ binary-reader (function Add) ∷ binary-reader (function Divide)
+    ∷ no-cell ∷ no-cell ∷ no-cell ∷ no-cell ∷ no-cell ∷ no-cell ∷ no-cell ∷ no-cell ∷ no-cell ∷ no-cell ∷ no-cell ∷ no-cell ∷ no-cell
+    ∷ unary-reader Not ∷ unary-reader (function IsNull) ∷ unary-reader (function IsNaN) ∷ unary-reader (function Identity) ∷ unary-reader (function Negate)
+    ∷ no-cell ∷ no-cell ∷ no-cell ∷ no-cell ∷ no-cell
+    ∷ (λ text c. some (label-cell (label-of c)))
+    ∷ (λ text c. some (item-cell (label-of c)))
+    ∷ (λ text c. some (key-cell (bit0 c)))
+    ∷ (λ text c. some (target-cell (from-flag 1 c (c .a))))
+    ∷ (λ text c. some (agg-cell (c .flag)))
+    ∷ count-reader row-cell
+    ∷ no-cell ∷ no-cell ∷ no-cell ∷ no-cell
+    ∷ (λ text c. some (aggregate-cell (c .a) (c .b)))
+    ∷ (λ text c. some filter-cell)
+    ∷ (λ text c. some (hash-join-cell (bit0 c) (c .a) (c .b)))
+    ∷ (λ text c. some (index-lookup-cell (c .a) (from-flag 1 c (c .b)) (c .c % 65536) (c .c / 65536)))
+    ∷ (λ text c. some (key-lookup-cell (c .a) (from-flag 1 c (c .b)) (c .c)))
+    ∷ (λ text c. some (limit-cell (amount c)))
+    ∷ (λ text c. some (nested-loop-join-cell (bit0 c) (bit1 c)))
+    ∷ count-reader nothing-cell
+    ∷ (λ text c. some (offset-cell (amount c)))
+    ∷ count-reader order-cell
+    ∷ count-reader projection-cell
+    ∷ count-reader remap-cell
+    ∷ (λ text c. some (scan-cell (bit0 c) (c .a) (from-flag 2 c (c .b))))
+    ∷ count-reader values-cell
+    ∷ []
+
+unfoldable pub content-of : List ℕ → Cell → Option Content
+content-of text c = getD readers (c .tag) no-cell text c

@@ -1,0 +1,12 @@
+pub mod Bytes
+pub mod Parts
+pub mod Cell
+pub mod Content
+pub mod Cells
+pub mod Tree
+pub mod Scope
+pub mod Check
+pub mod Write
+pub mod Operations
+pub mod Listing
+pub mod Worked

@@ -1,0 +1,75 @@
+-- Document 01: any sheet handed out passes the same checks. For every list of bytes that is accepted, whatever one pass or all five hand out is accepted
+-- too, as the plan that was written, with the cells and columns that were answered.
+use Prim.Native.Nat.{ℕ, _≤_}
+use native.Mathlib.Omega.{arith}
+use mathlib.Core.Path.{_≡_, sym, subst}
+use mathlib.Core.List.{List}
+use lib.ListN.{length}
+use Rattle.sql.specs.Plan.{Node, columns, node-size}
+use Rattle.sql.specs.Answer.{done}
+use Rattle.sql.specs.Room
+use Rattle.sheet.specs.Parts.{table-count}
+use Rattle.sheet.specs.Check.{text, schema, plan, check, Numbers}
+use Rattle.sheet.specs.Write.{write}
+use Rattle.sheet_laws.specs.Accepted.{accepted}
+use Rattle.sheet_laws.specs.Plan.{Bytes, parts-of, text-length, plan-fits, plan-size}
+use Rattle.sheet_laws.specs.Handed.{Can-hold, written-text, written-schema, written-plan, written-check}
+use Rattle.sheet_laws.specs.Layout.{tables-good}
+use Rattle.sound.specs.Sound.{Named}
+use Rattle.room.specs.Same.{pass-same, optimize-same}
+use Rattle.room.specs.Fits.{pass-fits, optimize-fits}
+use Rattle.sound.specs.Passes.{Passes-checks, pass-keeps, optimize-keeps}
+
+-- What `check` answers to a sheet with so many cells and columns.
+abbrev pub success : (cells columns : ℕ) → Numbers
+success cells columns = record { number = 0; place = 0; length = 0; cells = cells; columns = columns }
+
+-- Of a sheet s that stands for n, and the plan m that a pass has made of n.
+pub record Handed-out (s : List ℕ) (n m : Node) : Type 0 where
+  pub checks : check (write s m) ≡ success (node-size m) (columns (schema s) m)
+  pub stands-for : plan (write s m) ≡ done m
+  pub same-text : text (write s m) ≡ text s
+  pub same-schema : schema (write s m) ≡ schema s
+  pub same-columns : columns (schema s) m ≡ columns (schema s) n
+  pub has-room : node-size m ≤ Room.max-cells
+
+module _ (s : List ℕ) (b : Bytes s) (n : Node) (h : plan s ≡ done n) where
+  plan-checked : Passes-checks (schema s) (text s) (table-count s) n
+  plan-checked =
+      let a = accepted s n h in
+      record { fits = plan-fits s b n h; in-scope = a .scope-is; targets = a .targets-are }
+
+  names-inside : Named (schema s) (length (text s))
+  names-inside =
+      let a = accepted s n h in
+      subst (Named (schema s)) (sym (text-length s (parts-of a)))
+      (λ t c. let g = tables-good s (parts-of a) (a .records-are) t in (g .named, g .columns-named c))
+
+  plan-room : node-size n ≤ Room.max-cells
+  plan-room = let p = parts-of (accepted s n h) in omega (arith, plan-size s b n h)
+
+  handed : (m : Node) → Passes-checks (schema s) (text s) (table-count s) m × (columns (schema s) m ≡ columns (schema s) n) → node-size m ≤ Room.max-cells → Handed-out s n m
+  handed m x fits =
+      let c : Can-hold s m = record { fits = x .0 .fits; in-scope = x .0 .in-scope; targets = x .0 .targets; room = fits } in
+      record {
+        checks = written-check s n h m c;
+        stands-for = written-plan s n h m c;
+        same-text = written-text s n h m c;
+        same-schema = written-schema s n h m c;
+        same-columns = x .1;
+        has-room = fits;
+      }
+
+  -- one pass
+  pub pass-handed-out : (k : ℕ) (m : Node) → Room.pass Room.max-cells (schema s) k n ≡ done m → Handed-out s n m
+  pass-handed-out k m e =
+      handed m
+      (pass-keeps (schema s) (text s) (table-count s) names-inside k n m (pass-same Room.max-cells (schema s) k n m e) plan-checked)
+      (pass-fits Room.max-cells (schema s) k n m e plan-room)
+
+  -- all five
+  pub optimize-handed-out : (m : Node) → Room.optimize Room.max-cells (schema s) n ≡ done m → Handed-out s n m
+  optimize-handed-out m e =
+      handed m
+      (optimize-keeps (schema s) (text s) (table-count s) names-inside n m (optimize-same Room.max-cells (schema s) n m e) plan-checked)
+      (optimize-fits Room.max-cells (schema s) n m e plan-room)

@@ -1,0 +1,17 @@
+pub mod Lists
+pub mod Expressions
+pub mod Columns
+pub mod Answers
+pub mod Values
+pub mod Sound
+pub mod Checks
+pub mod Keeps
+pub mod Folding
+pub mod Pushdown
+pub mod Lookup
+pub mod Hash
+pub mod Circuit
+pub mod Passes
+pub mod Refusals
+pub mod HandedOut
+pub mod Operations

@@ -1,0 +1,194 @@
+-- Pass 2, FilterPushdown, keeps plans. A conjunct goes to a source only if its columns are that source's, and a lookup is copied only from one column
+-- of an equality to the other.
+use Prim.Native.Nat.{ℕ, zero, suc, _+_, _<_}
+use native.Mathlib.Omega.{arith}
+use borrow.Author.Tests.{ltb-true, eqb-true, not-true, not-false}
+use mathlib.Core.Path.{_≡_, refl, ap}
+use mathlib.Core.Bool.{Bool, true, false, not, _&&_, cond}
+use mathlib.Core.List.{List, [], _∷_, _++_, map}
+use mathlib.Core.Option.{Option, none, some}
+use lib.Dec.{ltb}
+use Rattle.value.specs.Value.{Value}
+use Rattle.sql.specs.Schema.{Schema}
+use Rattle.sql.specs.Expression.{Expression, shift-column-down, shift-column-up, into-cnf-vec, and-vec, is-column-lookup}
+use Rattle.sql.specs.Plan.{scan, lookup, nothing, values, filter, other, nested-loop, hash, Node, leaf, over, join, columns, node-size}
+use Rattle.sql.specs.Optimizer.{map-sources, and-with, push-into, pushed-or-back, push-part, ref-left, ref-right, for-left, for-right, for-both, equijoin, is-number, is-lookup-of, last-lookup, copied, copy-up, copy-down, flat-map, push-left, push-right, map-optional, split, go-on, maybe-push-join, maybe-push-filter, push-filters, push-filters-from, FilterPushdown}
+use Rattle.sheet_laws.specs.Fits.{All, Optional}
+use Rattle.sheet_laws.specs.Content.{and-left, and-right}
+use Rattle.sheet_laws.specs.Counts.{all-map}
+use Rattle.sound.specs.Lists.{all-append, keep-of, flat-map-of, map-of, optional-map, or-else-of}
+use Rattle.sound.specs.Expressions.{Made-of, without, weaker, replaced, cnf-of, and-vec-of, only-lookup, pair-of}
+use Rattle.sound.specs.Columns.{Right, shifted-up, shifted-down, right-only}
+use Rattle.sound.specs.Sound.{Fitting, Within, Sound, Emits}
+use Rattle.sound.specs.Keeps.{Keeps, keeps-next, sources-keep, join-keeps}
+
+-- ---- the parts of a predicate over sources with n and m columns, in the joined row's numbers
+
+number-is : (c : ℕ) (o : Option ℕ) → is-number c o ≡ true → o ≡ some c
+number-is c none h = absurd (let z : _≡_ {A = ℕ} 0 1 = cc in omega arith)
+number-is c (some d) h = ap some (eqb-true d c h)
+
+module _ (P : Value → Type 0) where
+  last-of : (C : ℕ → Type 0) (c : ℕ) (es : List Expression) → All (Made-of P C) es → Optional (λ e. Made-of P C e × (is-column-lookup e ≡ some c)) (last-lookup c es)
+  last-of C c [] q = tt
+  last-of C c (e ∷ es) q =
+      or-else-of (λ e. Made-of P C e × (is-column-lookup e ≡ some c)) (last-lookup c es) (cond (is-lookup-of c e) (some e) none) (last-of C c es (q .1)) (here (is-lookup-of c e) refl)
+    where
+      here : (b : Bool) → is-lookup-of c e ≡ b → Optional (λ e. Made-of P C e × (is-column-lookup e ≡ some c)) (cond b (some e) none)
+      here true h = (q .0, number-is c (is-column-lookup e) h)
+      here false h = tt
+
+  -- A copied lookup has only the column that it is copied to.
+  copied-of : (C D : ℕ → Type 0) (from to : ℕ) → D to → (o : Option Expression) → Optional (λ e. Made-of P C e × (is-column-lookup e ≡ some from)) o → All (Made-of P D) (copied from to o)
+  copied-of C D from to d none h = tt
+  copied-of C D from to d (some e) h = (replaced P from to D d e (only-lookup P C e from (h .1) (h .0) .1), tt)
+
+  module _ (n m : ℕ) where
+    abbrev Left : ℕ → Type 0
+    Left c = c < n
+
+    abbrev On-right : ℕ → Type 0
+    On-right = Right n m
+
+    abbrev Joined : ℕ → Type 0
+    Joined c = c < n + m
+
+    -- a conjunct that refers to both sides
+    abbrev Across : Expression → Type 0
+    Across e = Made-of P Joined e × ((ref-left n e ≡ true) × (ref-right n e ≡ true))
+
+    left-of : (cnf : List Expression) → All (Made-of P Joined) cnf → All (Made-of P Left) (for-left n cnf)
+    left-of = keep-of (λ e. not (ref-right n e)) (Made-of P Joined) (Made-of P Left)
+        (λ e x h. without P (λ c. not (ltb c n)) Joined Left (λ c y k. ltb-true c n (not-false (ltb c n) k)) e (not-true (ref-right n e) h) x)
+
+    right-of : (cnf : List Expression) → All (Made-of P Joined) cnf → All (Made-of P On-right) (for-right n cnf)
+    right-of = keep-of (λ e. not (ref-left n e)) (Made-of P Joined) (Made-of P On-right)
+        (λ e x h. right-only P n m e (not-true (ref-left n e) h) x)
+
+    across-of : (cnf : List Expression) → All (Made-of P Joined) cnf → All Across (for-both n cnf)
+    across-of = keep-of (λ e. ref-left n e && ref-right n e) (Made-of P Joined) Across
+        (λ e x h. (x, (and-left (ref-left n e) (ref-right n e) h, and-right (ref-left n e) (ref-right n e) h)))
+
+    copy-down-of : (lookups : List Expression) → All (Made-of P On-right) lookups → (e : Expression) → Across e → All (Made-of P Left) (copy-down lookups (equijoin e))
+    copy-down-of lookups ls e x = go (equijoin e) refl
+      where
+        go : (o : Option (ℕ × ℕ)) → equijoin e ≡ o → All (Made-of P Left) (copy-down lookups o)
+        go none h = tt
+        go (some p) h = copied-of On-right Left (p .1) (p .0) (pair-of P Joined n e p h (x .0) .left (x .1 .0)) (last-lookup (p .1) lookups) (last-of On-right (p .1) lookups ls)
+
+    copy-up-of : (lookups : List Expression) → All (Made-of P Left) lookups → (e : Expression) → Across e → All (Made-of P On-right) (copy-up lookups (equijoin e))
+    copy-up-of lookups ls e x = go (equijoin e) refl
+      where
+        go : (o : Option (ℕ × ℕ)) → equijoin e ≡ o → All (Made-of P On-right) (copy-up lookups o)
+        go none h = tt
+        go (some p) h =
+            let q = pair-of P Joined n e p h (x .0) in
+            copied-of Left On-right (p .0) (p .1) (q .right (x .1 .1), q .higher) (last-lookup (p .0) lookups) (last-of Left (p .0) lookups ls)
+
+    push-left-of : (cnf : List Expression) → All (Made-of P Joined) cnf → All (Made-of P Left) (push-left n cnf)
+    push-left-of cnf x =
+        all-append (Made-of P Left) (for-left n cnf) (flat-map (λ e. copy-down (for-right n cnf) (equijoin e)) (for-both n cnf)) (left-of cnf x)
+        (flat-map-of (λ e. copy-down (for-right n cnf) (equijoin e)) Across (Made-of P Left) (copy-down-of (for-right n cnf) (right-of cnf x)) (for-both n cnf) (across-of cnf x))
+
+    push-right-of : (cnf : List Expression) → All (Made-of P Joined) cnf → All (Made-of P On-right) (push-right n cnf)
+    push-right-of cnf x =
+        all-append (Made-of P On-right) (for-right n cnf) (flat-map (λ e. copy-up (for-left n cnf) (equijoin e)) (for-both n cnf)) (right-of cnf x)
+        (flat-map-of (λ e. copy-up (for-left n cnf) (equijoin e)) Across (Made-of P On-right) (copy-up-of (for-left n cnf) (left-of cnf x)) (for-both n cnf) (across-of cnf x))
+
+-- ---- nodes
+
+module _ (schema : Schema) (text : List ℕ) (tables : ℕ) where
+  abbrev W : ℕ → Expression → Type 0
+  W = Within schema text tables
+
+  abbrev E : ℕ → Node → Type 0
+  E = Emits schema text tables
+
+  abbrev F : Value → Type 0
+  F = Fitting schema text tables
+
+  and-with-of : (n : ℕ) (e : Expression) (p : Option Expression) → W n e → Optional (W n) p → W n (and-with e p)
+  and-with-of n e none x y = x
+  and-with-of n e (some p) x y = (x, y)
+
+  pub into-keeps : (e : Expression) (n : Node) → Sound schema text tables n → W (columns schema n) e → Optional (E (columns schema n)) (push-into e n)
+  into-keeps e (leaf (scan t al p)) x y = ((and-with-of _ e p y (x .0), x .1), refl)
+  into-keeps e (leaf (lookup a t al vs)) x y = tt
+  into-keeps e (leaf (nothing ls)) x y = tt
+  into-keeps e (leaf (values rs)) x y = tt
+  into-keeps e (over (filter p) s) x y = ((x .0, (y, x .1)), refl)
+  into-keeps e (over (other o) s) x y = tt
+  into-keeps e (join outer (nested-loop p) a b) x y = ((x .0, (x .1 .0, and-with-of _ e p y (x .1 .1))), refl)
+  into-keeps e (join outer (hash i j) a b) x y = tt
+
+  part-keeps : (o : Option Expression) (n : Node) → Sound schema text tables n → Optional (W (columns schema n)) o
+      → E (columns schema n) (push-part o n .0) × All (W (columns schema n)) (push-part o n .1)
+  part-keeps none n x y = ((x, refl), tt)
+  part-keeps (some e) n x y = go (push-into e n) (into-keeps e n x y)
+    where
+      go : (q : Option Node) → Optional (E (columns schema n)) q → E (columns schema n) (pushed-or-back e n q .0) × All (W (columns schema n)) (pushed-or-back e n q .1)
+      go none k = ((x, refl), (y, tt))
+      go (some m) k = (k, tt)
+
+  pub split-keeps : (outer : Bool) (cnf : List Expression) (a b : Node) → Sound schema text tables a → Sound schema text tables b
+      → All (W (columns schema a + columns schema b)) cnf → E (columns schema a + columns schema b) (split (columns schema a) outer cnf a b)
+  split-keeps outer cnf a b x y z =
+      let n = columns schema a in
+      let m = columns schema b in
+      let to-left = and-vec (push-left n cnf) in
+      let to-right = map-optional (shift-column-down n) (and-vec (push-right n cnf)) in
+      let l = part-keeps to-left a x (and-vec-of F (λ c. c < n) (push-left n cnf) (push-left-of F n m cnf z)) in
+      let r = part-keeps to-right b y
+      (optional-map (shift-column-down n) (Made-of F (Right n m)) (W m) (shifted-down F n m) (and-vec (push-right n cnf))
+      (and-vec-of F (Right n m) (push-right n cnf) (push-right-of F n m cnf z))) in
+      let left-back = push-part to-left a .1 in
+      let right-back = map (shift-column-up n) (push-part to-right b .1) in
+      let stay : All (W (n + m)) (for-both n cnf ++ (left-back ++ right-back)) =
+      all-append (W (n + m)) (for-both n cnf) (left-back ++ right-back)
+      (all-map (Across F n m) (W (n + m)) (λ e k. k .0) (for-both n cnf) (across-of F n m cnf z))
+      (all-append (W (n + m)) left-back right-back
+      (all-map (W n) (W (n + m)) (weaker F (λ c. c < n) (λ c. c < n + m) (λ c h. omega arith)) left-back (l .1))
+      (map-of (shift-column-up n) (W m) (W (n + m)) (shifted-up F n m) (push-part to-right b .1) (r .1))) in
+      join-keeps schema text tables outer (nested-loop (and-vec (for-both n cnf ++ (left-back ++ right-back)))) n m (push-part to-left a .0) (push-part to-right b .0)
+      (and-vec-of F (λ c. c < n + m) (for-both n cnf ++ (left-back ++ right-back)) stay) (l .0) (r .0)
+
+  pub join-rule-keeps : Keeps schema text tables (maybe-push-join schema)
+  unfolding maybe-push-join
+  join-rule-keeps (leaf l) x = (x, refl)
+  join-rule-keeps (over o s) x = (x, refl)
+  join-rule-keeps (join outer (nested-loop none) a b) x = (x, refl)
+  join-rule-keeps (join outer (nested-loop (some p)) a b) x =
+      split-keeps outer (into-cnf-vec p) a b (x .0) (x .1 .0) (cnf-of F (λ c. c < columns schema a + columns schema b) p (x .1 .1))
+  join-rule-keeps (join outer (hash i j) a b) x = (x, refl)
+
+  pub filter-rule-keeps : (k : ℕ) → Keeps schema text tables (maybe-push-filter schema k)
+  unfolding maybe-push-filter
+  filter-rule-keeps zero n x = (x, refl)
+  filter-rule-keeps (suc k) (leaf l) x = (x, refl)
+  filter-rule-keeps (suc k) (over (filter p) s) x = go (push-into p s) (into-keeps p s (x .0) (x .1)) (filter-rule-keeps k)
+    where
+      on : Node → Node
+      on pushed = maybe-push-join schema (maybe-push-filter schema k pushed)
+
+      go : (o : Option Node) → Optional (E (columns schema s)) o → Keeps schema text tables (maybe-push-filter schema k)
+          → E (columns schema s) (go-on on (over (filter p) s) o)
+      go none q ih = (x, refl)
+      go (some m) q ih =
+          keeps-next schema text tables (maybe-push-join schema) join-rule-keeps (maybe-push-filter schema k m)
+          (keeps-next schema text tables (maybe-push-filter schema k) ih m q)
+  filter-rule-keeps (suc k) (over (other o) s) x = (x, refl)
+  filter-rule-keeps (suc k) (join outer j a b) x = (x, refl)
+
+  pub push-keeps : (k : ℕ) → Keeps schema text tables (push-filters schema k)
+  push-keeps k n x = keeps-next schema text tables (maybe-push-join schema) join-rule-keeps (maybe-push-filter schema k n) (filter-rule-keeps k n x)
+
+  pub from-keeps : (k : ℕ) → Keeps schema text tables (push-filters-from schema k)
+  unfolding push-filters-from
+  from-keeps zero n x = (x, refl)
+  from-keeps (suc k) n x =
+      keeps-next schema text tables (map-sources (push-filters-from schema k)) (sources-keep schema text tables (push-filters-from schema k) (from-keeps k))
+      (push-filters schema (suc k) n) (push-keeps (suc k) n x)
+
+  pub pushdown-keeps : Keeps schema text tables (FilterPushdown schema)
+  unfolding FilterPushdown
+  pushdown-keeps n x = from-keeps (node-size n) n x

@@ -1,0 +1,170 @@
+-- Evaluating makes only values that a sheet can hold: Integers of 64 bits, Floats of 64 bits that are no NaN but the one, and no text but what was there.
+use Prim.Native.Nat.{ℕ, zero, suc, _^_}
+use native.Mathlib.Omega.{arith}
+use borrow.Author.Tests.{ltb-true}
+use mathlib.Core.Path.{_≡_, refl, ap, _∙_}
+use mathlib.Core.Bool.{Bool, true, false, not, _||_, cond}
+use mathlib.Core.List.{List, []}
+use lib.Dec.{T, eqb, ltb}
+use lib.IntN.{ℤ, pos, negsuc, negℤ, _+ℤ_}
+use lib.Signed.{mag, quotZ}
+use lib.Ieee as Ieee
+use lib.Ieee.{Float, nan, inf, fin, binary64}
+use lib.Ieee.Fits.{add-fits, div-fits, neg-fits}
+use lib.Ieee.Bits.{toBits-lt, ofBits-toBits, ofBits-fits, nanBits-is}
+use Rattle.value.specs.Value.{Truth, False, Unknown, True, Datum, integer, float, string, Value, truth, datum, Result, ok, err, overflow}
+use Rattle.value.specs.Comparison.{Finding, Less, Equal, Greater, Unordered, NotComparable, compare, compared, against-datum, answer, number-of, rounded, is-equal, is-greater, is-less}
+use Rattle.value.specs.Arithmetic.{checked, written, add-integers, divide-integers, of-data, with-datum, of-truths, arithmetic, of-truth}
+use Rattle.value.specs.Logic as Logic
+use Rattle.sql.specs.Expression.{And, Or, IsNull, IsNaN, Identity, Negate, GreaterThan, LessThan, Add, Divide, Unary, Not, Binary, logical, function, Expression, constant, column, unary, binary, evaluate-unary, evaluate-binary, evaluate, the-nan}
+use Rattle.sql.specs.Expression
+use Rattle.sheet.specs.Cell
+use Rattle.sheet_laws.specs.Fits.{Value-fits}
+use Rattle.sound.specs.Answers.{Valued, valued-bind}
+use Rattle.sound.specs.Expressions.{Made-of}
+
+-- ---- what is written of a Float
+
+abbrev one-nan : ℕ → Bool
+one-nan b = not (Ieee.nanBits binary64 b) || eqb b Cell.the-nan
+
+no-other-nan : (x : Float) (b : ℕ) → Ieee.toBits binary64 x ≡ b → Ieee.nanBits binary64 b ≡ Ieee.isNan x → one-nan b ≡ true
+unfolding Ieee.toBits Ieee.isNan
+no-other-nan nan b e h = rw (h, ← e)
+no-other-nan (inf s) b e h = rw h
+no-other-nan (fin s m x) b e h = rw h
+
+module _ (text : List ℕ) (bytes : ℕ) where
+  abbrev P : Value → Type 0
+  P = Value-fits text bytes
+
+  abbrev R : Result Value → Type 0
+  R = Valued P
+
+  -- the one NaN, which Is NaN looks up
+  pub nan-fits : Value-fits text bytes (datum (float the-nan))
+  unfolding Ieee.nanBits
+  nan-fits = (omega arith, refl)
+
+  written-fits : (x : Float) → T (Ieee.fits binary64 x) → R (written x)
+  written-fits x h =
+      (toBits-lt binary64 x h, no-other-nan x (Ieee.toBits binary64 x) refl (nanBits-is binary64 (Ieee.toBits binary64 x) ∙ ap Ieee.isNan (ofBits-toBits binary64 x h)))
+
+  checked-fits : (i : ℤ) → R (checked i)
+  unfolding checked
+  checked-fits i = go (ltb (mag i) (2 ^ 63)) refl
+    where
+      go : (b : Bool) → ltb (mag i) (2 ^ 63) ≡ b → R (cond b (ok (datum (integer i))) (err overflow))
+      go true e = ltb-true (mag i) (2 ^ 63) e
+      go false e = tt
+
+  -- ---- operators on one value
+
+  truth-fits : (a : Truth) → R (of-truth a)
+  truth-fits False = tt
+  truth-fits Unknown = tt
+  truth-fits True = tt
+
+  unary-fits : (o : Unary) (v : Value) → P v → R (evaluate-unary o v)
+  unary-fits Not (truth a) p = tt
+  unary-fits Not (datum d) p = tt
+  unary-fits (function IsNull) (truth a) p = tt
+  unary-fits (function IsNull) (datum d) p = tt
+  unary-fits (function IsNaN) (truth False) p = tt
+  unary-fits (function IsNaN) (truth Unknown) p = tt
+  unary-fits (function IsNaN) (truth True) p = tt
+  unary-fits (function IsNaN) (datum (integer a)) p = tt
+  unary-fits (function IsNaN) (datum (float a)) p = tt
+  unary-fits (function IsNaN) (datum (string r t)) p = tt
+  unary-fits (function Identity) (truth a) p = truth-fits a
+  unary-fits (function Identity) (datum (integer a)) p = p
+  unary-fits (function Identity) (datum (float a)) p = p
+  unary-fits (function Identity) (datum (string r t)) p = tt
+  unary-fits (function Negate) (truth a) p = truth-fits a
+  unary-fits (function Negate) (datum (integer a)) p = checked-fits (negℤ a)
+  unary-fits (function Negate) (datum (float a)) p = written-fits (Ieee.neg (number-of a)) (neg-fits binary64 (number-of a) (ofBits-fits binary64 a))
+  unary-fits (function Negate) (datum (string r t)) p = tt
+
+  -- ---- operators on two values
+
+  logical-fits : (table : Truth → Truth → Truth) (v w : Value) → R (Logic.logical table v w)
+  logical-fits table (truth a) (truth b) = tt
+  logical-fits table (truth a) (datum g) = tt
+  logical-fits table (datum f) w = tt
+
+  against-fits : (a : Truth) → R (against-datum a)
+  against-fits False = tt
+  against-fits Unknown = tt
+  against-fits True = tt
+
+  answer-fits : (test : Finding → Bool) (f : Finding) → R (answer test f)
+  answer-fits test Less = tt
+  answer-fits test Equal = tt
+  answer-fits test Greater = tt
+  answer-fits test Unordered = tt
+  answer-fits test NotComparable = tt
+
+  compared-fits : (test : Finding → Bool) (v w : Value) → R (compared test v w)
+  compared-fits test (truth a) (truth b) = tt
+  compared-fits test (truth a) (datum g) = against-fits a
+  compared-fits test (datum f) (truth b) = against-fits b
+  compared-fits test (datum f) (datum g) = answer-fits test (compare f g)
+
+  with-fits : (a : Truth) (d : Datum) → R (with-datum a d)
+  with-fits False d = tt
+  with-fits True d = tt
+  with-fits Unknown (integer b) = tt
+  with-fits Unknown (float b) = tt
+  with-fits Unknown (string r t) = tt
+
+  truths-fit : (a b : Truth) → R (of-truths a b)
+  truths-fit False b = tt
+  truths-fit True b = tt
+  truths-fit Unknown False = tt
+  truths-fit Unknown Unknown = tt
+  truths-fit Unknown True = tt
+
+  module _ (whole : ℤ → ℤ → Result Value) (double : Float → Float → Float)
+      (whole-fits : (a b : ℤ) → R (whole a b)) (double-fits : (x y : Float) → T (Ieee.fits binary64 (double x y))) where
+    data-fit : (f g : Datum) → R (of-data whole double f g)
+    data-fit (integer a) (integer b) = whole-fits a b
+    data-fit (integer a) (float b) = written-fits (double (rounded a) (number-of b)) (double-fits (rounded a) (number-of b))
+    data-fit (integer a) (string r t) = tt
+    data-fit (float a) (integer b) = written-fits (double (number-of a) (rounded b)) (double-fits (number-of a) (rounded b))
+    data-fit (float a) (float b) = written-fits (double (number-of a) (number-of b)) (double-fits (number-of a) (number-of b))
+    data-fit (float a) (string r t) = tt
+    data-fit (string r t) g = tt
+
+    arithmetic-fits : (v w : Value) → R (arithmetic whole double v w)
+    arithmetic-fits (truth a) (truth b) = truths-fit a b
+    arithmetic-fits (truth a) (datum g) = with-fits a g
+    arithmetic-fits (datum f) (truth b) = with-fits b f
+    arithmetic-fits (datum f) (datum g) = data-fit f g
+
+  sum-fits : (a b : ℤ) → R (add-integers a b)
+  unfolding add-integers
+  sum-fits a b = checked-fits (a +ℤ b)
+
+  quotient-fits : (a b : ℤ) → R (divide-integers a b)
+  unfolding divide-integers
+  quotient-fits a (pos zero) = tt
+  quotient-fits a (pos (suc b)) = checked-fits (quotZ a (pos (suc b)))
+  quotient-fits a (negsuc b) = checked-fits (quotZ a (negsuc b))
+
+  binary-fits : (o : Binary) (v w : Value) → R (evaluate-binary o v w)
+  binary-fits (logical And) v w = logical-fits Logic.and v w
+  binary-fits (logical Or) v w = logical-fits Logic.or v w
+  binary-fits Expression.Equal v w = compared-fits is-equal v w
+  binary-fits (function GreaterThan) v w = compared-fits is-greater v w
+  binary-fits (function LessThan) v w = compared-fits is-less v w
+  binary-fits (function Add) v w = arithmetic-fits add-integers (Ieee.add binary64) sum-fits (add-fits binary64) v w
+  binary-fits (function Divide) v w = arithmetic-fits divide-integers (Ieee.div binary64) quotient-fits (div-fits binary64) v w
+
+  -- A column outside the row counts as Null.
+  pub evaluate-fits : (C : ℕ → Type 0) (e : Expression) → Made-of (Value-fits text bytes) C e → Valued (Value-fits text bytes) (evaluate [] e)
+  evaluate-fits C (constant v) m = m
+  evaluate-fits C (column c) m = tt
+  evaluate-fits C (unary o x) m = valued-bind P P (evaluate [] x) (evaluate-unary o) (evaluate-fits C x m) (unary-fits o)
+  evaluate-fits C (binary o l r) m =
+      valued-bind P P (evaluate [] l) (λ v. Expression.bind (evaluate [] r) (evaluate-binary o v)) (evaluate-fits C l (m .0))
+      (λ v p. valued-bind P P (evaluate [] r) (evaluate-binary o v) (evaluate-fits C r (m .1)) (λ w q. binary-fits o v w))

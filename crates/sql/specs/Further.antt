@@ -1,0 +1,96 @@
+-- Further plans, for what document 01's worked plans leave open; and the limit of size.
+use Prim.Native.Nat.{ℕ, zero, suc}
+use mathlib.Core.Bool.{false}
+use mathlib.Core.Path.{_≡_, refl}
+use mathlib.Core.List.{List, [], _∷_, map}
+use mathlib.Core.Option.{none, some}
+use lib.IntN.{pos}
+use lib.Signed.{ltZ}
+use Rattle.value.specs.Value.{True, False, truth, datum, integer, null}
+use Rattle.value.specs.Comparison.{compare-integers}
+use Rattle.value.specs.Arithmetic.{checked, add-integers}
+use Rattle.sql.specs.Schema.{Column, Schema, Integer}
+use Rattle.sql.specs.Expression.{Expression, constant, column, and, or, into-cnf, into-cnf-vec}
+use Rattle.sql.specs.Plan.{unlabelled, qualified, by-key, by-index, scan, lookup, nothing, values, limit, aggregate, filter, other, nested-loop, hash, Node, leaf, over, join, node-size}
+use Rattle.sql.specs.Answer.{Answer, done, refused}
+use Rattle.sql.specs.Optimizer
+use Rattle.sql.specs.Room
+use Rattle.sql.specs.Room.{max-cells}
+use Rattle.sql.specs.Worked.{keyed, scanned, one-row, number, equals, plus, A, B, Worked, plan, all-five, one-pass}
+
+abbrev true-constant : Expression
+true-constant = constant (truth True)
+
+abbrev two-values : Expression → Node
+two-values predicate = join false (nested-loop (some predicate)) (one-row (number 1 ∷ [])) (one-row (number 2 ∷ []))
+
+-- each with its answer
+abbrev pub further-plans : List (Worked × Worked)
+further-plans =
+    -- a part that the right source doesn't take comes back with its columns moved up again
+    (one-pass 2 (two-values (equals B (number 5))), plan (done (two-values (equals B (number 5)))))
+    -- a conjunct without columns goes to both sides, and comes back from both
+    ∷ (one-pass 2 (two-values true-constant), plan (done (two-values (and true-constant true-constant))))
+    -- And with Null is not folded
+    ∷ (one-pass 1 (over (filter (and (constant null) A)) scanned), plan (done (over (filter (and (constant null) A)) scanned)))
+    -- the place of a refusal is the operator whose operands have become constants: cell 5, not 3
+    ∷ (one-pass 1 (over (filter (and (and A (constant (truth False))) (number 5))) scanned), plan (refused 13 5))
+    -- a node's own expressions are folded before its source's
+    ∷ (one-pass 1 (over (filter (plus (number 9223372036854775807) (number 1))) (one-row (plus (number 1) true-constant ∷ []))), plan (refused 11 7))
+    -- an Aggregate over a Nothing stays; so does a Limit above 0, and a Limit of 0 doesn't
+    ∷ (one-pass 5 (over (other (aggregate [] ((1, A) ∷ []))) (leaf (nothing (unlabelled ∷ [])))), plan (done (over (other (aggregate [] ((1, A) ∷ []))) (leaf (nothing (unlabelled ∷ []))))))
+    ∷ (one-pass 5 (over (other (limit 1)) (leaf (nothing []))), plan (done (over (other (limit 1)) (leaf (nothing [])))))
+    ∷ (one-pass 5 (over (other (limit 0)) scanned), plan (done (leaf (nothing (qualified 7 8 ∷ [])))))
+    -- an Or of lookups of one column is one lookup
+    ∷ (
+      one-pass 3 (leaf (scan 0 none (some (or (equals A (number 1)) (equals (number 2) A))))),
+      plan (done (leaf (lookup by-key 0 none (datum (integer (pos 1)) ∷ datum (integer (pos 2)) ∷ [])))),
+    )
+    -- where nothing is found, the filter stays as it was
+    ∷ (one-pass 3 (leaf (scan 0 none (some (or (and A B) A)))), plan (done (leaf (scan 0 none (some (or (and A B) A))))))
+    ∷ []
+
+pub all-further : map (λ (w : Worked × Worked). w .0) further-plans ≡ map (λ (w : Worked × Worked). w .1) further-plans
+unfolding into-cnf into-cnf-vec Optimizer.maybe-push-join Optimizer.index-lookup Room.maybe-push-join Room.maybe-push-filter Room.push-filters-from Room.FilterPushdown Room.index-lookup Room.IndexLookup Room.short-circuit Room.ShortCircuit checked add-integers
+all-further = refl
+
+-- ---- the limit of size
+
+-- The number of cells of a plan after pass 2, or the refusal's number and place.
+pub data Cells : Type 0 where
+  cells : ℕ → Cells
+  refusal : (number place : ℕ) → Cells
+
+abbrev pub cells-of : Answer Node → Cells
+cells-of (done node) = cells (node-size node)
+cells-of (refused number place) = refusal number place
+
+-- n Filters of true over a join of two Values: n + 1 splits, and each doubles what comes back.
+abbrev pub filters : ℕ → Node
+filters zero = join false (nested-loop none) (one-row (number 1 ∷ [])) (one-row (number 2 ∷ []))
+filters (suc n) = over (filter true-constant) (filters n)
+
+abbrev pub pushed-cells : ℕ → Cells
+pushed-cells n = cells-of (Room.pass max-cells keyed 2 (filters n))
+
+pub splits-grow : map pushed-cells (1 ∷ 2 ∷ 3 ∷ 4 ∷ 5 ∷ 6 ∷ 7 ∷ [])
+    ≡ (cells 14 ∷ cells 38 ∷ cells 102 ∷ cells 262 ∷ cells 646 ∷ cells 1542 ∷ refusal 14 0 ∷ [])
+unfolding into-cnf into-cnf-vec Optimizer.maybe-push-join Room.maybe-push-join Room.maybe-push-filter Room.push-filters-from Room.FilterPushdown
+splits-grow = refl
+
+-- The whole plan counts, as it is at that moment: where both sources of this join, one after the other, become a Nothing with three Labels, the plan
+-- has nine cells, though in the end the join is a Nothing of seven.
+abbrev pub three-columns : Schema
+three-columns =
+    let c : Column = record { name = 8; kind = Integer; index = false } in
+    record { name = 7; primary-key = 0; columns = c ∷ c ∷ c ∷ [] } ∷ []
+
+abbrev pub emptied-join : Node
+emptied-join = join false (nested-loop none) (over (other (limit 0)) scanned) (over (other (limit 0)) scanned)
+
+abbrev pub emptied-cells : ℕ → Cells
+emptied-cells room = cells-of (Room.pass room three-columns 5 emptied-join)
+
+pub whole-plan-counts : map emptied-cells (8 ∷ 9 ∷ []) ≡ (refusal 14 0 ∷ cells 7 ∷ [])
+unfolding Room.short-circuit Room.ShortCircuit
+whole-plan-counts = refl

@@ -1,0 +1,528 @@
+-- optimizer.rs: the five optimizers, as functions on plans, each under its Rust name. They know no limit of size: Room.antt has them with document 01's
+-- limit (and where that doesn't refuse, they do the same: crate room). Crate literal ties the recursion here to the Rust's `transform`.
+use Prim.Native.Nat.{ℕ, zero, suc, _+_, _-_}
+use mathlib.Core.Bool.{Bool, true, false, not, _&&_, _||_, cond}
+use mathlib.Core.List.{List, [], _∷_, _++_, map}
+use mathlib.Core.Option.{Option, none, some}
+use lib.Dec.{eqb, ltb, leb}
+use lib.ListN.{length, getD}
+use Rattle.value.specs.Value.{Truth, False, Unknown, True, Value, truth, datum, Result, ok}
+use Rattle.sql.specs.Schema.{Table, Schema, table-of, column-of}
+use Rattle.sql.specs.Expression.{Logical, And, Or, Unary, Binary, logical, Equal, function, Expression, constant, column, unary, binary, and, size, bind, evaluate, contains-column, replace-column, shift-column-down, shift-column-up, into-cnf-vec, and-vec, is-column, is-column-lookup, into-column-values}
+use Rattle.sql.specs.Plan.{Label, unlabelled, unqualified, qualified, Access, by-key, by-index, Leaf, scan, lookup, nothing, values, Other, limit, offset, order, projection, remap, aggregate, Over, filter, other, Join, nested-loop, hash, Node, leaf, over, join, columns, column-labels, row-size, item-size, key-size, node-size}
+use Rattle.sql.specs.Answer.{Answer, done, refused, _>>=_, at-place}
+
+-- A transform is applied to the sources of a node.
+abbrev pub map-sources : (Node → Node) → Node → Node
+map-sources f (leaf l) = leaf l
+map-sources f (over o source) = over o (f source)
+map-sources f (join outer j left right) = join outer j (f left) (f right)
+
+-- ======== ConstantFolding
+
+-- What a constant operand does to And or Or. False decides And, and true leaves the other operand; Or is the mirror image. Null does neither.
+pub data Operand : Type 0 where
+  deciding neutral undetermined : Operand
+
+abbrev pub truth-operand : Logical → Truth → Operand
+truth-operand And False = deciding
+truth-operand And Unknown = undetermined
+truth-operand And True = neutral
+truth-operand Or False = neutral
+truth-operand Or Unknown = undetermined
+truth-operand Or True = deciding
+
+abbrev pub operand : Logical → Expression → Operand
+operand o (constant (truth t)) = truth-operand o t
+operand o (constant (datum d)) = undetermined
+operand o (column c) = undetermined
+operand o (unary p x) = undetermined
+operand o (binary p x y) = undetermined
+
+abbrev pub decided : Logical → Truth
+decided And = False
+decided Or = True
+
+abbrev pub simplify-logical : Logical → Operand → Operand → Expression → Expression → Expression
+simplify-logical o deciding b l r = constant (truth (decided o))
+simplify-logical o neutral deciding l r = constant (truth (decided o))
+simplify-logical o neutral neutral l r = r
+simplify-logical o neutral undetermined l r = r
+simplify-logical o undetermined deciding l r = constant (truth (decided o))
+simplify-logical o undetermined neutral l r = l
+simplify-logical o undetermined undetermined l r = binary (logical o) l r
+
+abbrev pub simplify : Expression → Expression
+simplify (constant v) = constant v
+simplify (column c) = column c
+simplify (unary o x) = unary o x
+simplify (binary (logical o) l r) = simplify-logical o (operand o l) (operand o r) l r
+simplify (binary Equal l r) = binary Equal l r
+simplify (binary (function f) l r) = binary (function f) l r
+
+abbrev pub fold-by : Bool → ℕ → Expression → Answer Expression
+fold-by true place e = done (simplify e)
+fold-by false place e = at-place place (bind (evaluate [] e) (λ v. ok (constant v)))
+
+-- An expression without a Column becomes its value, or the refusal for the value's error, at the expression's own cell. Only if a Column is left,
+-- And and Or are simplified.
+abbrev pub fold : ℕ → Expression → Answer Expression
+fold place e = fold-by (contains-column (λ c. true) e) place e
+
+-- All of an expression, operands first. Places are cells of the given sheet, so each function of folding takes the number of the first cell of what it
+-- folds: operands stand before their operator, in order, and sources before a node's own expressions.
+abbrev pub fold-expression : ℕ → Expression → Answer Expression
+fold-expression first (constant v) = fold first (constant v)
+fold-expression first (column c) = fold first (column c)
+fold-expression first (unary o x) = do
+  y ← fold-expression first x
+  fold (first + size x) (unary o y)
+fold-expression first (binary o l r) = do
+  x ← fold-expression first l
+  y ← fold-expression (first + size l) r
+  fold (first + (size l + size r)) (binary o x y)
+
+-- parts that stand one behind the other
+abbrev pub fold-each : {A : Type 0} → (ℕ → A → Answer A) → (A → ℕ) → ℕ → List A → Answer (List A)
+fold-each f cells first [] = done []
+fold-each f cells first (x ∷ xs) = do
+  y ← f first x
+  ys ← fold-each f cells (first + cells x) xs
+  done (y ∷ ys)
+
+abbrev pub fold-optional : ℕ → Option Expression → Answer (Option Expression)
+fold-optional first none = done none
+fold-optional first (some e) = do
+  x ← fold-expression first e
+  done (some x)
+
+abbrev pub fold-row : ℕ → List Expression → Answer (List Expression)
+fold-row first es = fold-each fold-expression size first es
+
+-- a Key or an Item: its expression, and its direction or label
+abbrev pub fold-part : {A : Type 0} → ℕ → Expression × A → Answer (Expression × A)
+fold-part first part = do
+  x ← fold-expression first (part .0)
+  done (x, part .1)
+
+abbrev pub fold-leaf : ℕ → Leaf → Answer Leaf
+fold-leaf first (scan table alias predicate) = do
+  p ← fold-optional first predicate
+  done (scan table alias p)
+fold-leaf first (lookup access table alias constants) = done (lookup access table alias constants)
+fold-leaf first (nothing labels) = done (nothing labels)
+fold-leaf first (values rows) = do
+  folded ← fold-each fold-row row-size first rows
+  done (values folded)
+
+-- Aggregate's expressions aren't visited.
+abbrev pub fold-over : ℕ → Over → Answer Over
+fold-over first (filter predicate) = do
+  p ← fold-expression first predicate
+  done (filter p)
+fold-over first (other (limit amount)) = done (other (limit amount))
+fold-over first (other (offset amount)) = done (other (offset amount))
+fold-over first (other (order key)) = do
+  folded ← fold-each fold-part key-size first key
+  done (other (order folded))
+fold-over first (other (projection items)) = do
+  folded ← fold-each fold-part item-size first items
+  done (other (projection folded))
+fold-over first (other (remap targets)) = done (other (remap targets))
+fold-over first (other (aggregate group-by aggregates)) = done (other (aggregate group-by aggregates))
+
+abbrev pub fold-join : ℕ → Join → Answer Join
+fold-join first (nested-loop predicate) = do
+  p ← fold-optional first predicate
+  done (nested-loop p)
+fold-join first (hash left-column right-column) = done (hash left-column right-column)
+
+-- A node's own expressions are folded before its sources, the left source before the right.
+abbrev pub ConstantFolding : ℕ → Node → Answer Node
+ConstantFolding first (leaf l) = do
+  m ← fold-leaf first l
+  done (leaf m)
+ConstantFolding first (over o source) = do
+  p ← fold-over (first + node-size source) o
+  s ← ConstantFolding first source
+  done (over p s)
+ConstantFolding first (join outer j left right) = do
+  k ← fold-join (first + (node-size left + node-size right)) j
+  l ← ConstantFolding first left
+  r ← ConstantFolding (first + node-size left) right
+  done (join outer k l r)
+
+-- ======== FilterPushdown
+
+abbrev pub and-with : Expression → Option Expression → Expression
+and-with e none = e
+and-with e (some p) = and e p
+
+-- The node with the expression in its predicate, or none if it can't take one.
+abbrev pub push-into : Expression → Node → Option Node
+push-into e (leaf (scan table alias predicate)) = some (leaf (scan table alias (some (and-with e predicate))))
+push-into e (leaf (lookup access table alias constants)) = none
+push-into e (leaf (nothing labels)) = none
+push-into e (leaf (values rows)) = none
+push-into e (over (filter predicate) source) = some (over (filter (and e predicate)) source)
+push-into e (over (other o) source) = none
+push-into e (join outer (nested-loop predicate) left right) = some (join outer (nested-loop (some (and-with e predicate))) left right)
+push-into e (join outer (hash left-column right-column) left right) = none
+
+-- What becomes of a join's source that a part of the predicate is for, and what of that part comes back.
+abbrev pub pushed-or-back : Expression → Node → Option Node → Node × List Expression
+pushed-or-back e source none = (source, e ∷ [])
+pushed-or-back e source (some pushed) = (pushed, [])
+
+abbrev pub push-part : Option Expression → Node → Node × List Expression
+push-part none source = (source, [])
+push-part (some e) source = pushed-or-back e source (push-into e source)
+
+-- ref_left and ref_right: whether an expression refers to a column of the left source, which has n columns, or to one of the right
+abbrev pub ref-left : ℕ → Expression → Bool
+ref-left n e = contains-column (λ c. ltb c n) e
+
+abbrev pub ref-right : ℕ → Expression → Bool
+ref-right n e = contains-column (λ c. not (ltb c n)) e
+
+abbrev pub cons-if : {A : Type 0} → Bool → A → List A → List A
+cons-if true x xs = x ∷ xs
+cons-if false x xs = xs
+
+-- those of a list that pass a test
+abbrev pub keep : {A : Type 0} → (A → Bool) → List A → List A
+keep test [] = []
+keep test (x ∷ xs) = cons-if (test x) x (keep test xs)
+
+-- A conjunct that refers to no column goes to both sides.
+abbrev pub for-left : ℕ → List Expression → List Expression
+for-left n cnf = keep (λ e. not (ref-right n e)) cnf
+
+abbrev pub for-right : ℕ → List Expression → List Expression
+for-right n cnf = keep (λ e. not (ref-left n e)) cnf
+
+abbrev pub for-both : ℕ → List Expression → List Expression
+for-both n cnf = keep (λ e. ref-left n e && ref-right n e) cnf
+
+abbrev pub ordered : Option ℕ → Option ℕ → Option (ℕ × ℕ)
+ordered none d = none
+ordered (some c) none = none
+ordered (some c) (some d) = some (cond (ltb d c) (d, c) (c, d))
+
+-- The two columns of an Equal of two columns, the lower one first.
+abbrev pub equijoin : Expression → Option (ℕ × ℕ)
+equijoin (constant v) = none
+equijoin (column c) = none
+equijoin (unary o x) = none
+equijoin (binary (logical o) l r) = none
+equijoin (binary Equal l r) = ordered (is-column l) (is-column r)
+equijoin (binary (function f) l r) = none
+
+abbrev pub is-number : ℕ → Option ℕ → Bool
+is-number c none = false
+is-number c (some d) = eqb d c
+
+abbrev pub is-lookup-of : ℕ → Expression → Bool
+is-lookup-of c e = is-number c (is-column-lookup e)
+
+abbrev pub or-else : {A : Type 0} → Option A → Option A → Option A
+or-else none b = b
+or-else (some a) b = some a
+
+-- The last lookup of a column: the HashMap keeps the last one that is put in.
+abbrev pub last-lookup : ℕ → List Expression → Option Expression
+last-lookup c [] = none
+last-lookup c (e ∷ es) = or-else (last-lookup c es) (cond (is-lookup-of c e) (some e) none)
+
+abbrev pub copied : ℕ → ℕ → Option Expression → List Expression
+copied from to none = []
+copied from to (some e) = replace-column from to e ∷ []
+
+-- For each equijoin that stays, the last of these lookups of one of its columns, copied to the other column: from the lower one, which is the left
+-- source's, to the higher one; and from the higher one to the lower.
+abbrev pub copy-up : List Expression → Option (ℕ × ℕ) → List Expression
+copy-up lookups none = []
+copy-up lookups (some pair) = copied (pair .0) (pair .1) (last-lookup (pair .0) lookups)
+
+abbrev pub copy-down : List Expression → Option (ℕ × ℕ) → List Expression
+copy-down lookups none = []
+copy-down lookups (some pair) = copied (pair .1) (pair .0) (last-lookup (pair .1) lookups)
+
+abbrev pub flat-map : {A B : Type 0} → (A → List B) → List A → List B
+flat-map f [] = []
+flat-map f (x ∷ xs) = f x ++ flat-map f xs
+
+abbrev pub push-left : ℕ → List Expression → List Expression
+push-left n cnf = for-left n cnf ++ flat-map (λ e. copy-down (for-right n cnf) (equijoin e)) (for-both n cnf)
+
+abbrev pub push-right : ℕ → List Expression → List Expression
+push-right n cnf = for-right n cnf ++ flat-map (λ e. copy-up (for-left n cnf) (equijoin e)) (for-both n cnf)
+
+abbrev pub map-optional : {A B : Type 0} → (A → B) → Option A → Option B
+map-optional f none = none
+map-optional f (some a) = some (f a)
+
+-- The join whose left source has n columns, after one split of its predicate, whose conjuncts are `cnf`. What a source doesn't take comes back behind
+-- the conjuncts that stay.
+abbrev pub split : ℕ → Bool → List Expression → Node → Node → Node
+split n outer cnf left right =
+    let l = push-part (and-vec (push-left n cnf)) left in
+    let r = push-part (map-optional (shift-column-down n) (and-vec (push-right n cnf))) right in
+    join outer (nested-loop (and-vec (for-both n cnf ++ (l .1 ++ map (shift-column-up n) (r .1))))) (l .0) (r .0)
+
+abbrev pub go-on : (Node → Node) → Node → Option Node → Node
+go-on f node none = node
+go-on f node (some pushed) = f pushed
+
+module _ (schema : Schema) where
+  unfoldable pub maybe-push-join : Node → Node
+  maybe-push-join (leaf l) = leaf l
+  maybe-push-join (over o source) = over o source
+  maybe-push-join (join outer (nested-loop none) left right) = join outer (nested-loop none) left right
+  maybe-push-join (join outer (nested-loop (some predicate)) left right) = split (columns schema left) outer (into-cnf-vec predicate) left right
+  maybe-push-join (join outer (hash left-column right-column) left right) = join outer (hash left-column right-column) left right
+
+  -- A Filter that its source takes is gone, and push_filters goes on with the source: maybe_push_filter, then the join rule. The number bounds the
+  -- nodes of the plan, which are one fewer after each merge.
+  unfoldable pub maybe-push-filter : ℕ → Node → Node
+  maybe-push-filter zero node = node
+  maybe-push-filter (suc n) (leaf l) = leaf l
+  maybe-push-filter (suc n) (over (filter predicate) source) =
+      go-on (λ pushed. maybe-push-join (maybe-push-filter n pushed)) (over (filter predicate) source) (push-into predicate source)
+  maybe-push-filter (suc n) (over (other o) source) = over (other o) source
+  maybe-push-filter (suc n) (join outer j left right) = join outer j left right
+
+  abbrev pub push-filters : ℕ → Node → Node
+  push-filters n node = maybe-push-join (maybe-push-filter n node)
+
+  -- a node, then the sources of what it became
+  unfoldable pub push-filters-from : ℕ → Node → Node
+  push-filters-from zero node = node
+  push-filters-from (suc n) node = map-sources (push-filters-from n) (push-filters (suc n) node)
+
+  -- No plan has more nodes than cells.
+  unfoldable pub FilterPushdown : Node → Node
+  FilterPushdown node = push-filters-from (node-size node) node
+
+-- ======== IndexLookup
+
+-- The conjunct that a lookup is made of, its column, and the other conjuncts.
+pub record Found : Type 0 where
+  pub column-number : ℕ
+  pub conjunct : Expression
+  pub remaining : List Expression
+
+abbrev pub filtered : Option Expression → Node → Node
+filtered none node = node
+filtered (some predicate) node = over (filter predicate) node
+
+module _ (schema : Schema) (table : ℕ) where
+  -- whether a lookup can go by this column: it is the primary key or has an index
+  abbrev pub has-index : ℕ → Bool
+  has-index c = eqb c (table-of schema table .primary-key) || column-of schema table c .index
+
+  abbrev pub with-index : Option ℕ → Option ℕ
+  with-index none = none
+  with-index (some c) = cond (has-index c) (some c) none
+
+  abbrev pub found-here : Expression → List Expression → Option ℕ → Option Found → Option Found
+  found-here e es (some c) later = some (record { column-number = c; conjunct = e; remaining = es })
+  found-here e es none none = none
+  found-here e es none (some f) = some (record { column-number = f .column-number; conjunct = f .conjunct; remaining = e ∷ f .remaining })
+
+  -- The first conjunct that is such a lookup. The key has no priority over an index.
+  abbrev pub find-lookup : List Expression → Option Found
+  find-lookup [] = none
+  find-lookup (e ∷ es) = found-here e es (with-index (is-column-lookup e)) (find-lookup es)
+
+  abbrev pub access : ℕ → Access
+  access c = cond (eqb c (table-of schema table .primary-key)) by-key (by-index c)
+
+  -- Where no lookup is found, the ORIGINAL filter stays.
+  abbrev pub lookup-or-scan : Option ℕ → Expression → Option Found → Node
+  lookup-or-scan alias predicate none = leaf (scan table alias (some predicate))
+  lookup-or-scan alias predicate (some f) =
+      filtered (and-vec (f .remaining)) (leaf (lookup (access (f .column-number)) table alias (into-column-values (f .conjunct))))
+
+module _ (schema : Schema) where
+  unfoldable pub index-lookup : Leaf → Node
+  index-lookup (scan table alias none) = leaf (scan table alias none)
+  index-lookup (scan table alias (some predicate)) = lookup-or-scan schema table alias predicate (find-lookup schema table (into-cnf-vec predicate))
+  index-lookup (lookup access table alias constants) = leaf (lookup access table alias constants)
+  index-lookup (nothing labels) = leaf (nothing labels)
+  index-lookup (values rows) = leaf (values rows)
+
+  -- Only a leaf is rewritten, and what it becomes holds no scan.
+  unfoldable pub IndexLookup : Node → Node
+  IndexLookup (leaf l) = index-lookup l
+  IndexLookup (over o source) = over o (IndexLookup source)
+  IndexLookup (join outer j left right) = join outer j (IndexLookup left) (IndexLookup right)
+
+-- ======== HashJoin
+
+abbrev pub hash-pair : ℕ → Expression → Option (ℕ × ℕ) → Join
+hash-pair n predicate none = nested-loop (some predicate)
+hash-pair n predicate (some pair) =
+    cond (ltb (pair .0) n && not (ltb (pair .1) n)) (hash (pair .0) (pair .1 - n)) (nested-loop (some predicate))
+
+-- hash_join of a join whose left source has n columns. Document 01's departure from the Rust: it acts only if one column is on each side.
+abbrev pub hash-join : ℕ → Join → Join
+hash-join n (nested-loop none) = nested-loop none
+hash-join n (nested-loop (some predicate)) = hash-pair n predicate (equijoin predicate)
+hash-join n (hash left-column right-column) = hash left-column right-column
+
+abbrev pub HashJoin : Schema → Node → Node
+HashJoin schema (leaf l) = leaf l
+HashJoin schema (over o source) = over o (HashJoin schema source)
+HashJoin schema (join outer j left right) = join outer (hash-join (columns schema left) j) (HashJoin schema left) (HashJoin schema right)
+
+-- ======== ShortCircuit
+
+-- What is known of a predicate that is a constant: true, or false or Null; nothing of any other.
+pub data Verdict : Type 0 where
+  always never unknown : Verdict
+
+abbrev pub verdict : Expression → Verdict
+verdict (constant (truth True)) = always
+verdict (constant (truth Unknown)) = never
+verdict (constant (truth False)) = never
+verdict (constant (datum d)) = unknown
+verdict (column c) = unknown
+verdict (unary o x) = unknown
+verdict (binary o l r) = unknown
+
+abbrev pub optional-verdict : Option Expression → Verdict
+optional-verdict none = unknown
+optional-verdict (some e) = verdict e
+
+abbrev pub is-always : Verdict → Bool
+is-always always = true
+is-always never = false
+is-always unknown = false
+
+abbrev pub is-never : Verdict → Bool
+is-never always = false
+is-never never = true
+is-never unknown = false
+
+-- a predicate that is always true is removed
+abbrev pub remove-true : Option Expression → Option Expression
+remove-true predicate = cond (is-always (optional-verdict predicate)) none predicate
+
+abbrev pub is-unlabelled : Label → Bool
+is-unlabelled unlabelled = true
+is-unlabelled (unqualified name) = false
+is-unlabelled (qualified table name) = false
+
+abbrev pub is-column-number : ℕ → Expression → Bool
+is-column-number i (constant v) = false
+is-column-number i (column c) = eqb c i
+is-column-number i (unary o x) = false
+is-column-number i (binary o l r) = false
+
+-- columns i, i + 1, .., without an alias
+abbrev pub pass-through : ℕ → List (Expression × Label) → Bool
+pass-through i [] = true
+pass-through i (item ∷ items) = (is-column-number i (item .0) && is-unlabelled (item .1)) && pass-through (suc i) items
+
+abbrev pub is-empty-list : {A : Type 0} → List A → Bool
+is-empty-list [] = true
+is-empty-list (x ∷ xs) = false
+
+abbrev pub is-nothing : Node → Bool
+is-nothing (leaf (scan table alias predicate)) = false
+is-nothing (leaf (lookup access table alias constants)) = false
+is-nothing (leaf (nothing labels)) = true
+is-nothing (leaf (values rows)) = false
+is-nothing (over o source) = false
+is-nothing (join outer j left right) = false
+
+-- of a node over a source that is a Nothing or not: a Limit above 0, a Remap and an Aggregate over a Nothing stay
+abbrev pub is-empty-other : Other → Bool → Bool
+is-empty-other (limit zero) source = true
+is-empty-other (limit (suc n)) source = false
+is-empty-other (offset amount) source = source
+is-empty-other (order key) source = source
+is-empty-other (projection items) source = source
+is-empty-other (remap targets) source = false
+is-empty-other (aggregate group-by aggregates) source = false
+
+abbrev pub is-empty-join : Join → Bool
+is-empty-join (nested-loop predicate) = is-never (optional-verdict predicate)
+is-empty-join (hash left-column right-column) = false
+
+-- is_empty: the node can't produce anything
+abbrev pub is-empty : Node → Bool
+is-empty (leaf (scan table alias predicate)) = is-never (optional-verdict predicate)
+is-empty (leaf (lookup access table alias constants)) = is-empty-list constants
+is-empty (leaf (nothing labels)) = false
+is-empty (leaf (values rows)) = is-empty-list rows
+is-empty (over (filter predicate) source) = is-never (verdict predicate) || is-nothing source
+is-empty (over (other o) source) = is-empty-other o (is-nothing source)
+is-empty (join outer j left right) = is-empty-join j || (is-nothing left || is-nothing right)
+
+module _ (schema : Schema) where
+  -- a Projection that passes its source's columns through
+  abbrev pub is-noop : List (Expression × Label) → Node → Bool
+  is-noop items source = eqb (columns schema source) (length items) && pass-through 0 items
+
+  -- the first part of short_circuit: what is always true, or changes nothing, is removed
+  abbrev pub remove-useless : Node → Node
+  remove-useless (leaf (scan table alias predicate)) = leaf (scan table alias (remove-true predicate))
+  remove-useless (leaf (lookup access table alias constants)) = leaf (lookup access table alias constants)
+  remove-useless (leaf (nothing labels)) = leaf (nothing labels)
+  remove-useless (leaf (values rows)) = leaf (values rows)
+  remove-useless (over (filter predicate) source) = cond (is-always (verdict predicate)) source (over (filter predicate) source)
+  remove-useless (over (other (limit amount)) source) = over (other (limit amount)) source
+  remove-useless (over (other (offset amount)) source) = over (other (offset amount)) source
+  remove-useless (over (other (order key)) source) = over (other (order key)) source
+  remove-useless (over (other (projection items)) source) = cond (is-noop items source) source (over (other (projection items)) source)
+  remove-useless (over (other (remap targets)) source) = over (other (remap targets)) source
+  remove-useless (over (other (aggregate group-by aggregates)) source) = over (other (aggregate group-by aggregates)) source
+  remove-useless (join outer (nested-loop predicate) left right) = join outer (nested-loop (remove-true predicate)) left right
+  remove-useless (join outer (hash left-column right-column) left right) = join outer (hash left-column right-column) left right
+
+  -- An emptied node becomes a Nothing that keeps its labels.
+  abbrev pub empty-or-node : Bool → Node → Node
+  empty-or-node true node = leaf (nothing (column-labels schema node))
+  empty-or-node false node = node
+
+  abbrev pub short-circuit : Node → Node
+  short-circuit node = empty-or-node (is-empty (remove-useless node)) (remove-useless node)
+
+  -- sources before the node
+  abbrev pub ShortCircuit : Node → Node
+  ShortCircuit (leaf l) = short-circuit (leaf l)
+  ShortCircuit (over o source) = short-circuit (over o (ShortCircuit source))
+  ShortCircuit (join outer j left right) = short-circuit (join outer j (ShortCircuit left) (ShortCircuit right))
+
+-- ======== OPTIMIZERS
+
+abbrev pub Optimizer : Type 0
+Optimizer = Node → Answer Node
+
+-- one optimizer by its number; a pass asked for that is not one of the list's, counted from 1, is refusal 1
+abbrev pub pass-of : List Optimizer → ℕ → Optimizer
+pass-of optimizers zero node = refused 1 0
+pass-of optimizers (suc n) node = getD optimizers n (λ m. refused 1 0) node
+
+-- the optimizers in turn, `try_fold` in the Rust
+abbrev pub in-turn : List Optimizer → Optimizer
+in-turn [] node = done node
+in-turn (f ∷ fs) node = f node >>= in-turn fs
+
+module _ (schema : Schema) where
+  abbrev pub OPTIMIZERS : List Optimizer
+  OPTIMIZERS =
+      ConstantFolding 0
+      ∷ (λ node. done (FilterPushdown schema node))
+      ∷ (λ node. done (IndexLookup schema node))
+      ∷ (λ node. done (HashJoin schema node))
+      ∷ (λ node. done (ShortCircuit schema node))
+      ∷ []
+
+  abbrev pub pass : ℕ → Optimizer
+  pass = pass-of OPTIMIZERS
+
+  abbrev pub optimize : Optimizer
+  optimize = in-turn OPTIMIZERS

@@ -1,0 +1,4 @@
+pub mod Reduce
+pub mod Stack
+pub mod Read
+pub mod Plan

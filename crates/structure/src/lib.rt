@@ -1,0 +1,91 @@
+// Refusal 8: a sheet's cells are read by a stack, as the definition reads them, but a sort stands there for each tree.
+ghost use mathlib.Core.Path.{_≡_};
+ghost use mathlib.Core.Bool.{Bool};
+ghost use mathlib.Core.Option.{none};
+ghost use Prim.Native.Nat.{_≤_, _<_};
+ghost use lib.ListN.{length};
+ghost use Rattle.sheet.specs.Cell.{bad-cell};
+ghost use Rattle.layout.specs.Layout.{Whole, found};
+ghost use Rattle.structure.specs.Sorts as Sorts;
+ghost use Rattle.structure.specs.Structure.{place, plan-of, Takes, Reduces};
+use layout::Found;
+
+// A constant serves where an expression is asked for.
+fn serves(have: u8, want: usize) -> bool
+    ensures { λ r. ⌜ r ≡ Sorts.serves have want ⌝ }
+{
+    let sort = have as usize;
+    if sort == want {
+        return true;
+    }
+    if sort == arity::CONSTANT {
+        return want == arity::EXPRESSION;
+    }
+    false
+}
+
+// The height that is left when n entries are taken off. That there are so many is known without counting them off: n can be any number.
+fn taken(stack: &[u8], height: usize, want: usize, n: usize) -> Found
+    requires { ⌜ height ≤ length (now stack) ⌝ }
+    ensures { λ r. ⌜ Takes (now (stack .entry)) height want n r ⌝ }
+{
+    if height < n {
+        return Found::Nothing;
+    }
+    let low = height - n;
+    let mut i = height;
+    while low < i {
+        if !serves(stack[i - 1], want) {
+            return Found::Nothing;
+        }
+        i -= 1;
+    }
+    Found::At(low)
+}
+
+// The height after a cell, whose sort stands for the children that it takes off.
+fn reduced(stack: &mut [u8], height: usize, k: layout::Cell) -> Found
+    requires { ⌜ height < length (now stack) ⌝ }
+    ensures { λ r. ⌜ Reduces (now (stack .entry)) height k r (now (stack .exit)) ⌝ }
+{
+    let asked = arity::children_of(k.tag, k.flag, k.a, k.b, k.c);
+    let Found::At(below) = taken(stack, height, arity::AGG, asked.aggs) else {
+        return Found::Nothing;
+    };
+    let Found::At(low) = taken(stack, below, asked.part, asked.parts) else {
+        return Found::Nothing;
+    };
+    let Found::At(rest) = taken(stack, low, arity::NODE, asked.nodes) else {
+        return Found::Nothing;
+    };
+    stack[rest] = arity::sort_of(k.tag) as u8;
+    Found::At(rest + 1)
+}
+
+// The place of refusal 8, or nothing where the cells are one plan.
+pub fn lacking(s: &[u8]) -> Found
+    requires { ⌜ Whole (now s) × (bad-cell (now s) ≡ none) ⌝ }
+    ensures { λ r. ⌜ found r ≡ place (plan-of (now (s .entry))) ⌝ }
+{
+    let parts = layout::parts_of(s);
+    let count = parts.cells.count;
+    let at = parts.cells.at;
+    let mut stack = [0u8; 2048];
+    let mut height: usize = 0;
+    let mut i: usize = 0;
+    while i < count {
+        let k = layout::cell_from(s, at + i * 16);
+        let Found::At(next) = reduced(&mut stack, height, k) else {
+            return Found::At(i);
+        };
+        height = next;
+        i += 1;
+    }
+    if height != 1 {
+        return Found::At(count);
+    }
+    if stack[0] != arity::NODE as u8 {
+        return Found::At(count);
+    }
+    Found::Nothing
+}

@@ -1,0 +1,54 @@
+// Refusal 10 of document 01: no two Targets of one Remap are equal. The cells are walked once, from the first to the last. A Remap's Targets stand since the
+// node before it.
+ghost use mathlib.Core.Path.{_≡_};
+ghost use Rattle.layout.specs.Layout.{Whole, as-cell};
+ghost use Rattle.targets.specs.Targets.{target-number, Repeats};
+use layout::Cell;
+use layout::Found;
+use layout::cell_at;
+use layout::parts_of;
+
+// The number of a Target that has one; 256, which no Target has, of any other cell.
+fn target_number(k: Cell) -> usize
+    ensures { λ r. ⌜ r ≡ target-number (as-cell k) ⌝ }
+{
+    if k.tag == 43 {
+        if k.flag == 1 {
+            return k.a;
+        }
+    }
+    256
+}
+
+// The lowest Target that equals one before it in the same Remap. `last` holds, for each number, one past the last Target with that number, and `own` is the
+// first cell since the last node: a Target before it belongs to another Remap.
+pub fn target_repeated(s: &[u8]) -> Found
+    requires { ⌜ Whole (now s) ⌝ }
+    ensures { λ r. ⌜ Repeats (now (s .entry)) r ⌝ }
+{
+    let p = parts_of(s);
+    let count = p.cells.count;
+    let mut last = [0usize; 256];
+    let mut own: usize = 0;
+    let mut i: usize = 0;
+    while i < count {
+        let k = cell_at(s, i);
+        if 50 <= k.tag {
+            i += 1;
+            own = i;
+            continue;
+        }
+        let number = target_number(k);
+        if 256 <= number {
+            i += 1;
+            continue;
+        }
+        let earlier = last[number];
+        if own < earlier {
+            return Found::At(i);
+        }
+        i += 1;
+        last[number] = i;
+    }
+    Found::Nothing
+}

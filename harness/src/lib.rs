@@ -1,0 +1,22 @@
+//! The test harness: toyDB's optimizer compiled unchanged, sheets in and out
+//! of its plans, and a model of document 01 that is compared with it.
+
+pub mod check;
+pub mod compare;
+pub mod damage;
+pub mod encoding;
+pub mod error;
+pub mod extremes;
+pub mod generate;
+pub mod model;
+pub mod original;
+pub mod promise;
+pub mod rng;
+pub mod rows;
+pub mod sheet;
+pub mod sql;
+pub mod steps;
+pub mod tree;
+pub mod value;
+pub mod vectors;
+pub mod worked;

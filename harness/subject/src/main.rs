@@ -1,0 +1,106 @@
+//! The proved library beside the harness.
+//!
+//!     subject damaged N SEED    plan_check and the second checker on N damaged sheets: number, place and counts
+//!     subject accepted N SEED   the same on N random accepted sheets
+//!     subject bench             nanoseconds per sheet and per cell, small, middle and full sheets, both in one run
+use std::collections::BTreeMap;
+use std::hint::black_box;
+use std::time::Instant;
+
+use harness::{check, damage, extremes, generate, rng::Rng};
+
+type Numbers = (u64, u64, u64, u64);
+
+fn proved(sheet: &[u8]) -> Numbers {
+    match reqshabu::check(sheet) {
+        Ok(a) => (0, 0, a.cells, a.columns),
+        Err(r) => (r.number, r.place, 0, 0),
+    }
+}
+
+fn second(sheet: &[u8]) -> Numbers {
+    let a = check::check(sheet);
+    (a.number, a.place, a.cells, a.columns)
+}
+
+/// Compares both on N sheets; says how many answers of each number there were, and each difference.
+fn compare(n: u64, sheets: impl Fn(u64) -> Vec<u8>) -> bool {
+    let (mut counts, mut different) = (BTreeMap::<u64, u64>::new(), 0);
+    for i in 0..n {
+        let sheet = sheets(i);
+        let (ours, theirs) = (proved(&sheet), second(&sheet));
+        *counts.entry(theirs.0).or_default() += 1;
+        if ours != theirs {
+            different += 1;
+            if different <= 10 {
+                println!("case {i}: plan_check {ours:?}, second checker {theirs:?}, {} bytes", sheet.len());
+            }
+        }
+    }
+    let list: Vec<String> = counts.iter().map(|(k, v)| format!("{k}: {v}")).collect();
+    println!("{n} sheets, {different} different; by number {}", list.join(", "));
+    different == 0
+}
+
+/// Nanoseconds a call, the best of several rounds.
+fn time(sheet: &[u8], f: impl Fn(&[u8]) -> Numbers) -> f64 {
+    let mut calls = 1u32;
+    loop {
+        let start = Instant::now();
+        (0..calls).for_each(|_| { black_box(f(black_box(sheet))); });
+        if start.elapsed().as_millis() >= 5 {
+            break;
+        }
+        calls *= 2;
+    }
+    let round = || {
+        let start = Instant::now();
+        (0..calls).for_each(|_| { black_box(f(black_box(sheet))); });
+        start.elapsed().as_nanos() as f64 / f64::from(calls)
+    };
+    (0..9).map(|_| round()).fold(f64::INFINITY, f64::min)
+}
+
+fn row(name: &str, sheet: &[u8]) {
+    let (number, _, cells, _) = second(sheet);
+    let (ours, theirs) = (time(sheet, proved), time(sheet, second));
+    let per = if cells == 0 { "-".into() } else { format!("{:.2}", ours / cells as f64) };
+    println!("| {name} | {number} | {} | {cells} | {ours:.0} | {per} | {theirs:.0} | {:.2} |", sheet.len(), ours / theirs);
+}
+
+fn bench() {
+    println!("| sheet | answer | bytes | cells | plan_check, ns | ns a cell | second checker, ns | ratio |");
+    println!("|---|---|---|---|---|---|---|---|");
+    // Random accepted sheets of about these numbers of cells: growth with size.
+    for size in [8, 30, 100, 300, 1000, 2000] {
+        let near = (0..4000).map(|i| generate::bytes(&mut Rng::case(7, i))).filter(|s| second(s).0 == 0);
+        if let Some(sheet) = near.min_by_key(|s| second(s).2.abs_diff(size)) {
+            row(&format!("random, about {size} cells"), &sheet);
+        }
+    }
+    for (name, sheet) in extremes::list() {
+        row(&name, &sheet);
+    }
+}
+
+fn main() {
+    let words: Vec<String> = std::env::args().skip(1).collect();
+    let number = |i: usize| words.get(i).and_then(|w| w.parse().ok()).unwrap_or(1);
+    let ok = match words.first().map(String::as_str) {
+        Some("damaged") => compare(number(1), |i| {
+            let mut rng = Rng::case(number(2), i);
+            let sheet = generate::bytes(&mut rng);
+            damage::damage(&mut rng, &sheet)
+        }),
+        Some("accepted") => compare(number(1), |i| generate::bytes(&mut Rng::case(number(2), i))),
+        Some("bench") => {
+            bench();
+            true
+        }
+        _ => {
+            eprintln!("subject damaged N SEED | accepted N SEED | bench");
+            false
+        }
+    };
+    std::process::exit(i32::from(!ok));
+}
