@@ -1,0 +1,51 @@
+-- Rewrites of column numbers, as the code names them, and what they ask of an expression.
+use Prim.Native.Nat.{ℕ, _+_, _-_, _<_}
+use mathlib.Core.Bool.{cond}
+use mathlib.Core.List.{List}
+use lib.Dec.{eqb, ltb}
+use Rattle.sql.specs.Expression.{Expression, constant, column, unary, binary}
+use Rattle.cells.specs.declared.Cell.{Cell}
+use Rattle.words.specs.Place.{ExpressionHere}
+use Rattle.column_numbers.specs.declared.SourceColumn.{SourceColumn}
+use Rattle.column_numbers.specs.declared.SourceColumn.the-variants.{Left, Right}
+use Rattle.column_numbers.specs.declared.Change.{Change}
+use Rattle.column_numbers.specs.declared.Change.the-variants.{Down, Up, Replace}
+
+-- Column c of a joined row, in its own source, if the left source has n columns.
+abbrev pub source-of : ℕ → ℕ → SourceColumn
+source-of c n = cond (ltb c n) (Left (record { 0 = c })) (Right (record { 0 = c - n }))
+
+-- what a column number becomes
+abbrev pub changed : Change → ℕ → ℕ
+changed (Down n) c = c - n
+changed (Up n) c = n + c
+changed (Replace from to) c = cond (eqb c from) to c
+
+-- The new number fits a word.
+abbrev pub Room : Change → ℕ → Type 0
+Room (Down n) c = Unit
+Room (Up n) c = n + c < 18446744073709551616
+Room (Replace from to) c = Unit
+
+-- a Column's cell has tag 6 and its number in a
+abbrev pub changed-cell : Change → Cell → Cell
+changed-cell k c = cond (eqb (c .tag) 6) (record { tag = c .tag; flag = c .flag; a = changed k (c .a); b = c .b; c = c .c }) c
+
+-- P holds of each column of an expression.
+abbrev pub EachColumn : (ℕ → Type 0) → Expression → Type 0
+EachColumn P (constant v) = Unit
+EachColumn P (column c) = P c
+EachColumn P (unary o x) = EachColumn P x
+EachColumn P (binary o l r) = EachColumn P l × EachColumn P r
+
+-- Some expression stands in s from word lo up to hi, and its columns can be rewritten.
+pub record Changeable (k : Change) (s : List ℕ) (lo hi : ℕ) : Type 0 where
+  pub e : Expression
+  pub here : ExpressionHere s lo hi e
+  pub room : EachColumn (Room k) e
+
+-- Some expression stands there, whose columns are below 2^32, as those of a sheet are.
+pub record SmallAt (s : List ℕ) (lo hi : ℕ) : Type 0 where
+  pub e : Expression
+  pub here : ExpressionHere s lo hi e
+  pub small : EachColumn (λ c. c < 4294967296) e

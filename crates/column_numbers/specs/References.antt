@@ -1,0 +1,39 @@
+-- Which sources of a join an expression refers to: the Rust's ref_left and ref_right in one answer.
+use Prim.Native.Nat.{ℕ}
+use mathlib.Core.Bool.{Bool, true, false, cond}
+use mathlib.Core.Path.{_≡_}
+use mathlib.Core.List.{List}
+use lib.Dec.{eqb, ltb}
+use Rattle.sql.specs.Expression.{Expression}
+use Rattle.sql.specs.Optimizer.{ref-left, ref-right}
+use Rattle.cells.specs.declared.Cell.{Cell}
+use Rattle.words.specs.Place.{ExpressionHere}
+use Rattle.column_numbers.specs.declared.References.{References}
+use Rattle.column_numbers.specs.declared.References.the-variants.{Neither, Left, Right, Both}
+
+-- the answer for ref_left and ref_right
+abbrev pub sides : Bool → Bool → References
+sides false false = Neither
+sides true false = Left
+sides false true = Right
+sides true true = Both
+
+-- of the expression from lo up to hi, if the left source has n columns
+abbrev pub RefersTo : ℕ → List ℕ → ℕ → ℕ → References → Type 0
+RefersTo n s lo hi r = (e : Expression) → ExpressionHere s lo hi e → r ≡ sides (ref-left n e) (ref-right n e)
+
+-- what the code's helpers answer: of a cell without operands, and of two operands together
+abbrev pub cell-refers : ℕ → Cell → References
+cell-refers n c = cond (eqb (c .tag) 6) (cond (ltb (c .a) n) Left Right) Neither
+
+abbrev pub together : References → References → References
+together Neither b = b
+together Left Neither = Left
+together Left Left = Left
+together Left Right = Both
+together Left Both = Both
+together Right Neither = Right
+together Right Left = Both
+together Right Right = Right
+together Right Both = Both
+together Both b = Both

@@ -1,0 +1,247 @@
+// expression.rs, shift_column and replace_column, and optimizer.rs, ref_left and ref_right: the numbers of an expression's columns. An expression is in its
+// working form (crate cells), and the rewritten one is appended to another slice.
+ghost use mathlib.Core.Path.{_≡_};
+ghost use Prim.Native.Nat.{_+_, _-_, _<_};
+ghost use Rattle.sql.specs.Expression.{map-columns, replace-column, shift-column-down, shift-column-up};
+ghost use Rattle.words.specs.Place.{ExpressionAt, Maps};
+ghost use Rattle.column_numbers.specs.Columns.{source-of, changed, Room, changed-cell, Changeable, SmallAt};
+ghost use Rattle.column_numbers.specs.References.{cell-refers, together, RefersTo};
+
+// A column of a join's left source.
+pub struct LeftColumn(pub usize);
+
+// A column of a join's right source.
+pub struct RightColumn(pub usize);
+
+// A column of a join's row: the left source's columns, and behind them the right source's.
+pub struct JoinedColumn(pub usize);
+
+// A column of one of a join's sources.
+pub enum SourceColumn {
+    Left(LeftColumn),
+    Right(RightColumn),
+}
+
+impl LeftColumn {
+    pub fn joined(self) -> JoinedColumn
+        ensures { λ r. ⌜ r .0 ≡ self .0 ⌝ }
+    {
+        JoinedColumn(self.0)
+    }
+}
+
+impl RightColumn {
+    // The left source has n columns.
+    pub fn joined(self, n: usize) -> JoinedColumn
+        requires { ⌜ n + self .0 < 18446744073709551616 ⌝ }
+        ensures { λ r. ⌜ r .0 ≡ n + self .0 ⌝ }
+    {
+        JoinedColumn(n + self.0)
+    }
+}
+
+impl JoinedColumn {
+    // The right source's column. A column of the left source, which has n columns, would be 0.
+    pub fn right(self, n: usize) -> RightColumn
+        ensures { λ r. ⌜ r .0 ≡ self .0 - n ⌝ }
+    {
+        if self.0 < n {
+            return RightColumn(0);
+        }
+        RightColumn(self.0 - n)
+    }
+
+    // The source's column that it is, if the left source has n columns.
+    pub fn source(self, n: usize) -> SourceColumn
+        ensures { λ r. ⌜ r ≡ source-of (self .0) n ⌝ }
+    {
+        if self.0 < n {
+            return SourceColumn::Left(LeftColumn(self.0));
+        }
+        SourceColumn::Right(RightColumn(self.0 - n))
+    }
+}
+
+// A rewrite of column numbers.
+pub enum Change {
+    // From the joined row to the right source's row, where the left source has that many columns.
+    Down(usize),
+    // From the right source's row to the joined row.
+    Up(usize),
+    // From the one column to the other.
+    Replace(usize, usize),
+}
+
+fn changed(k: Change, c: usize) -> usize
+    requires { ⌜ Room k c ⌝ }
+    ensures { λ r. ⌜ r ≡ changed k c ⌝ }
+{
+    match k {
+        Change::Down(n) => {
+            let moved = JoinedColumn(c).right(n);
+            moved.0
+        }
+        Change::Up(n) => {
+            let moved = RightColumn(c).joined(n);
+            moved.0
+        }
+        Change::Replace(from, to) => {
+            if c == from {
+                return to;
+            }
+            c
+        }
+    }
+}
+
+// A constant's or a column's cell, rewritten.
+fn changed_cell(c: cells::Cell, k: Change) -> cells::Cell
+    requires { ⌜ (c .tag ≡ 6 → Room k (c .a)) ⌝ }
+    ensures { λ r. ⌜ r ≡ changed-cell k c ⌝ }
+{
+    if c.tag == 6 {
+        return cells::Cell {
+            tag: c.tag,
+            flag: c.flag,
+            a: changed(k, c.a),
+            b: c.b,
+            c: c.c,
+        };
+    }
+    c
+}
+
+// The expression from lo to hi with its columns rewritten.
+pub fn map_columns(
+    s: &[usize],
+    lo: usize,
+    hi: usize,
+    d: &mut [usize],
+    at: usize,
+    k: Change,
+) -> usize
+    requires { ⌜ Changeable k (now s) lo hi ⌝ }
+    ensures { λ r. ⌜ Maps (map-columns (changed k)) (now (s .entry)) lo hi (now (d .entry)) at r (now (d .exit)) ⌝ }
+{
+    let c = cells::cell_at(s, hi);
+    if c.tag < 10 {
+        return cells::put(d, at, at, changed_cell(c, k));
+    }
+    let end = hi - 6;
+    if 30 <= c.tag {
+        let m = map_columns(s, lo, end, d, at, k);
+        return cells::put(d, at, m, c);
+    }
+    let mid = cells::start(s, end);
+    let m = map_columns(s, lo, mid, d, at, k);
+    let j = map_columns(s, mid, end, d, m, k);
+    cells::put(d, at, j, c)
+}
+
+// shift_column by −n: from the joined row to the right source's row.
+pub fn shift_column_down(
+    s: &[usize],
+    lo: usize,
+    hi: usize,
+    d: &mut [usize],
+    at: usize,
+    n: usize,
+) -> usize
+    requires { ⌜ ExpressionAt (now s) lo hi ⌝ }
+    ensures { λ r. ⌜ Maps (shift-column-down n) (now (s .entry)) lo hi (now (d .entry)) at r (now (d .exit)) ⌝ }
+{
+    map_columns(s, lo, hi, d, at, Change::Down(n))
+}
+
+// shift_column by n: from the right source's row to the joined row.
+pub fn shift_column_up(
+    s: &[usize],
+    lo: usize,
+    hi: usize,
+    d: &mut [usize],
+    at: usize,
+    n: usize,
+) -> usize
+    requires { ⌜ SmallAt (now s) lo hi ⌝ }
+    requires { ⌜ n < 4294967296 ⌝ }
+    ensures { λ r. ⌜ Maps (shift-column-up n) (now (s .entry)) lo hi (now (d .entry)) at r (now (d .exit)) ⌝ }
+{
+    map_columns(s, lo, hi, d, at, Change::Up(n))
+}
+
+pub fn replace_column(
+    s: &[usize],
+    lo: usize,
+    hi: usize,
+    d: &mut [usize],
+    at: usize,
+    from: usize,
+    to: usize,
+) -> usize
+    requires { ⌜ ExpressionAt (now s) lo hi ⌝ }
+    ensures { λ r. ⌜ Maps (replace-column from to) (now (s .entry)) lo hi (now (d .entry)) at r (now (d .exit)) ⌝ }
+{
+    map_columns(s, lo, hi, d, at, Change::Replace(from, to))
+}
+
+// The sources of a join that an expression refers to.
+pub enum References {
+    Neither,
+    Left,
+    Right,
+    Both,
+}
+
+// What a constant's or a column's cell refers to.
+fn cell_refers(c: cells::Cell, n: usize) -> References
+    ensures { λ r. ⌜ r ≡ cell-refers n c ⌝ }
+{
+    if c.tag == 6 {
+        if c.a < n {
+            return References::Left;
+        }
+        return References::Right;
+    }
+    References::Neither
+}
+
+// What two operands refer to together.
+fn together(a: References, b: References) -> References
+    ensures { λ r. ⌜ r ≡ together a b ⌝ }
+{
+    match a {
+        References::Neither => b,
+        References::Left => match b {
+            References::Neither => References::Left,
+            References::Left => References::Left,
+            References::Right => References::Both,
+            References::Both => References::Both,
+        },
+        References::Right => match b {
+            References::Neither => References::Right,
+            References::Left => References::Both,
+            References::Right => References::Right,
+            References::Both => References::Both,
+        },
+        References::Both => References::Both,
+    }
+}
+
+// ref_left and ref_right of the expression from lo to hi, where the left source has n columns.
+pub fn refers(s: &[usize], lo: usize, hi: usize, n: usize) -> References
+    requires { ⌜ ExpressionAt (now s) lo hi ⌝ }
+    ensures { λ r. ⌜ RefersTo n (now (s .entry)) lo hi r ⌝ }
+{
+    let c = cells::cell_at(s, hi);
+    if c.tag < 10 {
+        return cell_refers(c, n);
+    }
+    let end = hi - 6;
+    if 30 <= c.tag {
+        return refers(s, lo, end, n);
+    }
+    let mid = cells::start(s, end);
+    let l = refers(s, lo, mid, n);
+    let r = refers(s, mid, end, n);
+    together(l, r)
+}

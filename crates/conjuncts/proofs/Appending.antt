@@ -1,0 +1,89 @@
+-- Laws on conjuncts that are appended to a slice.
+use Prim.Native.Nat.{ℕ, _+_, _≤_, _<_}
+use native.Mathlib.Omega.{arith}
+use mathlib.Core.Option.{Option, none, some}
+use mathlib.Core.Path.{_≡_, refl, sym, ap, _∙_, subst}
+use mathlib.Core.List.{List, [], _∷_, _++_, append-assoc}
+use lib.ListN.{length, take, drop, length-append, take-append-drop}
+use lib.Seq.{length-take-le}
+use Rattle.sql.specs.Expression.{Expression, and, shift-column-down, and-vec}
+use Rattle.cells.specs.Cells.{words, Part}
+use Rattle.cells.specs.Room.{Wrote, Seals, Copies}
+use Rattle.cells.proofs.Laws.{then, nothing, wrote-up}
+use Rattle.words.specs.Words.{cell, root, expression-words, operand-words, optional-words}
+use Rattle.words.specs.Place.{Maps}
+use Rattle.words.proofs.Expressions.{shape}
+use Rattle.words.proofs.Writing.{plain}
+use Rattle.conjuncts.specs.Conjuncts.{and-then, and-onto, Appends, Joins, AppendsEach, OptionalHere}
+use Rattle.conjuncts.proofs.Lists.{onto-append, onto-none, shift-none}
+
+pub words-long : (e : Expression) → 6 ≤ length (expression-words e)
+words-long e = omega (arith, ap length (shape e), length-append (operand-words e) (words (cell (root e)) (length (operand-words e) + 6)))
+
+and-then-grows : (acc : Option Expression) (x : Expression) → length (optional-words acc) ≤ length (optional-words (and-then acc x))
+unfolding expression-words
+and-then-grows none x = omega arith
+and-then-grows (some a) x =
+    omega (arith, length-append (expression-words a ++ expression-words x) (words (cell (root (and a x))) (length (expression-words a ++ expression-words x) + 6)), length-append (expression-words a) (expression-words x))
+
+-- what has no room has none when there is more of it
+full-grows : {d₀ : List ℕ} {from at : ℕ} {v x d d′ : List ℕ} → length d₀ < at → length v ≤ length x → Wrote d₀ from v at d → Wrote d₀ from x at d′
+full-grows h g f = record { fits = λ z. absurd (let (a, b) = f .fits (omega arith) in omega arith); full = λ z. h }
+
+-- ---- one more conjunct
+
+module _ {d : List ℕ} {from at m : ℕ} where
+  pub join-full : length d < at → Joins d from at m at d
+  join-full h d₀ d₁ acc x l k v w = full-grows (omega arith) (and-then-grows acc x) v
+
+  module _ (fits : at ≤ length d) where
+    pub join-first : at ≡ from → Joins d from at m m d
+    join-first i d₀ d₁ none x l k v w = then l v w
+    join-first i d₀ d₁ (some a) x l k v w = absurd (omega (arith, wrote-up v (omega arith), words-long a))
+
+    pub join-next : (at ≡ from → ⊥) → {n : ℕ} {d′ : List ℕ} → Seals d from m (plain 10) n d′ → Joins d from at m n d′
+    unfolding expression-words cell
+    join-next i sl d₀ d₁ none x l k v w = absurd (i (omega (arith, wrote-up v (omega arith))))
+    join-next i sl d₀ d₁ (some a) x l k v w = sl d₀ (expression-words a ++ expression-words x) (k ∙ l) (then l v w)
+
+module _ {d : List ℕ} {from at : ℕ} where
+  pub appends-none : Appends d from at [] at d
+  appends-none d₀ acc l w = w
+
+  module _ {m n : ℕ} {d₁ d₂ : List ℕ} (k : length d₁ ≡ length d) where
+    pub appends-then : (xs ys : List Expression) → Appends d from at xs m d₁ → Appends d₁ from m ys n d₂ → Appends d from at (xs ++ ys) n d₂
+    appends-then xs ys f g d₀ acc l w = rw (onto-append acc xs ys) (g d₀ (and-onto acc xs) (k ∙ l) (f d₀ acc l w))
+
+    pub appends-one : (x : Expression) → Wrote d at (expression-words x) m d₁ → Joins d₁ from at m n d₂ → Appends d from at (x ∷ []) n d₂
+    appends-one x w j d₀ acc l v = j d₀ d acc x l k v w
+
+    pub appends-mapped : (f : Expression → Expression) {s : List ℕ} {lo hi : ℕ} → Maps f s lo hi d at m d₁ → Joins d₁ from at m n d₂
+        → AppendsEach (λ e. f e ∷ []) s lo hi d from at n d₂
+    appends-mapped f g j e u = appends-one (f e) (g e u) j
+
+-- Conjuncts appended where none stood are and_vec of them.
+pub appends-vec : {d : List ℕ} {at : ℕ} (xs : List Expression) {n : ℕ} {d′ : List ℕ} → Appends d at at xs n d′ → Wrote d at (optional-words (and-vec xs)) n d′
+appends-vec {d} {at} xs {n} {d′} f = subst (λ (o : Option Expression). Wrote d at (optional-words o) n d′) (onto-none xs) (f d none refl (nothing d at))
+
+-- ---- a copy, and a move
+
+pub copied-down : {s : List ℕ} {lo hi : ℕ} {d : List ℕ} {at n : ℕ} {d′ : List ℕ} (k : ℕ) → k ≡ 0 → Copies s lo hi d at n d′ → Maps (shift-column-down k) s lo hi d at n d′
+copied-down {d} {at} {n} {d′} k h f e u = subst (λ (j : ℕ). Wrote d at (expression-words (shift-column-down j e)) n d′) (sym h)
+    (subst (λ (x : Expression). Wrote d at (expression-words x) n d′) (sym (shift-none e)) (f (expression-words e) (u .part)))
+
+-- ---- what was written and had room stands there
+
+pub written-part : {d : List ℕ} {at : ℕ} {w : List ℕ} {n : ℕ} {d′ : List ℕ} → Wrote d at w n d′ → n ≤ length d → Part d′ at n w
+written-part {d} {at} {w} {n} {d′} f h =
+    let e = wrote-up f h in
+    let (_, t) = f .fits (omega arith) in
+    record {
+      before = take at d;
+      after = drop n d′;
+      whole = sym (take-append-drop n d′) ∙ (ap (λ (l : List ℕ). l ++ drop n d′) t ∙ append-assoc (take at d) w (drop n d′));
+      low = length-take-le at d (omega arith);
+      high = sym e;
+    }
+
+pub written-conjuncts : {d : List ℕ} {at : ℕ} (o : Option Expression) {n : ℕ} {d′ : List ℕ} → Wrote d at (optional-words o) n d′ → n ≤ length d → OptionalHere d′ at n o
+written-conjuncts o f h = record { part = written-part f h }

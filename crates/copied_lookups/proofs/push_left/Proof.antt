@@ -1,0 +1,19 @@
+use Rattle.copied_lookups.proofs.Copying.{pushes-left}
+use borrow.Author.Needs.{needs}
+use Rattle.copied_lookups.proofs.push_left.Statement.{statement}
+use Rattle.copied_lookups.proofs.push_left.Tie as tie
+
+for-left-requires : tie.Need-for-left-requires
+for-left-requires c κs = (c .before .before .before .before .pre .0)
+
+copy-each-requires : tie.Need-copy-each-requires
+copy-each-requires c κs = (c .before .before .before .before .before .before .before .before .pre)
+
+same-length : tie.Need-same-length
+same-length c = search needs
+
+returns : tie.Need-returns
+returns c = pushes-left (c .before .before .before .before .before .before .before .before .before .before .before .args .n) (c .before .before .before .before .before .before .for-left .kept .1 .1 .1 .0) (c .before .before .before .before .before .before .for-left .ensures) (c .before .before .copy-each .ensures)
+
+pub push-left-spec : {M : Type 1} → statement M
+push-left-spec = tie.close (tie.spec for-left-requires copy-each-requires same-length returns)

@@ -1,0 +1,84 @@
+-- The last lookup of a column, its copies, and what is pushed into a join's sources, in slices of words.
+use Prim.Native.Nat.{ℕ, _-_}
+use mathlib.Core.Bool.{Bool, not, _&&_, cond}
+use mathlib.Core.Path.{_≡_}
+use mathlib.Core.List.{List, []}
+use mathlib.Core.Option.{Option, none, some}
+use lib.Dec.{ltb}
+use Rattle.sql.specs.Expression.{Expression, ands, and-vec, shift-column-down}
+use Rattle.sql.specs.Optimizer.{for-left, for-right, equijoin, is-lookup-of, last-lookup, copied, push-left, push-right, map-optional}
+use Rattle.cells.specs.Room.{Wrote}
+use Rattle.words.specs.Words.{optional-words}
+use Rattle.words.specs.Place.{ExpressionHere}
+use Rattle.conjuncts.specs.Conjuncts.{Appends, AppendsEach, Walks, OptionalHere}
+use Rattle.copied_lookups.specs.declared.Source.{Source}
+use Rattle.copied_lookups.specs.declared.Source.the-variants as Source
+use Rattle.copied_lookups.specs.declared.Place.{Place}
+use Rattle.copied_lookups.specs.declared.Place.the-variants as Place
+
+-- ---- the last lookup
+
+abbrev pub IsLookupOf : ℕ → List ℕ → ℕ → ℕ → Bool → Type 0
+IsLookupOf c s lo hi r = (e : Expression) → ExpressionHere s lo hi e → r ≡ is-lookup-of c e
+
+-- A place in s says where an expression stands, or that there is none.
+abbrev pub Stands : List ℕ → Place → Option Expression → Type 0
+Stands s (Place.At lo hi) none = ⊥
+Stands s (Place.At lo hi) (some e) = ExpressionHere s lo hi e
+Stands s Place.None none = Unit
+Stands s Place.None (some e) = ⊥
+
+-- among the conjuncts of the expression from lo up to hi
+abbrev pub FindsLast : ℕ → List ℕ → ℕ → ℕ → Place → Type 0
+FindsLast c s lo hi r = (e : Expression) → ExpressionHere s lo hi e → Stands s r (last-lookup c (ands e))
+
+-- ---- copies
+
+-- the conjuncts that and_vec joined
+abbrev pub conjuncts-of : Option Expression → List Expression
+conjuncts-of none = []
+conjuncts-of (some e) = ands e
+
+-- What the equijoin of columns l and r copies into a source, from the other source's conjuncts: the lookup of the other source's column. The right source's
+-- columns are `shift` lower.
+abbrev pub pair-copy : Source → ℕ → List Expression → ℕ → ℕ → List Expression
+pair-copy Source.Left shift lookups l r = copied r l (last-lookup r lookups)
+pair-copy Source.Right shift lookups l r = copied l (r - shift) (last-lookup l lookups)
+
+-- if it has a column of each source, of which the left one has n columns
+abbrev pub pair-copies : Source → ℕ → ℕ → List Expression → ℕ → ℕ → List Expression
+pair-copies into n shift lookups l r = cond (ltb l n && not (ltb r n)) (pair-copy into shift lookups l r) []
+
+abbrev pub optional-copies : Source → ℕ → ℕ → List Expression → Option (ℕ × ℕ) → List Expression
+optional-copies into n shift lookups none = []
+optional-copies into n shift lookups (some pair) = pair-copies into n shift lookups (pair .0) (pair .1)
+
+abbrev pub copies : Source → ℕ → ℕ → List Expression → Expression → List Expression
+copies into n shift lookups e = optional-copies into n shift lookups (equijoin e)
+
+-- ---- what the functions append, for whatever conjuncts of the other source stand where they are lent
+
+abbrev pub CopiesLast : ℕ → ℕ → List ℕ → ℕ → ℕ → List ℕ → ℕ → ℕ → ℕ → List ℕ → Type 0
+CopiesLast c to s lo hi d from at n d′ = (o : Option Expression) → OptionalHere s lo hi o → Appends d from at (copied c to (last-lookup c (conjuncts-of o))) n d′
+
+abbrev pub CopiesPair : Source → ℕ → ℕ → ℕ → ℕ → List ℕ → ℕ → ℕ → List ℕ → ℕ → ℕ → ℕ → List ℕ → Type 0
+CopiesPair into n shift l r s lo hi d from at m d′ =
+    (o : Option Expression) → OptionalHere s lo hi o → Appends d from at (pair-copies into n shift (conjuncts-of o) l r) m d′
+
+abbrev pub CopiesConjunct : Source → ℕ → ℕ → List ℕ → ℕ → ℕ → List ℕ → ℕ → ℕ → List ℕ → ℕ → ℕ → ℕ → List ℕ → Type 0
+CopiesConjunct into n shift s lo hi g a b d from at m d′ =
+    (o : Option Expression) → OptionalHere g a b o → AppendsEach (copies into n shift (conjuncts-of o)) s lo hi d from at m d′
+
+abbrev pub CopiesEach : Source → ℕ → ℕ → List ℕ → ℕ → ℕ → List ℕ → ℕ → ℕ → List ℕ → ℕ → ℕ → ℕ → List ℕ → Type 0
+CopiesEach into n shift s lo hi g a b d from at m d′ =
+    (o : Option Expression) → OptionalHere g a b o → Walks (copies into n shift (conjuncts-of o)) s lo hi d from at m d′
+
+-- ---- what is pushed: e's conjuncts for the other source are those that stand in g
+
+abbrev pub PushesLeft : ℕ → List ℕ → ℕ → ℕ → List ℕ → ℕ → ℕ → List ℕ → ℕ → ℕ → List ℕ → Type 0
+PushesLeft n s lo hi g a b d at m d′ = (e : Expression) → ExpressionHere s lo hi e → OptionalHere g a b (and-vec (for-right n (ands e)))
+    → Wrote d at (optional-words (and-vec (push-left n (ands e)))) m d′
+
+abbrev pub PushesRight : ℕ → ℕ → List ℕ → ℕ → ℕ → List ℕ → ℕ → ℕ → List ℕ → ℕ → ℕ → List ℕ → Type 0
+PushesRight n shift s lo hi g a b d at m d′ = (e : Expression) → ExpressionHere s lo hi e → OptionalHere g a b (and-vec (for-left n (ands e)))
+    → Wrote d at (optional-words (map-optional (shift-column-down shift) (and-vec (push-right n (ands e))))) m d′

@@ -1,0 +1,204 @@
+// optimizer.rs, maybe_push_join: what is pushed into a join's sources. Beside its own conjuncts a source gets, for each equijoin that stays with the join, the
+// last lookup of the other source's column, copied to its own column. The conjuncts of the other source are lent, gathered before (crate conjuncts), so that
+// no others are searched.
+ghost use Prim.Native.Nat.{_-_, _<_};
+ghost use Rattle.words.specs.Place.{ExpressionAt};
+ghost use Rattle.conjuncts.specs.Conjuncts.{OptionalAt};
+ghost use Rattle.copied_lookups.specs.Copies.{IsLookupOf, FindsLast, CopiesLast, CopiesPair, CopiesConjunct, CopiesEach, PushesLeft, PushesRight};
+
+// A source of a join.
+pub enum Source {
+    Left,
+    Right,
+}
+
+// Where an expression stands, from a word up to another.
+pub enum Place {
+    At(usize, usize),
+    None,
+}
+
+// Whether the expression from lo to hi is a lookup of column c.
+fn is_lookup_of(s: &[usize], lo: usize, hi: usize, c: usize) -> bool
+    requires { ⌜ ExpressionAt (now s) lo hi ⌝ }
+    ensures { λ r. ⌜ IsLookupOf c (now (s .entry)) lo hi r ⌝ }
+{
+    let found = column_lookup::is_column_lookup(s, lo, hi);
+    let column_lookup::Lookup::Column(d) = found else {
+        return false;
+    };
+    d == c
+}
+
+// The last lookup of column c among the conjuncts of the expression from lo to hi.
+pub fn last_lookup(s: &[usize], lo: usize, hi: usize, c: usize) -> Place
+    requires { ⌜ ExpressionAt (now s) lo hi ⌝ }
+    ensures { λ r. ⌜ FindsLast c (now (s .entry)) lo hi r ⌝ }
+{
+    if cells::tag_at(s, hi) == 10 {
+        let end = hi - 6;
+        let mid = cells::start(s, end);
+        let later = last_lookup(s, mid, end, c);
+        if let Place::At(a, b) = later {
+            return Place::At(a, b);
+        }
+        return last_lookup(s, lo, mid, c);
+    }
+    if is_lookup_of(s, lo, hi, c) {
+        return Place::At(lo, hi);
+    }
+    Place::None
+}
+
+// The last lookup of a column among the conjuncts that stand in s from lo up to hi, copied to another column, as one more conjunct.
+fn copy_last(
+    s: &[usize],
+    lo: usize,
+    hi: usize,
+    d: &mut [usize],
+    from: usize,
+    at: usize,
+    column: usize,
+    to: usize,
+) -> usize
+    requires { ⌜ OptionalAt (now s) lo hi ⌝ }
+    ensures { λ r. ⌜ CopiesLast column to (now (s .entry)) lo hi (now (d .entry)) from at r (now (d .exit)) ⌝ }
+{
+    if lo == hi {
+        return at;
+    }
+    let last = last_lookup(s, lo, hi, column);
+    let Place::At(a, b) = last else {
+        return at;
+    };
+    let m = column_numbers::replace_column(s, a, b, d, at, column, to);
+    conjuncts::and_over(d, from, at, m)
+}
+
+// What the equijoin of columns l and r copies into a source, if it stays with the join: it has a column of each source. The right source's columns are written
+// `shift` lower.
+fn copy_pair(
+    s: &[usize],
+    lo: usize,
+    hi: usize,
+    d: &mut [usize],
+    from: usize,
+    at: usize,
+    l: column_numbers::JoinedColumn,
+    r: column_numbers::JoinedColumn,
+    into: Source,
+    n: usize,
+    shift: usize,
+) -> usize
+    requires { ⌜ OptionalAt (now s) lo hi ⌝ }
+    ensures { λ q. ⌜ CopiesPair into n shift (l .0) (r .0) (now (s .entry)) lo hi (now (d .entry)) from at q (now (d .exit)) ⌝ }
+{
+    if n <= l.0 {
+        return at;
+    }
+    if r.0 < n {
+        return at;
+    }
+    match into {
+        Source::Left => copy_last(s, lo, hi, d, from, at, r.0, l.0),
+        Source::Right => {
+            let own = r.right(shift);
+            copy_last(s, lo, hi, d, from, at, l.0, own.0)
+        }
+    }
+}
+
+// What the conjunct from lo to hi copies into a source. The conjuncts of the other source stand in g from a up to b.
+fn copy_conjunct(
+    s: &[usize],
+    lo: usize,
+    hi: usize,
+    g: &[usize],
+    a: usize,
+    b: usize,
+    d: &mut [usize],
+    from: usize,
+    at: usize,
+    into: Source,
+    n: usize,
+    shift: usize,
+) -> usize
+    requires { ⌜ ExpressionAt (now s) lo hi ⌝ }
+    requires { ⌜ OptionalAt (now g) a b ⌝ }
+    ensures { λ r. ⌜ CopiesConjunct into n shift (now (s .entry)) lo hi (now (g .entry)) a b (now (d .entry)) from at r (now (d .exit)) ⌝ }
+{
+    let pair = column_lookup::equijoin(s, lo, hi);
+    let column_lookup::ColumnPair::Pair(l, r) = pair else {
+        return at;
+    };
+    copy_pair(g, a, b, d, from, at, l, r, into, n, shift)
+}
+
+// What the conjuncts of the expression from lo to hi copy into a source.
+fn copy_each(
+    s: &[usize],
+    lo: usize,
+    hi: usize,
+    g: &[usize],
+    a: usize,
+    b: usize,
+    d: &mut [usize],
+    from: usize,
+    at: usize,
+    into: Source,
+    n: usize,
+    shift: usize,
+) -> usize
+    requires { ⌜ ExpressionAt (now s) lo hi ⌝ }
+    requires { ⌜ OptionalAt (now g) a b ⌝ }
+    ensures { λ r. ⌜ CopiesEach into n shift (now (s .entry)) lo hi (now (g .entry)) a b (now (d .entry)) from at r (now (d .exit)) ⌝ }
+{
+    if cells::tag_at(s, hi) == 10 {
+        let end = hi - 6;
+        let mid = cells::start(s, end);
+        let m = copy_each(s, lo, mid, g, a, b, d, from, at, into, n, shift);
+        return copy_each(s, mid, end, g, a, b, d, from, m, into, n, shift);
+    }
+    copy_conjunct(s, lo, hi, g, a, b, d, from, at, into, n, shift)
+}
+
+// What of the predicate from lo to hi is pushed into the left source, which has n columns. The conjuncts for the right source stand in g from a up to b.
+pub fn push_left(
+    s: &[usize],
+    lo: usize,
+    hi: usize,
+    g: &[usize],
+    a: usize,
+    b: usize,
+    d: &mut [usize],
+    at: usize,
+    n: usize,
+) -> usize
+    requires { ⌜ ExpressionAt (now s) lo hi ⌝ }
+    requires { ⌜ OptionalAt (now g) a b ⌝ }
+    ensures { λ r. ⌜ PushesLeft n (now (s .entry)) lo hi (now (g .entry)) a b (now (d .entry)) at r (now (d .exit)) ⌝ }
+{
+    let m = conjuncts::for_left(s, lo, hi, d, at, at, n);
+    copy_each(s, lo, hi, g, a, b, d, at, m, Source::Left, n, 0)
+}
+
+// What is pushed into the right source, with its columns `shift` lower: n, to push it, or 0. The conjuncts for the left source stand in g from a up to b.
+pub fn push_right(
+    s: &[usize],
+    lo: usize,
+    hi: usize,
+    g: &[usize],
+    a: usize,
+    b: usize,
+    d: &mut [usize],
+    at: usize,
+    n: usize,
+    shift: usize,
+) -> usize
+    requires { ⌜ ExpressionAt (now s) lo hi ⌝ }
+    requires { ⌜ OptionalAt (now g) a b ⌝ }
+    ensures { λ r. ⌜ PushesRight n shift (now (s .entry)) lo hi (now (g .entry)) a b (now (d .entry)) at r (now (d .exit)) ⌝ }
+{
+    let m = conjuncts::for_right(s, lo, hi, d, at, at, n, shift);
+    copy_each(s, lo, hi, g, a, b, d, at, m, Source::Right, n, shift)
+}

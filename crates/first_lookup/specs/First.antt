@@ -1,0 +1,65 @@
+-- The first conjunct that is a lookup by an index, where it stands, and the conjuncts that remain.
+use Prim.Native.Nat.{ℕ}
+use mathlib.Core.Bool.{Bool, false, not, _||_, cond}
+use mathlib.Core.Path.{_≡_}
+use mathlib.Core.List.{List, [], _∷_}
+use mathlib.Core.Option.{Option, none, some}
+use lib.ListN.{getD}
+use Rattle.sql.specs.Schema.{Schema}
+use Rattle.sql.specs.Expression.{Expression, ands, is-column-lookup}
+use Rattle.sql.specs.Optimizer.{Found, has-index, find-lookup, cons-if}
+use Rattle.words.specs.Place.{ExpressionHere}
+use Rattle.conjuncts.specs.Conjuncts.{Appends}
+use Rattle.first_lookup.specs.declared.FoundLookup.{FoundLookup}
+use Rattle.first_lookup.specs.declared.FoundLookup.the-variants.{At, None}
+use Rattle.first_lookup.specs.declared.Rest.{Rest}
+
+-- The marks say of each column of a table whether a lookup can go by it.
+abbrev pub Marks : Schema → ℕ → List Bool → Type 0
+Marks schema table marks = (c : ℕ) → has-index schema table c ≡ getD marks c false
+
+-- An answer says where the conjunct stands in s, and its column; or that there is none.
+abbrev pub Stands : List ℕ → FoundLookup → Option Found → Type 0
+Stands s (At lo hi c) none = ⊥
+Stands s (At lo hi c) (some f) = (f .column-number ≡ c) × ExpressionHere s lo hi (f .conjunct)
+Stands s None none = Unit
+Stands s None (some f) = ⊥
+
+-- find-lookup of the conjuncts of the expression from lo up to hi
+abbrev pub FindsFirst : List Bool → List ℕ → ℕ → ℕ → FoundLookup → Type 0
+FindsFirst marks s lo hi r = (schema : Schema) (table : ℕ) → Marks schema table marks
+    → (e : Expression) → ExpressionHere s lo hi e → Stands s r (find-lookup schema table (ands e))
+
+-- of one conjunct
+abbrev pub by-mark : List Bool → ℕ → ℕ → Option ℕ → FoundLookup
+by-mark marks lo hi none = None
+by-mark marks lo hi (some c) = cond (getD marks c false) (At lo hi c) None
+
+abbrev pub FindsOne : List Bool → List ℕ → ℕ → ℕ → FoundLookup → Type 0
+FindsOne marks s lo hi r = (e : Expression) → ExpressionHere s lo hi e → r ≡ by-mark marks lo hi (is-column-lookup e)
+
+-- ---- what remains: the conjuncts but the first lookup of a marked column, or all of them if that was met before
+
+abbrev pub is-marked : List Bool → Option ℕ → Bool
+is-marked marks none = false
+is-marked marks (some c) = getD marks c false
+
+abbrev pub remaining : List Bool → Bool → List Expression → List Expression
+remaining marks met [] = []
+remaining marks met (e ∷ es) = cons-if (met || not (is-marked marks (is-column-lookup e))) e (remaining marks (met || is-marked marks (is-column-lookup e)) es)
+
+abbrev pub meets : List Bool → Bool → List Expression → Bool
+meets marks met [] = met
+meets marks met (e ∷ es) = meets marks (met || is-marked marks (is-column-lookup e)) es
+
+-- what the functions leave in d, behind the conjuncts that stood there from word `from` up to `at`
+pub record Left (d : List ℕ) (from at : ℕ) (xs : List Expression) (met : Bool) (r : Rest) (d′ : List ℕ) : Type 0 where
+  pub appends : Appends d from at xs (r .at) d′
+  pub meeting : r .met ≡ met
+
+abbrev pub LeavesOne : List Bool → Bool → List ℕ → ℕ → ℕ → List ℕ → ℕ → ℕ → Rest → List ℕ → Type 0
+LeavesOne marks met s lo hi d from at r d′ =
+    (e : Expression) → ExpressionHere s lo hi e → Left d from at (remaining marks met (e ∷ [])) (meets marks met (e ∷ [])) r d′
+
+abbrev pub Leaves : List Bool → Bool → List ℕ → ℕ → ℕ → List ℕ → ℕ → ℕ → Rest → List ℕ → Type 0
+Leaves marks met s lo hi d from at r d′ = (e : Expression) → ExpressionHere s lo hi e → Left d from at (remaining marks met (ands e)) (meets marks met (ands e)) r d′

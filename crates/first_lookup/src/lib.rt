@@ -1,0 +1,111 @@
+// optimizer.rs, index_lookup: the first conjunct of a scan's filter that looks up a column with an index, and the conjuncts that remain. Which columns of the
+// table a lookup can go by is lent as marks, in the columns' order.
+ghost use mathlib.Core.Path.{_≡_};
+ghost use mathlib.Core.Bool.{false};
+ghost use Prim.Native.Nat.{_-_, _<_};
+ghost use lib.ListN.{getD};
+ghost use Rattle.words.specs.Place.{ExpressionAt};
+ghost use Rattle.first_lookup.specs.First.{FindsOne, FindsFirst, LeavesOne, Leaves};
+
+// Where a conjunct stands, from a word up to another, and the column that it looks up.
+pub enum FoundLookup {
+    At(usize, usize, usize),
+    None,
+}
+
+// The words written, and whether the lookup was met.
+pub struct Rest {
+    pub at: usize,
+    pub met: bool,
+}
+
+// Whether column c is marked.
+fn has_index(marks: &[bool], c: usize) -> bool
+    ensures { λ r. ⌜ r ≡ getD (now (marks .entry)) c false ⌝ }
+{
+    if c < marks.len() {
+        return marks[c];
+    }
+    false
+}
+
+// The conjunct from lo to hi, if it looks up a marked column.
+fn find_one(s: &[usize], lo: usize, hi: usize, marks: &[bool]) -> FoundLookup
+    requires { ⌜ ExpressionAt (now s) lo hi ⌝ }
+    ensures { λ r. ⌜ FindsOne (now (marks .entry)) (now (s .entry)) lo hi r ⌝ }
+{
+    let found = column_lookup::is_column_lookup(s, lo, hi);
+    let column_lookup::Lookup::Column(c) = found else {
+        return FoundLookup::None;
+    };
+    if has_index(marks, c) {
+        return FoundLookup::At(lo, hi, c);
+    }
+    FoundLookup::None
+}
+
+// The first conjunct of the expression from lo to hi that looks up a marked column.
+pub fn find_lookup(s: &[usize], lo: usize, hi: usize, marks: &[bool]) -> FoundLookup
+    requires { ⌜ ExpressionAt (now s) lo hi ⌝ }
+    ensures { λ r. ⌜ FindsFirst (now (marks .entry)) (now (s .entry)) lo hi r ⌝ }
+{
+    if cells::tag_at(s, hi) == 10 {
+        let end = hi - 6;
+        let mid = cells::start(s, end);
+        let earlier = find_lookup(s, lo, mid, marks);
+        if let FoundLookup::At(a, b, c) = earlier {
+            return FoundLookup::At(a, b, c);
+        }
+        return find_lookup(s, mid, end, marks);
+    }
+    find_one(s, lo, hi, marks)
+}
+
+// The conjunct from lo to hi, unless it is the first that looks up a marked column, as one more conjunct in d (crate conjuncts).
+fn remaining_one(
+    s: &[usize],
+    lo: usize,
+    hi: usize,
+    d: &mut [usize],
+    from: usize,
+    at: usize,
+    marks: &[bool],
+    met: bool,
+) -> Rest
+    requires { ⌜ ExpressionAt (now s) lo hi ⌝ }
+    ensures { λ r. ⌜ LeavesOne (now (marks .entry)) met (now (s .entry)) lo hi (now (d .entry)) from at r (now (d .exit)) ⌝ }
+{
+    if met {
+        let m = conjuncts::append(s, lo, hi, d, from, at, 0);
+        return Rest { at: m, met: true };
+    }
+    let here = find_one(s, lo, hi, marks);
+    let FoundLookup::None = here else {
+        return Rest { at, met: true };
+    };
+    let m = conjuncts::append(s, lo, hi, d, from, at, 0);
+    Rest { at: m, met: false }
+}
+
+// The conjuncts of the expression from lo to hi but the first that looks up a marked column; all of them if that was met before.
+pub fn remaining(
+    s: &[usize],
+    lo: usize,
+    hi: usize,
+    d: &mut [usize],
+    from: usize,
+    at: usize,
+    marks: &[bool],
+    met: bool,
+) -> Rest
+    requires { ⌜ ExpressionAt (now s) lo hi ⌝ }
+    ensures { λ r. ⌜ Leaves (now (marks .entry)) met (now (s .entry)) lo hi (now (d .entry)) from at r (now (d .exit)) ⌝ }
+{
+    if cells::tag_at(s, hi) == 10 {
+        let end = hi - 6;
+        let mid = cells::start(s, end);
+        let l = remaining(s, lo, mid, d, from, at, marks, met);
+        return remaining(s, mid, end, d, from, l.at, marks, l.met);
+    }
+    remaining_one(s, lo, hi, d, from, at, marks, met)
+}
