@@ -1,0 +1,161 @@
+-- What a constant's cell says, and which operator a tag tells of.
+use Prim.Native.Nat.{ℕ, _+_, _/_, _%_, _^_, _<_}
+use native.Mathlib.Omega.{arith}
+use native.Mathlib.Nat.{mod-eq-of-lt, div-eq-of-lt, mod-lt, mod-add-div}
+use borrow.Author.Tests.{eqb-true, ne-eqb, leb-true}
+use mathlib.Core.Path.{_≡_, refl, sym, ap, _∙_, subst}
+use mathlib.Core.Bool.{Bool, true, false, not, _||_, cond}
+use mathlib.Core.List.{List}
+use lib.Dec.{T, eqb}
+use lib.IntN.{ℤ, pos, negsuc}
+use lib.ListN.{length}
+use lib.Ieee as Ieee
+use lib.Ieee.{binary64}
+use lib.Ieee.Bits.{toBits-ofBits, nanBits-is}
+use Rattle.value.specs.Value.{False, Unknown, True, integer, float, string, Value, truth, datum, null, boolean}
+use Rattle.value.specs.Meaning.{bytes-at, integer-bits, integer-of-bits}
+use Rattle.sql.specs.Expression.{And, Or, IsNull, IsNaN, Identity, Negate, GreaterThan, LessThan, Add, Divide, Unary, Not, function, Binary, logical, Equal, evaluate-unary, evaluate-binary}
+use Rattle.sheet.specs.Cell.{wide, the-nan}
+use Rattle.sheet.specs.Content.{signed, unsigned, text-at, unary-tag, binary-tag, constant-cell}
+use Rattle.sheet_laws.specs.Fits.{Value-fits}
+use Rattle.sheet_laws.specs.Exact.{signed-unsigned, unsigned-bound, wide-halves, low-word, high-word}
+use Rattle.cells.specs.declared.Cell.{Cell}
+use Rattle.words.specs.Words.{cell}
+use Rattle.evaluate.specs.Evaluate.{Halves, of-halves}
+
+-- ---- from a cell to its constant
+
+the-one : Ieee.toBits binary64 (Ieee.ofBits binary64 the-nan) ≡ the-nan
+unfolding Ieee.ofBits Ieee.toBits
+the-one = refl
+
+-- A pattern of 64 bits is kept by reading and writing it, if it is no NaN but the one.
+pattern-kept : (b : ℕ) → b < 2 ^ 64 → (not (Ieee.nanBits binary64 b) || eqb b the-nan) ≡ true → Ieee.toBits binary64 (Ieee.ofBits binary64 b) ≡ b
+pattern-kept b f h = go (Ieee.nanBits binary64 b) refl h
+  where
+    go : (t : Bool) → Ieee.nanBits binary64 b ≡ t → (not t || eqb b the-nan) ≡ true → Ieee.toBits binary64 (Ieee.ofBits binary64 b) ≡ b
+    go false e k = toBits-ofBits binary64 b f (subst (λ x. T (not x)) (sym e ∙ nanBits-is binary64 b) tt)
+    go true e k = let z : b ≡ the-nan = eqb-true b the-nan k in rw z the-one
+
+-- the constant of a cell with tag t and numbers a and b
+abbrev pub value-said : List ℕ → ℕ → ℕ → ℕ → Value
+value-said text t a b =
+    cond (eqb t 1) null
+    (cond (eqb t 2) (boolean (eqb a 1))
+    (cond (eqb t 3) (datum (integer (integer-of-bits (wide a b))))
+    (cond (eqb t 4) (datum (float (Ieee.toBits binary64 (Ieee.ofBits binary64 (wide a b))))) (datum (string a (bytes-at text a))))))
+
+pub value-same : (text : List ℕ) (v : Value) → Value-fits text (length text) v
+    → value-said text (cell (constant-cell v) .tag) (cell (constant-cell v) .a) (cell (constant-cell v) .b) ≡ v
+unfolding cell integer-of-bits signed text-at
+value-same text (truth False) f = refl
+value-same text (truth Unknown) f = refl
+value-same text (truth True) f = refl
+value-same text (datum (integer n)) f = ap (λ (i : ℤ). datum (integer i)) (ap signed (wide-halves (unsigned n)) ∙ signed-unsigned n f)
+value-same text (datum (float b)) f = ap (λ (n : ℕ). datum (float n)) (ap (λ (n : ℕ). Ieee.toBits binary64 (Ieee.ofBits binary64 n)) (wide-halves b) ∙ pattern-kept b (f .0) (f .1))
+value-same text (datum (string r s)) f = ap (λ (l : List ℕ). datum (string r l)) (sym (f .1))
+
+module _ {k : Cell} (text : List ℕ) (v : Value) (f : Value-fits text (length text) v) (e : k ≡ cell (constant-cell v)) where
+  pub said : value-said text (k .tag) (k .a) (k .b) ≡ v
+  said = rw e (value-same text v f)
+
+  -- by its tag
+  pub said-at : (t : ℕ) → k .tag ≡ t → value-said text t (k .a) (k .b) ≡ v
+  said-at t h = ap (λ (n : ℕ). value-said text n (k .a) (k .b)) (sym h) ∙ said
+
+  pub said-else : (k .tag ≡ 1 → ⊥) → (k .tag ≡ 2 → ⊥) → (k .tag ≡ 3 → ⊥) → (k .tag ≡ 4 → ⊥) → datum (string (k .a) (bytes-at text (k .a))) ≡ v
+  said-else g h i j = simp (ne-eqb (k .tag) 1 g, ne-eqb (k .tag) 2 h, ne-eqb (k .tag) 3 i, ne-eqb (k .tag) 4 j) at said
+
+-- The numbers of a constant's cell have 32 bits.
+pub constant-halves : (text : List ℕ) → length text < 65536 → (v : Value) → Value-fits text (length text) v → Halves (cell (constant-cell v))
+unfolding cell
+constant-halves text h (truth False) f = (omega arith, omega arith)
+constant-halves text h (truth Unknown) f = (omega arith, omega arith)
+constant-halves text h (truth True) f = (omega arith, omega arith)
+constant-halves text h (datum (integer n)) f = (low-word (unsigned n), high-word (unsigned n) (unsigned-bound n f))
+constant-halves text h (datum (float b)) f = (low-word b, high-word b (f .0))
+constant-halves text h (datum (string r s)) f =
+    (omega (arith, leb-true (r % 65536 + r / 65536) (length text) (f .0), mod-add-div r 65536, mod-lt r {m = 65536} (omega arith)), omega arith)
+
+-- ---- from a constant to its cell
+
+bits-same : (i : ℤ) → integer-bits i ≡ unsigned i
+unfolding integer-bits unsigned
+bits-same (pos n) = refl
+bits-same (negsuc n) = refl
+
+pub null-cell : of-halves 1 0 ≡ cell (constant-cell null)
+unfolding cell
+null-cell = refl
+
+pub true-cell : of-halves 2 1 ≡ cell (constant-cell (boolean true))
+unfolding cell
+true-cell = refl
+
+pub false-cell : of-halves 2 0 ≡ cell (constant-cell (boolean false))
+unfolding cell
+false-cell = refl
+
+pub integer-cell : (i : ℤ) → of-halves 3 (integer-bits i) ≡ cell (constant-cell (datum (integer i)))
+unfolding cell
+integer-cell i = ap (of-halves 3) (bits-same i)
+
+pub float-cell : (b : ℕ) → of-halves 4 b ≡ cell (constant-cell (datum (float b)))
+unfolding cell
+float-cell b = refl
+
+pub string-cell : (r : ℕ) (s : List ℕ) → r < 4294967296 → of-halves 5 r ≡ cell (constant-cell (datum (string r s)))
+unfolding cell
+string-cell r s h = rw (mod-eq-of-lt h, div-eq-of-lt h)
+
+-- ---- operators
+
+abbrev unary-of : ℕ → Unary
+unary-of t =
+    cond (eqb t 30) Not
+    (cond (eqb t 31) (function IsNull) (cond (eqb t 32) (function IsNaN) (cond (eqb t 33) (function Identity) (function Negate))))
+
+unary-same : (p : Unary) → unary-of (unary-tag p) ≡ p
+unary-same Not = refl
+unary-same (function IsNull) = refl
+unary-same (function IsNaN) = refl
+unary-same (function Identity) = refl
+unary-same (function Negate) = refl
+
+abbrev binary-of : ℕ → Binary
+binary-of t =
+    cond (eqb t 10) (logical And)
+    (cond (eqb t 11) (logical Or)
+    (cond (eqb t 12) Equal
+    (cond (eqb t 13) (function GreaterThan) (cond (eqb t 14) (function LessThan) (cond (eqb t 15) (function Add) (function Divide))))))
+
+binary-same : (p : Binary) → binary-of (binary-tag p) ≡ p
+binary-same (logical And) = refl
+binary-same (logical Or) = refl
+binary-same Equal = refl
+binary-same (function GreaterThan) = refl
+binary-same (function LessThan) = refl
+binary-same (function Add) = refl
+binary-same (function Divide) = refl
+
+module _ {o : ℕ} (p : Unary) (e : unary-tag p ≡ o) where
+  is-unary : unary-of o ≡ p
+  is-unary = ap unary-of (sym e) ∙ unary-same p
+
+  pub unary-at : (t : ℕ) → o ≡ t → (v : Value) → evaluate-unary (unary-of t) v ≡ evaluate-unary p v
+  unary-at t h v = ap (λ (q : Unary). evaluate-unary q v) (ap unary-of (sym h) ∙ is-unary)
+
+  pub unary-else : (o ≡ 30 → ⊥) → (o ≡ 31 → ⊥) → (o ≡ 32 → ⊥) → (o ≡ 33 → ⊥) → (v : Value) → evaluate-unary (function Negate) v ≡ evaluate-unary p v
+  unary-else g h i j v = ap (λ (q : Unary). evaluate-unary q v) (simp (ne-eqb o 30 g, ne-eqb o 31 h, ne-eqb o 32 i, ne-eqb o 33 j) at is-unary)
+
+module _ {o : ℕ} (p : Binary) (e : binary-tag p ≡ o) where
+  is-binary : binary-of o ≡ p
+  is-binary = ap binary-of (sym e) ∙ binary-same p
+
+  pub binary-at : (t : ℕ) → o ≡ t → (v w : Value) → evaluate-binary (binary-of t) v w ≡ evaluate-binary p v w
+  binary-at t h v w = ap (λ (q : Binary). evaluate-binary q v w) (ap binary-of (sym h) ∙ is-binary)
+
+  pub binary-else : (o ≡ 10 → ⊥) → (o ≡ 11 → ⊥) → (o ≡ 12 → ⊥) → (o ≡ 13 → ⊥) → (o ≡ 14 → ⊥) → (o ≡ 15 → ⊥)
+      → (v w : Value) → evaluate-binary (function Divide) v w ≡ evaluate-binary p v w
+  binary-else g h i j k l v w =
+      ap (λ (q : Binary). evaluate-binary q v w) (simp (ne-eqb o 10 g, ne-eqb o 11 h, ne-eqb o 12 i, ne-eqb o 13 j, ne-eqb o 14 k, ne-eqb o 15 l) at is-binary)

@@ -1,0 +1,94 @@
+// expression.rs, evaluate: the operators on constants, each by the tag of its cell; and a constant's cell as a value, and back.
+use cells::Cell;
+use value::Result;
+use value::Value;
+ghost use mathlib.Core.Path.{_≡_};
+ghost use mathlib.Core.List.{List};
+ghost use Prim.Native.Nat.{ℕ, _≤_, _<_};
+ghost use Rattle.value.specs.Meaning.{meaning};
+ghost use Rattle.sheet.specs.Cell.{wide};
+ghost use Rattle.sheet.specs.Content.{constant-cell};
+ghost use Rattle.words.specs.Words.{cell};
+ghost use Rattle.evaluate.specs.Evaluate.{Halves, of-halves, Reads, EvaluatesUnary, EvaluatesBinary};
+
+// The value that a constant's cell says.
+pub fn value_of(k: Cell) -> Value
+    requires { ⌜ Halves k ⌝ }
+    ensures { λ r. ⌜ Reads k r ⌝ }
+{
+    let t = k.tag;
+    match t {
+        1 => Value::Null,
+        2 => Value::Boolean(k.a == 1),
+        3 => Value::Integer(value::integer_of_bits(joined(k.a, k.b))),
+        4 => Value::Float(value::float_of_bits(joined(k.a, k.b))),
+        _ => Value::String(k.a as u32),
+    }
+}
+
+// The cell of a constant with this value.
+pub fn cell_of(v: Value) -> Cell
+    ensures { λ r. ⌜ ((text : List ℕ) → r ≡ cell (constant-cell (meaning text v))) ⌝ }
+{
+    match v {
+        Value::Null => constant(1, 0),
+        Value::Boolean(b) => {
+            if b {
+                return constant(2, 1);
+            }
+            constant(2, 0)
+        }
+        Value::Integer(i) => constant(3, value::integer_bits(i)),
+        Value::Float(x) => constant(4, value::float_bits(x)),
+        Value::String(r) => constant(5, r as u64),
+    }
+}
+
+// The number of 64 bits from its low and its high half.
+fn joined(low: usize, high: usize) -> u64
+    requires { ⌜ (low < 4294967296) × (high < 4294967296) ⌝ }
+    ensures { λ r. ⌜ r ≡ wide low high ⌝ }
+{
+    low as u64 + 4294967296 * (high as u64)
+}
+
+// The cell with this tag and the halves of a number of 64 bits.
+fn constant(tag: usize, bits: u64) -> Cell
+    ensures { λ r. ⌜ r ≡ of-halves tag bits ⌝ }
+{
+    Cell {
+        tag,
+        flag: 0,
+        a: (bits % 4294967296) as usize,
+        b: (bits / 4294967296) as usize,
+        c: 0,
+    }
+}
+
+// The operator with tag o, which has one operand.
+pub fn evaluate_unary(o: usize, v: Value) -> Result
+    ensures { λ r. ⌜ EvaluatesUnary o v r ⌝ }
+{
+    match o {
+        30 => value::logic::not(v),
+        31 => value::is_null(v),
+        32 => value::is_nan(v),
+        33 => arithmetic::identity(v),
+        _ => arithmetic::negate(v),
+    }
+}
+
+// The operator with tag o, which has two operands. Strings refer to bytes of `text`.
+pub fn evaluate_binary(text: &[u8], o: usize, v: Value, w: Value) -> Result
+    ensures { λ r. ⌜ EvaluatesBinary (now (text .entry)) o v w r ⌝ }
+{
+    match o {
+        10 => value::logic::and(v, w),
+        11 => value::logic::or(v, w),
+        12 => comparison::equal(text, v, w),
+        13 => comparison::greater_than(text, v, w),
+        14 => comparison::less_than(text, v, w),
+        15 => arithmetic::checked_add(v, w),
+        _ => arithmetic::checked_div(v, w),
+    }
+}

@@ -1,0 +1,85 @@
+-- What the steps at one operator do, once its operands are folded.
+use Prim.Native.Nat.{ℕ, _+_, _≤_, _<_}
+use mathlib.Core.Path.{_≡_}
+use mathlib.Core.Bool.{Bool, true, false, _&&_}
+use mathlib.Core.List.{List}
+use lib.Dec.{eqb}
+use lib.ListN.{length}
+use Rattle.value.specs.Value.{ok}
+use Rattle.value.specs.Meaning.{result}
+use Rattle.value.specs.declared.Result.{Result}
+use Rattle.sql.specs.Expression.{Unary, Binary, logical, Equal, function, Expression, constant, unary, binary, bind}
+use Rattle.sql.specs.Answer.{at-place}
+use Rattle.sql.specs.Optimizer.{Operand, deciding, neutral, undetermined, operand, fold, simplify}
+use Rattle.sheet.specs.Content.{unary-tag, binary-tag}
+use Rattle.cells.specs.declared.Cell.{Cell}
+use Rattle.cells.specs.Cells.{cell-at, tag-at}
+use Rattle.words.specs.Words.{cell, root, expression-words}
+use Rattle.words.specs.Place.{ExpressionHere}
+use Rattle.evaluate.specs.Evaluate.{Halves}
+use Rattle.fold_operator.specs.declared.Folded.{Folded}
+use Rattle.fold_operator.specs.Left.{Settled, Appended, Leaves}
+
+-- ---- operands of And and Or
+
+-- the cell of the Boolean that is written as b
+abbrev pub boolean-cell : Cell → ℕ → Bool
+boolean-cell k b = eqb (k .tag) 2 && eqb (k .a) b
+
+-- what an operand does to an operator; only And and Or have operands that do something
+abbrev pub operand-of : Binary → Expression → Operand
+operand-of (logical o) e = operand o e
+operand-of Equal e = undetermined
+operand-of (function f) e = undetermined
+
+abbrev pub is-deciding : Operand → Bool
+is-deciding deciding = true
+is-deciding neutral = false
+is-deciding undetermined = false
+
+abbrev pub is-neutral : Operand → Bool
+is-neutral deciding = false
+is-neutral neutral = true
+is-neutral undetermined = false
+
+-- of the operator with tag o and the operand with cell k
+abbrev pub Deciding : ℕ → Cell → Bool → Type 0
+Deciding o k r = (p : Binary) (e : Expression) → binary-tag p ≡ o → k ≡ cell (root e) → r ≡ is-deciding (operand-of p e)
+
+abbrev pub Neutral : ℕ → Cell → Bool → Type 0
+Neutral o k r = (p : Binary) (e : Expression) → binary-tag p ≡ o → k ≡ cell (root e) → r ≡ is-neutral (operand-of p e)
+
+-- ---- an operator over its operands
+
+-- A cell ends before word n, and can be read if it is a constant's.
+pub record Readable (d : List ℕ) (n : ℕ) : Type 0 where
+  pub first : 6 ≤ n
+  pub last : n ≤ length d
+  pub halves : tag-at d n < 6 → Halves (cell-at d n)
+
+-- the value of an operator, or the refusal for its error
+abbrev pub Writes : List ℕ → ℕ → Result → ℕ → Folded → List ℕ → Type 0
+Writes d at r place answer d′ =
+    (text : List ℕ) → at + 6 ≤ length d → Leaves d at (at-place place (bind (result text r) (λ v. ok (constant v)))) answer d′
+
+abbrev pub FoldsUnary : List ℕ → ℕ → ℕ → ℕ → ℕ → Folded → List ℕ → Type 0
+FoldsUnary d at n o place answer d′ =
+    (text : List ℕ) (p : Unary) (y : Expression) → unary-tag p ≡ o → ExpressionHere d at n y → Settled text y → n + 6 ≤ length d
+    → Leaves d at (fold place (unary p y)) answer d′
+
+-- The left operand isn't neutral: where it is, the right one alone is written.
+abbrev pub Simplifies : List ℕ → ℕ → ℕ → ℕ → ℕ → ℕ → List ℕ → Type 0
+Simplifies d at m n o r d′ =
+    (p : Binary) (x y : Expression) → binary-tag p ≡ o → ExpressionHere d at m x → ExpressionHere d m n y → is-neutral (operand-of p x) ≡ false → n + 6 ≤ length d
+    → Appended d at (expression-words (simplify (binary p x y))) r d′
+
+abbrev pub FoldsBinary : List ℕ → List ℕ → ℕ → ℕ → ℕ → ℕ → ℕ → Folded → List ℕ → Type 0
+FoldsBinary text d at m n o place answer d′ =
+    (p : Binary) (x y : Expression) → binary-tag p ≡ o → ExpressionHere d at m x → ExpressionHere d m n y → Settled text x → Settled text y
+    → is-neutral (operand-of p x) ≡ false → n + 6 ≤ length d → Leaves d at (fold place (binary p x y)) answer d′
+
+-- The left operand is neutral, and isn't in d.
+abbrev pub FoldsNeutral : List ℕ → ℕ → ℕ → Folded → Type 0
+FoldsNeutral d n place answer =
+    (text : List ℕ) (at : ℕ) (p : Binary) (x y : Expression) → is-neutral (operand-of p x) ≡ true → ExpressionHere d at n y → Settled text y
+    → Leaves d at (fold place (binary p x y)) answer d

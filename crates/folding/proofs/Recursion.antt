@@ -1,0 +1,238 @@
+-- What the recursion leaves, from what its calls have.
+use Prim.Native.Nat.{ℕ, _+_, _-_, _*_, _≤_, _<_}
+use native.Mathlib.Omega.{arith}
+use mathlib.Core.Path.{_≡_, refl, sym, ap, _∙_, subst}
+use mathlib.Core.Bool.{Bool, true, false}
+use mathlib.Core.List.{List}
+use lib.ListN.{length, take}
+use lib.Seq.{take-take}
+use Rattle.sql.specs.Expression.{Unary, Binary, Expression, constant, column, unary, binary, size}
+use Rattle.sql.specs.Answer.{Answer, done, refused, _>>=_}
+use Rattle.sql.specs.Optimizer.{fold, fold-expression}
+use Rattle.room.specs.Smaller.{expression-smaller}
+use Rattle.sound.specs.Answers.{answer-is}
+use Rattle.cells.specs.declared.Cell.{Cell}
+use Rattle.cells.specs.Cells.{cell-at, tag-at, start-at}
+use Rattle.cells.specs.Room.{Seals}
+use Rattle.cells.proofs.Laws.{nothing}
+use Rattle.words.specs.Words.{expression-words}
+use Rattle.words.specs.Place.{ExpressionHere, ExpressionAt}
+use Rattle.words.proofs.Expressions.{by-leaf, by-unary, by-binary, root-is, root-tag, here-operand, here-left, here-right}
+use Rattle.words.proofs.Expressions as expressions
+use Rattle.words.proofs.Writing.{sealed}
+use Rattle.words.proofs.Sizes.{expression-long}
+use Rattle.fold_operator.specs.declared.Folded.{Folded}
+use Rattle.fold_operator.specs.declared.Folded.the-variants as Folded
+use Rattle.fold_operator.specs.Left.{Appended, Leaves, Settled}
+use Rattle.folding.specs.Folding.{Counts, Foldable, FoldableAt, Folds, SettledAt, RightAt, FoldsRight}
+use Rattle.fold_operator.specs.Steps.{Neutral, Readable, FoldsUnary, FoldsBinary, FoldsNeutral}
+use Rattle.fold_operator.proofs.Parts.{appended, appended-part, before-stays, here-in, here-kept, leaves-moved, leaves-refused, leaves-done, leaves-words}
+use Rattle.folding.proofs.Settled.{expression-settled}
+use Rattle.fold_operator.proofs.Steps.{readable}
+
+-- an expression's words, six to a cell
+pub here-long : {s : List ℕ} {lo hi : ℕ} (e : Expression) → ExpressionHere s lo hi e → hi ≡ lo + 6 * size e
+here-long {lo = lo} e u = sym (u .part .high) ∙ ap (λ (n : ℕ). lo + n) (expression-long e)
+
+-- ---- operands
+
+module _ {text s : List ℕ} {lo hi : ℕ} where
+  pub foldable-operand : (o : Unary) (x : Expression) → Foldable text s lo hi (unary o x) → Foldable text s lo (hi - 6) x
+  foldable-operand o x f = record { here = here-operand o x (f .here); fits = f .fits }
+
+  module _ {mid : ℕ} (st : mid ≡ start-at s (hi - 6)) (o : Binary) (l r : Expression) (f : Foldable text s lo hi (binary o l r)) where
+    pub foldable-left : Foldable text s lo mid l
+    foldable-left = record { here = here-left st o l r (f .here); fits = f .fits .0 }
+
+    pub foldable-right : Foldable text s mid (hi - 6) r
+    foldable-right = record { here = here-right st o l r (f .here); fits = f .fits .1 }
+
+  pub at-expression : FoldableAt text s lo hi → ExpressionAt s lo hi
+  at-expression t = record { e = t .e; here = t .foldable .here }
+
+  pub foldable-in : FoldableAt text s lo hi → (lo + 6 ≤ hi) × (hi ≤ length s)
+  foldable-in t = expressions.at-in (at-expression t)
+
+  pub operand-at : 30 ≤ tag-at s hi → FoldableAt text s lo hi → FoldableAt text s lo (hi - 6)
+  operand-at h t = by-unary (λ e. Foldable text s lo hi e → FoldableAt text s lo (hi - 6)) (λ o x f. record { e = x; foldable = foldable-operand o x f; short = t .short })
+      (t .e) (omega (arith, root-tag (t .e) (t .foldable .here))) (t .foldable)
+
+  module _ {mid : ℕ} (st : mid ≡ start-at s (hi - 6)) (h : 10 ≤ tag-at s hi) (k : tag-at s hi < 30) where
+    pub left-at : FoldableAt text s lo hi → FoldableAt text s lo mid
+    left-at t = by-binary (λ e. Foldable text s lo hi e → FoldableAt text s lo mid) (λ o l r f. record { e = l; foldable = foldable-left st o l r f; short = t .short })
+        (t .e) (omega (arith, root-tag (t .e) (t .foldable .here))) (omega (arith, root-tag (t .e) (t .foldable .here))) (t .foldable)
+
+    pub right-at : FoldableAt text s lo hi → FoldableAt text s mid (hi - 6)
+    right-at t = by-binary (λ e. Foldable text s lo hi e → FoldableAt text s mid (hi - 6)) (λ o l r f. record { e = r; foldable = foldable-right st o l r f; short = t .short })
+        (t .e) (omega (arith, root-tag (t .e) (t .foldable .here))) (omega (arith, root-tag (t .e) (t .foldable .here))) (t .foldable)
+
+-- ---- numbers of cells
+
+module _ {text s : List ℕ} {lo hi c : ℕ} where
+  pub operand-count : FoldableAt text s lo hi → Counts lo hi c → lo + c ≤ hi
+  operand-count t k = let l = here-long (t .e) (t .foldable .here) in omega (arith, k (size (t .e)) l)
+
+  pub operands-count : 10 ≤ tag-at s hi → tag-at s hi < 30 → FoldableAt text s lo hi → Counts lo (hi - 6) c → lo + c ≤ hi
+  operands-count h k t n = by-binary (λ e. ExpressionHere s lo hi e → lo + c ≤ hi)
+      (λ o l r u. let j = here-long (binary o l r) u in omega (arith, n (size l + size r) (omega arith)))
+      (t .e) (omega (arith, root-tag (t .e) (t .foldable .here))) (omega (arith, root-tag (t .e) (t .foldable .here))) (t .foldable .here)
+
+-- ---- what an operand has folded to
+
+-- the answer of a call, by its case
+pub as-answer : (first : ℕ) {text s : List ℕ} {lo hi : ℕ} {d : List ℕ} {at : ℕ} {r q : Folded} {d′ : List ℕ} → r ≡ q
+    → Folds text first s lo hi d at r d′ → Folds text first s lo hi d at q d′
+as-answer first {d = d} {at} {d′ = d′} h g e f = subst (λ (x : Folded). Leaves d at (fold-expression first e) x d′) h (g e f)
+
+pub record Result-at (text d : List ℕ) (at room n : ℕ) (d₁ : List ℕ) : Type 0 where
+  pub stands : SettledAt text d₁ at n
+  pub within : n ≤ at + room
+  pub read : Readable d₁ n
+  pub before : take at d₁ ≡ take at d
+
+module _ {text s : List ℕ} {lo hi : ℕ} (first : ℕ) {d : List ℕ} {at m : ℕ} {d₁ : List ℕ} where
+  -- of the expression that stands there
+  pub result-here : (e y : Expression) → Foldable text s lo hi e → fold-expression first e ≡ done y → Appended d at (expression-words y) m d₁
+      → at + (hi - lo) ≤ length d → length d₁ ≡ length d → (ExpressionHere d₁ at m y × Settled text y) × (m ≤ at + (hi - lo))
+  result-here e y f h a room long =
+      let z = expression-smaller first e y h in
+      let l = here-long e (f .here) in
+      let i = expression-long y in
+      ((record { part = appended-part a (omega arith) }, answer-is (Settled text) (fold-expression first e) y (expression-settled text first e (f .fits)) h), omega (arith, a .ends))
+
+  pub result-at : FoldableAt text s lo hi → Folds text first s lo hi d at (Folded.Done m) d₁ → at + (hi - lo) ≤ length d → length d₁ ≡ length d
+      → Result-at text d at (hi - lo) m d₁
+  result-at t g room long = go (fold-expression first (t .e)) refl (g (t .e) (t .foldable))
+    where
+      go : (a : Answer Expression) → fold-expression first (t .e) ≡ a → Leaves d at a (Folded.Done m) d₁ → Result-at text d at (hi - lo) m d₁
+      go (done y) e h = let ((u, s), w) = result-here (t .e) y (t .foldable) e (h .left) room long in
+          record { stands = record { y = y; here = u; settled = s }; within = w; read = readable y (t .short) u s; before = before-stays (h .left) (omega arith) }
+      go (refused j p) e h = absurd (h .left)
+
+-- ---- fold_expression
+
+module _ {text s : List ℕ} {lo hi : ℕ} (first : ℕ) {d : List ℕ} {at : ℕ} where
+  pub folds-leaf : {k : Cell} {n : ℕ} {d′ : List ℕ} → k ≡ cell-at s hi → tag-at s hi < 10 → at + (hi - lo) ≤ length d → Seals d at at k n d′
+      → Folds text first s lo hi d at (Folded.Done n) d′
+  unfolding expression-words
+  folds-leaf {k} {n} {d′} q h room w e f = by-leaf (λ e. ExpressionHere s lo hi e → Leaves d at (fold-expression first e) (Folded.Done n) d′)
+      (λ v u. leaves-words (appended (sealed (constant v) u q refl (nothing d at) w) (omega (arith, here-long (constant v) u))))
+      (λ i u. leaves-words (appended (sealed (column i) u q refl (nothing d at) w) (omega (arith, here-long (column i) u))))
+      e (omega (arith, root-tag e (f .here))) (f .here)
+
+  pub unary-refused : {j p : ℕ} {d′ : List ℕ} → 30 ≤ tag-at s hi → Folds text first s lo (hi - 6) d at (Folded.Refused j p) d′
+      → Folds text first s lo hi d at (Folded.Refused j p) d′
+  unary-refused {j} {p} {d′} h g e f = by-unary (λ e. Foldable text s lo hi e → Leaves d at (fold-expression first e) (Folded.Refused j p) d′)
+      (λ o x f. leaves-refused (fold-expression first x) (λ y. fold (first + size x) (unary o y)) (g x (foldable-operand o x f)))
+      e (omega (arith, root-tag e (f .here))) f
+
+  pub unary-done : {c n tag-of : ℕ} {d₁ : List ℕ} {answer : Folded} {d₂ : List ℕ} → 30 ≤ tag-at s hi → tag-of ≡ tag-at s hi → Counts lo (hi - 6) c → at + (hi - lo) ≤ length d → length d₁ ≡ length d
+      → Folds text first s lo (hi - 6) d at (Folded.Done n) d₁ → FoldsUnary d₁ at n tag-of (first + c) answer d₂
+      → Folds text first s lo hi d at answer d₂
+  unary-done {c} {n} {tag-of} {d₁} {answer} {d₂} h oe k room long g w e f = by-unary (λ e. Foldable text s lo hi e → Leaves d at (fold-expression first e) answer d₂)
+      (λ o x f. let i = foldable-operand o x f in
+      let j = k (size x) (here-long x (i .here)) in
+      let (b, t) = expressions.here-in (unary o x) (f .here) in
+      leaves-done (fold-expression first x) (λ y. fold (first + size x) (unary o y)) (g x i)
+      (λ y e a. let ((u, s), v) = result-here first x y i e a (omega arith) long in
+      leaves-moved (before-stays a (omega arith))
+      (subst (λ (z : ℕ). Leaves d₁ at (fold (first + z) (unary o y)) answer d₂) j (w text o y (sym (oe ∙ root-tag (unary o x) (f .here))) u s (omega arith)))))
+      e (omega (arith, root-tag e (f .here))) f
+
+  module _ {mid : ℕ} (st : mid ≡ start-at s (hi - 6)) (h : 10 ≤ tag-at s hi) (k : tag-at s hi < 30) where
+    pub left-refused : {j p : ℕ} {d′ : List ℕ} → Folds text first s lo mid d at (Folded.Refused j p) d′ → Folds text first s lo hi d at (Folded.Refused j p) d′
+    left-refused {j} {p} {d′} g e f = by-binary (λ e. Foldable text s lo hi e → Leaves d at (fold-expression first e) (Folded.Refused j p) d′)
+        (λ o l r f. leaves-refused (fold-expression first l) (λ x. fold-expression (first + size l) r >>= λ y. fold (first + (size l + size r)) (binary o x y)) (g l (foldable-left st o l r f)))
+        e (omega (arith, root-tag e (f .here))) (omega (arith, root-tag e (f .here))) f
+
+    pub right-ready : {m : ℕ} {d₁ : List ℕ} → FoldableAt text s lo hi → at + (hi - lo) ≤ length d → first ≤ lo → length d₁ ≡ length d
+        → Folds text first s lo mid d at (Folded.Done m) d₁ → RightAt text s lo hi d₁ at first mid m
+    right-ready t room numbered long g =
+        let (b₁, b₂) = foldable-in (left-at st h k t) in
+        let (b₃, b₄) = foldable-in (right-at st h k t) in
+        let q = result-at first (left-at st h k t) g (omega arith) long in
+        record { operator = t; low-tag = h; high-tag = k; starts = st; left = q .stands; room = omega (arith, q .within); numbered = numbered }
+
+    pub left-done : {m : ℕ} {d₁ : List ℕ} {answer : Folded} {d₂ : List ℕ} → at + (hi - lo) ≤ length d → length d₁ ≡ length d
+        → Folds text first s lo mid d at (Folded.Done m) d₁ → FoldsRight text s lo hi d₁ at first mid m answer d₂ → Folds text first s lo hi d at answer d₂
+    left-done {m} {d₁} {answer} {d₂} room long g w e f = by-binary (λ e. Foldable text s lo hi e → Leaves d at (fold-expression first e) answer d₂)
+        (λ o l r f. let i = foldable-left st o l r f in
+        let (b, t) = expressions.here-in l (i .here) in
+        let (b′, t′) = expressions.here-in r (here-right st o l r (f .here)) in
+        leaves-done (fold-expression first l) (λ x. fold-expression (first + size l) r >>= λ y. fold (first + (size l + size r)) (binary o x y)) (g l i)
+        (λ x e a. let ((u, s), v) = result-here first l x i e a (omega arith) long in
+        leaves-moved (before-stays a (omega arith)) (w o l r x f u s)))
+        e (omega (arith, root-tag e (f .here))) (omega (arith, root-tag e (f .here))) f
+
+-- ---- fold_right
+
+module _ {text s : List ℕ} {lo hi : ℕ} {d : List ℕ} {at first mid m : ℕ} (t : RightAt text s lo hi d at first mid m) {c b : ℕ}
+    (kc : Counts lo mid c) (kb : Counts lo (hi - 6) b) where
+  -- the number of the right operand's first cell, and the operator's
+  numbers : (o : Binary) (l r : Expression) → Foldable text s lo hi (binary o l r) → (c ≡ size l) × (b ≡ size l + size r)
+  numbers o l r f =
+      let i = here-long l (here-left (t .starts) o l r (f .here)) in
+      let j = here-long r (here-right (t .starts) o l r (f .here)) in
+      (kc (size l) i, kb (size l + size r) (omega arith))
+
+  pub right-refused : {at₁ j p : ℕ} {d₁ : List ℕ} → Folds text (first + c) s mid (hi - 6) d at₁ (Folded.Refused j p) d₁ → FoldsRight text s lo hi d at first mid m (Folded.Refused j p) d₁
+  right-refused {at₁} {j} {p} {d₁} g o l r x f u s =
+      let (e₁, e₂) = numbers o l r f in
+      leaves-refused (fold-expression (first + size l) r) (λ y. fold (first + (size l + size r)) (binary o x y))
+      (subst (λ (n : ℕ). Leaves d at₁ (fold-expression (first + n) r) (Folded.Refused j p) d₁) e₁ (g r (foldable-right (t .starts) o l r f)))
+
+  -- the right operand in the place of a neutral left one
+  pub right-alone : {tag-of : ℕ} {k : Cell} {q : Bool} {n : ℕ} {d₁ : List ℕ} {answer : Folded} → tag-of ≡ tag-at s hi → k ≡ cell-at d m → Neutral tag-of k q → q ≡ true → length d₁ ≡ length d
+      → Folds text (first + c) s mid (hi - 6) d at (Folded.Done n) d₁ → FoldsNeutral d₁ n (first + b) answer → FoldsRight text s lo hi d at first mid m answer d₁
+  right-alone {tag-of} {k} {q} {n} {d₁} {answer} oe ke z qe long g w o l r x f u sx =
+      let (e₁, e₂) = numbers o l r f in
+      let i = foldable-right (t .starts) o l r f in
+      let (h₁, h₂) = here-in x u in
+      let (h₃, h₄) = expressions.here-in r (i .here) in
+      let room = t .room in
+      leaves-done (fold-expression (first + size l) r) (λ y. fold (first + (size l + size r)) (binary o x y))
+      (subst (λ (j : ℕ). Leaves d at (fold-expression (first + j) r) (Folded.Done n) d₁) e₁ (g r i))
+      (λ y e a. let ((v, sy), h₅) = result-here (first + size l) r y i e a (omega arith) long in
+      leaves-moved (before-stays a (omega arith))
+      (subst (λ (j : ℕ). Leaves d₁ at (fold (first + j) (binary o x y)) answer d₁) e₂
+      (w text at o x y (sym (z o x (sym (oe ∙ root-tag (binary o l r) (f .here))) (ke ∙ root-is x u)) ∙ qe) v sy)))
+
+  pub right-done : {tag-of : ℕ} {k : Cell} {q : Bool} {n : ℕ} {d₁ : List ℕ} {answer : Folded} {d₂ : List ℕ} → tag-of ≡ tag-at s hi → k ≡ cell-at d m → Neutral tag-of k q → q ≡ false → length d₁ ≡ length d
+      → Folds text (first + c) s mid (hi - 6) d m (Folded.Done n) d₁ → FoldsBinary text d₁ at m n tag-of (first + b) answer d₂
+      → FoldsRight text s lo hi d at first mid m answer d₂
+  right-done {tag-of} {k} {q} {n} {d₁} {answer} {d₂} oe ke z qe long g w o l r x f u sx =
+      let (e₁, e₂) = numbers o l r f in
+      let i = foldable-right (t .starts) o l r f in
+      let (h₁, h₂) = here-in x u in
+      let (h₃, h₄) = expressions.here-in r (i .here) in
+      let room = t .room in
+      let tag-is = sym (oe ∙ root-tag (binary o l r) (f .here)) in
+      leaves-done (fold-expression (first + size l) r) (λ y. fold (first + (size l + size r)) (binary o x y))
+      (subst (λ (j : ℕ). Leaves d m (fold-expression (first + j) r) (Folded.Done n) d₁) e₁ (g r i))
+      (λ y e a. let ((v, sy), h₅) = result-here (first + size l) r y i e a (omega arith) long in
+      let kept = before-stays a h₂ in
+      leaves-moved (sym (take-take at m d₁ h₁) ∙ (ap (take at) kept ∙ take-take at m d h₁))
+      (subst (λ (j : ℕ). Leaves d₁ at (fold (first + j) (binary o x y)) answer d₂) e₂
+      (w o x y tag-is (here-kept x kept u) v sx sy (sym (z o x tag-is (ke ∙ root-is x u)) ∙ qe) (omega arith))))
+
+-- ---- what fold_right's calls ask
+
+module _ {text s : List ℕ} {lo hi : ℕ} {d : List ℕ} {at first mid m : ℕ} (t : RightAt text s lo hi d at first mid m) where
+  pub the-left : FoldableAt text s lo mid
+  the-left = left-at (t .starts) (t .low-tag) (t .high-tag) (t .operator)
+
+  pub the-right : FoldableAt text s mid (hi - 6)
+  the-right = right-at (t .starts) (t .low-tag) (t .high-tag) (t .operator)
+
+  pub left-in : (at + 6 ≤ m) × (m ≤ length d)
+  left-in = expressions.here-in (t .left .y) (t .left .here)
+
+  -- the right operand's result, wherever it was written
+  pub right-result : {n at₁ : ℕ} {d₁ : List ℕ} (next : ℕ) → at₁ ≤ m → length d₁ ≡ length d → Folds text next s mid (hi - 6) d at₁ (Folded.Done n) d₁
+      → Result-at text d at₁ (hi - 6 - mid) n d₁
+  right-result next h long g = let (h₁, h₂) = foldable-in the-right in let room = t .room in result-at next the-right g (omega arith) long
+
+  pub both-readable : {n : ℕ} {d₁ : List ℕ} (next : ℕ) → length d₁ ≡ length d → Folds text next s mid (hi - 6) d m (Folded.Done n) d₁ → Readable d₁ m × Readable d₁ n
+  both-readable next long g =
+      let q = right-result next (omega arith) long g in
+      (readable (t .left .y) (t .operator .short) (here-kept (t .left .y) (q .before) (t .left .here)) (t .left .settled), q .read)

@@ -1,0 +1,79 @@
+// optimizer.rs, ConstantFolding of an expression in its working form: it is read from one slice, and what it folds to is appended to another.
+use fold_operator::Folded;
+ghost use Prim.Native.Nat.{ℕ, _+_, _-_, _≤_, _<_};
+ghost use mathlib.Core.Path.{_≡_};
+ghost use lib.ListN.{length};
+ghost use Rattle.folding.specs.Folding.{Counts, FoldableAt, Folds, RightAt, FoldsRight};
+
+// The number of cells from word lo up to hi.
+fn count(lo: usize, hi: usize) -> usize
+    requires { ⌜ lo ≤ hi ⌝ }
+    ensures { λ r. ⌜ Counts lo hi r ⌝ }
+{
+    (hi - lo) / 6
+}
+
+// All of the expression from lo to hi, operands first. `first` is the number of its first cell in the given sheet. What is written is never longer than
+// the expression, so that there is always room.
+pub fn fold_expression(
+    text: &[u8],
+    s: &[usize],
+    lo: usize,
+    hi: usize,
+    d: &mut [usize],
+    at: usize,
+    first: usize,
+) -> Folded
+    requires { ⌜ FoldableAt (now text) (now s) lo hi ⌝ }
+    requires { ⌜ (at + (hi - lo) ≤ length (now d)) × (first ≤ lo) ⌝ }
+    ensures { λ r. ⌜ Folds (now (text .entry)) first (now (s .entry)) lo hi (now (d .entry)) at r (now (d .exit)) ⌝ }
+{
+    let k = cells::cell_at(s, hi);
+    if k.tag < 10 {
+        return Folded::Done(cells::put(d, at, at, k));
+    }
+    let end = hi - 6;
+    if 30 <= k.tag {
+        return match fold_expression(text, s, lo, end, d, at, first) {
+            Folded::Done(n) => fold_operator::fold_unary(d, at, n, k.tag, first + count(lo, end)),
+            Folded::Refused(number, place) => Folded::Refused(number, place),
+        };
+    }
+    let mid = cells::start(s, end);
+    match fold_expression(text, s, lo, mid, d, at, first) {
+        Folded::Done(m) => fold_right(text, s, lo, hi, d, at, first, mid, m),
+        Folded::Refused(number, place) => Folded::Refused(number, place),
+    }
+}
+
+// The operator at hi once its left operand is folded, and stands in d from `at` to m; its right one starts at mid. A neutral left operand leaves only the
+// right one, which is then written in its place.
+fn fold_right(
+    text: &[u8],
+    s: &[usize],
+    lo: usize,
+    hi: usize,
+    d: &mut [usize],
+    at: usize,
+    first: usize,
+    mid: usize,
+    m: usize,
+) -> Folded
+    requires { ⌜ RightAt (now text) (now s) lo hi (now d) at first mid m ⌝ }
+    ensures { λ r. ⌜ FoldsRight (now (text .entry)) (now (s .entry)) lo hi (now (d .entry)) at first mid m r (now (d .exit)) ⌝ }
+{
+    let o = cells::tag_at(s, hi);
+    let end = hi - 6;
+    let next = first + count(lo, mid);
+    let place = first + count(lo, end);
+    if fold_operator::is_neutral(o, cells::cell_at(d, m)) {
+        return match fold_expression(text, s, mid, end, d, at, next) {
+            Folded::Done(n) => fold_operator::fold_neutral(d, n, place),
+            Folded::Refused(number, p) => Folded::Refused(number, p),
+        };
+    }
+    match fold_expression(text, s, mid, end, d, m, next) {
+        Folded::Done(n) => fold_operator::fold_binary(text, d, at, m, n, o, place),
+        Folded::Refused(number, p) => Folded::Refused(number, p),
+    }
+}
