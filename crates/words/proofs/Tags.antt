@@ -1,5 +1,5 @@
 -- Which node a tag tells of: by the number of its sources, and by the tag itself.
-use Prim.Native.Nat.{ℕ, _-_}
+use Prim.Native.Nat.{ℕ, _-_, _≤_, _<_}
 use native.Mathlib.Omega.{arith}
 use mathlib.Core.Bool.{Bool}
 use mathlib.Core.Path.{_≡_, refl, sym, ap, _∙_}
@@ -65,6 +65,23 @@ pub tagged : (p : Node) → tag (node-cell p) ≡ tag-of p
 tagged (leaf l) = leaf-tagged l
 tagged (over o n) = over-tagged o
 tagged (join outer j l r) = join-tagged outer j
+
+-- the tags of nodes
+pub tag-known : (p : Node) → (50 ≤ tag-of p) × (tag-of p < 64)
+tag-known (leaf (scan t al q)) = (omega arith, omega arith)
+tag-known (leaf (lookup by-key t al vs)) = (omega arith, omega arith)
+tag-known (leaf (lookup (by-index i) t al vs)) = (omega arith, omega arith)
+tag-known (leaf (nothing ls)) = (omega arith, omega arith)
+tag-known (leaf (values rs)) = (omega arith, omega arith)
+tag-known (over (filter e) n) = (omega arith, omega arith)
+tag-known (over (other (limit a)) n) = (omega arith, omega arith)
+tag-known (over (other (offset a)) n) = (omega arith, omega arith)
+tag-known (over (other (order ks)) n) = (omega arith, omega arith)
+tag-known (over (other (projection is)) n) = (omega arith, omega arith)
+tag-known (over (other (remap ts)) n) = (omega arith, omega arith)
+tag-known (over (other (aggregate es gs)) n) = (omega arith, omega arith)
+tag-known (join outer (nested-loop q) l r) = (omega arith, omega arith)
+tag-known (join outer (hash i j) l r) = (omega arith, omega arith)
 
 -- how many sources the tags from 50 tell of
 abbrev sources-told : List ℕ

@@ -1,0 +1,432 @@
+// plan.rs, column_label: the label of a column of a node in its working form, traced through the plan.
+ghost use mathlib.Core.Logic.{_⊎_};
+ghost use mathlib.Core.Bool.{_&&_};
+ghost use mathlib.Core.Path.{_≡_};
+ghost use Prim.Native.Nat.{_≤_};
+ghost use lib.Dec.{eqb};
+ghost use lib.ListN.{getD};
+ghost use Rattle.sql.specs.Plan;
+ghost use Rattle.cells.specs.Cells.{tag-at, start-at};
+ghost use Rattle.words.specs.Place.{NodeAt};
+ghost use Rattle.nodes.specs.Own.{OwnStart, SourceCount};
+ghost use Rattle.nodes.specs.Columns.{ColumnsAt};
+ghost use Rattle.labels.specs.Names.{first-column, NamesAt, ColumnName, TableLabel, qualifier-text, ColumnLabel};
+ghost use Rattle.labels.specs.Labels.{Labelled, ExpressionRoute, ExpressionEnds, ItemRoute, ItemEnds, RemapRoute, TargetsUp, Routes, alias-if, is-aliased, says-columns, LeafOrigin, CountedAt, LeftColumns, Steps, Traces};
+
+// The label of a column: none, a name, or a name with its table's; names are text references.
+pub enum Label {
+    Unlabelled,
+    Unqualified(usize),
+    Qualified(usize, usize),
+}
+
+// Where a node has the label of a column from: a column of its source, or what it says itself.
+pub enum Route {
+    To(usize),
+    Ends(Label),
+}
+
+// What a label comes from: a node that says it; or a table's column: the table, whether there is an alias, the alias, and the column.
+pub enum Origin {
+    Said(Label),
+    Column(usize, bool, usize, usize),
+}
+
+// A column of the node from lo to hi, which has so many columns.
+pub struct Spot {
+    pub lo: usize,
+    pub hi: usize,
+    pub column: usize,
+    pub columns: usize,
+}
+
+// One step of looking for a label: it is found, or it is that of another column.
+pub enum Next {
+    Done(Origin),
+    More(Spot),
+}
+
+// The label that the cell of a Label or an Item says.
+fn label_in(flag: usize, a: usize, b: usize) -> Label
+    ensures { λ r. ⌜ Labelled flag a b r ⌝ }
+{
+    if flag == 0 {
+        return Label::Unlabelled;
+    }
+    if flag == 1 {
+        return Label::Unqualified(a);
+    }
+    Label::Qualified(a, b)
+}
+
+// Of the expression that ends before hi.
+fn expression_route(s: &[usize], hi: usize) -> Route
+    requires { ⌜ ExpressionEnds (now s) hi ⌝ }
+    ensures { λ r. ⌜ ExpressionRoute (now (s .entry)) hi r ⌝ }
+{
+    let c = cells::cell_at(s, hi);
+    if c.tag == 6 {
+        return Route::To(c.a);
+    }
+    Route::Ends(Label::Unlabelled)
+}
+
+// Of the Item that ends before hi.
+fn item_route(s: &[usize], hi: usize) -> Route
+    requires { ⌜ ItemEnds (now s) hi ⌝ }
+    ensures { λ r. ⌜ ItemRoute (now (s .entry)) hi r ⌝ }
+{
+    let c = cells::cell_at(s, hi);
+    if c.flag == 0 {
+        return expression_route(s, hi - 6);
+    }
+    Route::Ends(label_in(c.flag, c.a, c.b))
+}
+
+// Of column i of the Projection that ends before hi.
+fn projection_route(s: &[usize], lo: usize, hi: usize, i: usize) -> Route
+    requires { ⌜ NodeAt (now s) lo hi ⌝ }
+    requires { ⌜ tag-at (now s) hi ≡ 60 ⌝ }
+    ensures { λ r. ⌜ Routes (now (s .entry)) lo hi i r ⌝ }
+{
+    let c = cells::cell_at(s, hi);
+    if c.a <= i {
+        return Route::Ends(Label::Unlabelled);
+    }
+    let end = nodes::trees_start(s, c.a - 1 - i, hi - 6);
+    item_route(s, end)
+}
+
+// Of column i of the Aggregate that ends before hi.
+fn aggregate_route(s: &[usize], lo: usize, hi: usize, i: usize) -> Route
+    requires { ⌜ NodeAt (now s) lo hi ⌝ }
+    requires { ⌜ tag-at (now s) hi ≡ 50 ⌝ }
+    ensures { λ r. ⌜ Routes (now (s .entry)) lo hi i r ⌝ }
+{
+    let c = cells::cell_at(s, hi);
+    if c.a <= i {
+        return Route::Ends(Label::Unlabelled);
+    }
+    let end = nodes::trees_start(s, c.a - 1 - i + c.b, hi - 6);
+    expression_route(s, end)
+}
+
+// Whether a Target's cell says target i.
+fn hits(flag: usize, a: usize, i: usize) -> bool
+    ensures { λ r. ⌜ r ≡ (eqb flag 1 && eqb a i) ⌝ }
+{
+    if flag == 1 {
+        return a == i;
+    }
+    false
+}
+
+// Of column i under the Targets from lo to hi.
+fn remap_route(s: &[usize], lo: usize, hi: usize, i: usize) -> Route
+    requires { ⌜ TargetsUp (now s) lo hi ⌝ }
+    ensures { λ r. ⌜ RemapRoute (now (s .entry)) lo hi i r ⌝ }
+{
+    let mut from: usize = 0;
+    let mut at = lo;
+    while at < hi {
+        at += 6;
+        let c = cells::cell_at(s, at);
+        if hits(c.flag, c.a, i) {
+            return Route::To(from);
+        }
+        from += 1;
+    }
+    Route::Ends(Label::Unlabelled)
+}
+
+// Of column i of an Aggregate, a Projection or a Remap, whose own words start at m.
+fn own_route(s: &[usize], lo: usize, hi: usize, m: usize, i: usize) -> Route
+    requires { ⌜ NodeAt (now s) lo hi ⌝ }
+    requires { ⌜ SourceCount (now s) lo hi 1 ⌝ }
+    requires { ⌜ OwnStart (now s) lo hi m ⌝ }
+    requires { ⌜ (tag-at (now s) hi ≡ 50) ⊎ (60 ≤ tag-at (now s) hi) ⌝ }
+    ensures { λ r. ⌜ Routes (now (s .entry)) lo hi i r ⌝ }
+{
+    let t = cells::tag_at(s, hi);
+    if t == 50 {
+        return aggregate_route(s, lo, hi, i);
+    }
+    if t == 60 {
+        return projection_route(s, lo, hi, i);
+    }
+    remap_route(s, m, hi - 6, i)
+}
+
+// Whether the cell of a Scan or a lookup says an alias.
+fn aliased(tag: usize, flag: usize) -> bool
+    ensures { λ r. ⌜ r ≡ is-aliased tag flag ⌝ }
+{
+    if tag == 62 {
+        return 2 <= flag;
+    }
+    1 <= flag
+}
+
+// What the label of column i of a node without sources comes from.
+fn leaf_origin(s: &[usize], lo: usize, hi: usize, i: usize) -> Origin
+    requires { ⌜ NodeAt (now s) lo hi ⌝ }
+    requires { ⌜ SourceCount (now s) lo hi 0 ⌝ }
+    ensures { λ r. ⌜ LeafOrigin (now (s .entry)) lo hi i r ⌝ }
+{
+    let c = cells::cell_at(s, hi);
+    if c.tag == 57 {
+        if c.a <= i {
+            return Origin::Said(Label::Unlabelled);
+        }
+        let k = cells::cell_at(s, lo + 6 * i + 6);
+        return Origin::Said(label_in(k.flag, k.a, k.b));
+    }
+    if c.tag == 63 {
+        return Origin::Said(Label::Unlabelled);
+    }
+    Origin::Column(c.a, aliased(c.tag, c.flag), c.b, i)
+}
+
+// Whether a node with this tag and one source has columns of its own.
+fn own_columns(tag: usize) -> bool
+    ensures { λ r. ⌜ r ≡ says-columns tag ⌝ }
+{
+    if tag == 50 {
+        return true;
+    }
+    60 <= tag
+}
+
+// One step from column i of a node with one source, which ends at m; the node has w columns.
+fn next_over(
+    s: &[usize],
+    lo: usize,
+    hi: usize,
+    m: usize,
+    i: usize,
+    w: usize,
+    widths: &[usize],
+) -> Next
+    requires { ⌜ CountedAt (now widths) (now s) lo hi w ⌝ }
+    requires { ⌜ SourceCount (now s) lo hi 1 ⌝ }
+    requires { ⌜ OwnStart (now s) lo hi m ⌝ }
+    ensures { λ r. ⌜ Steps (now (widths .entry)) (now (s .entry)) lo hi i w r ⌝ }
+{
+    let t = cells::tag_at(s, hi);
+    if own_columns(t) {
+        let route = own_route(s, lo, hi, m, i);
+        match route {
+            Route::Ends(l) => {
+                return Next::Done(Origin::Said(l));
+            }
+            Route::To(j) => {
+                let n = nodes::columns(s, lo, m, widths);
+                return Next::More(Spot {
+                    lo: lo,
+                    hi: m,
+                    column: j,
+                    columns: n,
+                });
+            }
+        }
+    }
+    Next::More(Spot {
+        lo: lo,
+        hi: m,
+        column: i,
+        columns: w,
+    })
+}
+
+// The number of columns of the left source, which ends at mid, of a node whose right source ends at m and that has w columns. The shorter source is
+// counted, so that the counts on the way to a column are never long.
+fn left_columns(
+    s: &[usize],
+    lo: usize,
+    hi: usize,
+    m: usize,
+    mid: usize,
+    w: usize,
+    widths: &[usize],
+) -> usize
+    requires { ⌜ CountedAt (now widths) (now s) lo hi w ⌝ }
+    requires { ⌜ SourceCount (now s) lo hi 2 ⌝ }
+    requires { ⌜ OwnStart (now s) lo hi m ⌝ }
+    requires { ⌜ mid ≡ start-at (now s) m ⌝ }
+    ensures { λ r. ⌜ LeftColumns (now (widths .entry)) (now (s .entry)) lo hi w r ⌝ }
+{
+    if mid - lo <= m - mid {
+        return nodes::columns(s, lo, mid, widths);
+    }
+    let right = nodes::columns(s, mid, m, widths);
+    w - right
+}
+
+// One step from column i of a node with two sources, of which the right one ends at m; the node has w columns.
+fn next_join(
+    s: &[usize],
+    lo: usize,
+    hi: usize,
+    m: usize,
+    i: usize,
+    w: usize,
+    widths: &[usize],
+) -> Next
+    requires { ⌜ CountedAt (now widths) (now s) lo hi w ⌝ }
+    requires { ⌜ SourceCount (now s) lo hi 2 ⌝ }
+    requires { ⌜ OwnStart (now s) lo hi m ⌝ }
+    ensures { λ r. ⌜ Steps (now (widths .entry)) (now (s .entry)) lo hi i w r ⌝ }
+{
+    let mid = cells::start(s, m);
+    let left = left_columns(s, lo, hi, m, mid, w, widths);
+    if i < left {
+        return Next::More(Spot {
+            lo: lo,
+            hi: mid,
+            column: i,
+            columns: left,
+        });
+    }
+    Next::More(Spot {
+        lo: mid,
+        hi: m,
+        column: i - left,
+        columns: w - left,
+    })
+}
+
+// One step from column i of the node from lo to hi, which has w columns.
+fn next_of(s: &[usize], lo: usize, hi: usize, i: usize, w: usize, widths: &[usize]) -> Next
+    requires { ⌜ CountedAt (now widths) (now s) lo hi w ⌝ }
+    ensures { λ r. ⌜ Steps (now (widths .entry)) (now (s .entry)) lo hi i w r ⌝ }
+{
+    let n = nodes::source_count(s, lo, hi);
+    if n == 0 {
+        return Next::Done(leaf_origin(s, lo, hi, i));
+    }
+    let m = nodes::own_start(s, lo, hi);
+    if n == 1 {
+        return next_over(s, lo, hi, m, i, w, widths);
+    }
+    next_join(s, lo, hi, m, i, w, widths)
+}
+
+// What the label of column i of the node from lo to hi comes from.
+fn trace(s: &[usize], lo: usize, hi: usize, i: usize, widths: &[usize]) -> Origin
+    requires { ⌜ ColumnsAt (now widths) (now s) lo hi ⌝ }
+    ensures { λ r. ⌜ Traces (now (widths .entry)) (now (s .entry)) lo hi i r ⌝ }
+{
+    let mut start = lo;
+    let mut end = hi;
+    let mut column = i;
+    let mut columns = nodes::columns(s, lo, hi, widths);
+    loop {
+        let step = next_of(s, start, end, column, columns, widths);
+        match step {
+            Next::Done(origin) => {
+                return origin;
+            }
+            Next::More(spot) => {
+                start = spot.lo;
+                end = spot.hi;
+                column = spot.column;
+                columns = spot.columns;
+            }
+        }
+    }
+}
+
+// What stands at index i, or 0 past the end.
+fn entry(list: &[usize], i: usize) -> usize
+    ensures { λ r. ⌜ r ≡ getD (now (list .entry)) i 0 ⌝ }
+{
+    if i < list.len() {
+        return list[i];
+    }
+    0
+}
+
+// Where table t's columns start among all columns.
+fn first_column(widths: &[usize], t: usize) -> usize
+    requires { ⌜ first-column (now widths) t ≤ 256 ⌝ }
+    ensures { λ r. ⌜ r ≡ first-column (now (widths .entry)) t ⌝ }
+{
+    let mut first: usize = 0;
+    let mut k: usize = 0;
+    while k < t {
+        first += entry(widths, k);
+        k += 1;
+    }
+    first
+}
+
+// The name of column i of table t, or 0 where there is none.
+fn column_name(t: usize, i: usize, widths: &[usize], names: &[usize], columns: &[usize]) -> usize
+    requires { ⌜ NamesAt (now widths) (now names) (now columns) ⌝ }
+    ensures { λ r. ⌜ ColumnName (now (widths .entry)) (now (names .entry)) (now (columns .entry)) t i r ⌝ }
+{
+    if entry(widths, t) <= i {
+        return 0;
+    }
+    entry(columns, first_column(widths, t) + i)
+}
+
+// The alias if there is one, also an empty one, otherwise the table's name; both are text references.
+pub fn qualifier(aliased: bool, alias: usize, name: usize) -> usize
+    ensures { λ r. ⌜ r ≡ Plan.qualifier (alias-if aliased alias) name ⌝ }
+{
+    if aliased {
+        return alias;
+    }
+    name
+}
+
+// The same of the two texts: both are lent, and the chosen one is handed back.
+pub fn qualifier_text<'a>(aliased: bool, alias: &'a [u8], name: &'a [u8]) -> &'a [u8]
+    ensures { λ r. ⌜ now r ≡ qualifier-text aliased (now (alias .entry)) (now (name .entry)) ⌝ }
+{
+    if aliased {
+        return alias;
+    }
+    name
+}
+
+fn table_label(
+    t: usize,
+    aliased: bool,
+    alias: usize,
+    i: usize,
+    widths: &[usize],
+    names: &[usize],
+    columns: &[usize],
+) -> Label
+    requires { ⌜ NamesAt (now widths) (now names) (now columns) ⌝ }
+    ensures { λ r. ⌜ TableLabel (now (widths .entry)) (now (names .entry)) (now (columns .entry)) t aliased alias i r ⌝ }
+{
+    let q = qualifier(aliased, alias, entry(names, t));
+    Label::Qualified(q, column_name(t, i, widths, names, columns))
+}
+
+// The label of column i of the node from lo to hi. widths[t] is the number of columns of table t, names[t] its name, and columns are the names of all
+// columns, table by table.
+pub fn column_label(
+    s: &[usize],
+    lo: usize,
+    hi: usize,
+    i: usize,
+    widths: &[usize],
+    names: &[usize],
+    columns: &[usize],
+) -> Label
+    requires { ⌜ ColumnsAt (now widths) (now s) lo hi ⌝ }
+    requires { ⌜ NamesAt (now widths) (now names) (now columns) ⌝ }
+    ensures { λ r. ⌜ ColumnLabel (now (widths .entry)) (now (names .entry)) (now (columns .entry)) (now (s .entry)) lo hi i r ⌝ }
+{
+    let origin = trace(s, lo, hi, i, widths);
+    match origin {
+        Origin::Said(l) => l,
+        Origin::Column(t, aliased, alias, c) => {
+            table_label(t, aliased, alias, c, widths, names, columns)
+        }
+    }
+}

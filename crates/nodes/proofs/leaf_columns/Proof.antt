@@ -1,0 +1,60 @@
+use Rattle.nodes.proofs.Widths.{columns-nothing, columns-no-rows, rows-at, row-in, columns-values, columns-table}
+use Rattle.nodes.proofs.Own.{at-in}
+use Prim.Native.Nat.{ℕ, _+_, _-_, _*_, _≤_, _<_}
+use native.Mathlib.Omega.{arith}
+use mathlib.Core.Path.{_≡_, refl, sym, ap, _∙_, subst}
+use mathlib.Core.List.{List, [], _∷_, _++_}
+use lib.ListN.{length, take, drop}
+use borrow.Author.Needs.{needs}
+use Rattle.nodes.proofs.leaf_columns.Statement.{statement}
+use Rattle.nodes.proofs.leaf_columns.Tie as tie
+use Rattle.nodes.proofs.leaf_columns.Reads as reads
+use Rattle.nodes.proofs.leaf_columns.Lts as lts
+use Rattle.cells.proofs.cell_at.Reads as cell-at-reads
+use Rattle.nodes.proofs.table_columns.Reads as table-columns-reads
+use Rattle.nodes.proofs.trees_start.Reads as trees-start-reads
+
+cell-at-requires : tie.Need-cell-at-requires
+cell-at-requires c κs = let (h, k) = at-in (c .before .before .pre .0) in (omega arith, k)
+
+returns : tie.Need-returns
+returns c = columns-nothing (c .before .before .cell-at .ensures) (c .if1 .taken)
+
+returns-2 : tie.Need-returns-2
+returns-2 c = columns-no-rows (c .before .before .before .before .before .before .cell-at .ensures) (c .before .before .if2 .taken) (c .if3 .taken)
+
+sub-trees-start : tie.Need-sub-trees-start
+sub-trees-start c = search needs
+
+sub-trees-start-2 : tie.Need-sub-trees-start-2
+sub-trees-start-2 c = omega (arith, at-in (c .before .before .before .before .before .before .before .before .before .before .pre .0) .0)
+
+trees-start-requires : tie.Need-trees-start-requires
+trees-start-requires c κs = rows-at (c .before .before .before .before .before .before .before .cell-at .ensures) (c .before .before .before .if2 .taken) (c .before .if3 .left) (c .before .before .before .before .before .before .before .before .before .before .pre .0)
+
+cell-at-requires-2 : tie.Need-cell-at-requires-2
+cell-at-requires-2 c κs = row-in (c .before .before .before .before .before .before .before .before .cell-at .ensures) (c .before .before .before .before .if2 .taken) (c .before .before .if3 .left) (c .trees-start .ensures) (c .before .before .before .before .before .before .before .before .before .before .before .pre .0)
+
+returns-3 : tie.Need-returns-3
+returns-3 c = columns-values (c .before .before .before .before .before .before .before .before .before .cell-at .ensures) (c .before .before .before .before .before .if2 .taken) (c .before .before .before .if3 .left) (c .before .trees-start .ensures) (c .cell-at2 .ensures)
+
+table-columns-requires : tie.Need-table-columns-requires
+table-columns-requires c κs = search needs
+
+returns-4 : tie.Need-returns-4
+returns-4 c = columns-table (c .before .before .before .before .before .cell-at .ensures) (c .before .before .before .before .before .before .before .before .pre .1) (c .before .before .before .if1 .left) (c .before .if2 .left) (c .table-columns .ensures)
+
+pub leaf-columns-spec : {M : Type 1} → statement M
+leaf-columns-spec =
+    tie.close
+    (tie.spec
+    cell-at-requires
+    returns
+    returns-2
+    sub-trees-start
+    sub-trees-start-2
+    trees-start-requires
+    cell-at-requires-2
+    returns-3
+    table-columns-requires
+    returns-4)

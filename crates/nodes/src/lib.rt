@@ -1,0 +1,172 @@
+// Nodes in their working form: where the sources and the parts of a node stand, what columns it emits and how they are labelled.
+ghost use mathlib.Core.Logic.{_⊎_};
+ghost use mathlib.Core.Path.{_≡_};
+ghost use Prim.Native.Nat.{ℕ, _+_, _-_, _≤_, _<_, max};
+ghost use lib.ListN.{getD};
+ghost use Rattle.cells.specs.Cells.{tag-at};
+ghost use Rattle.words.specs.Place.{NodeAt};
+ghost use Rattle.nodes.specs.Trees.{TreesAt, trees-start};
+ghost use Rattle.nodes.specs.Own.{OwnStart, SourceCount};
+ghost use Rattle.nodes.specs.Columns.{ColumnsAt, ColumnCount, past, TargetsAt, RemapColumns, GoesThrough};
+
+// Where the last n trees start that end before hi.
+pub fn trees_start(s: &[usize], n: usize, hi: usize) -> usize
+    requires { ⌜ TreesAt (now s) n hi ⌝ }
+    ensures { λ r. ⌜ r ≡ trees-start (now (s .entry)) n hi ⌝ }
+{
+    let mut at = hi;
+    let mut i = n;
+    while 0 < i {
+        at = cells::start(s, at);
+        i -= 1;
+    }
+    at
+}
+
+// How many sources a node has, by its tag, from 50 Aggregate to 63 Values.
+const SOURCES: [usize; 14] = [1, 1, 2, 0, 0, 1, 2, 0, 1, 1, 1, 1, 0, 0];
+
+// How many sources the node from lo to hi has: none, one or two.
+pub fn source_count(s: &[usize], lo: usize, hi: usize) -> usize
+    requires { ⌜ NodeAt (now s) lo hi ⌝ }
+    ensures { λ r. ⌜ SourceCount (now (s .entry)) lo hi r ⌝ }
+{
+    let tag = cells::tag_at(s, hi);
+    SOURCES[tag - 50]
+}
+
+// Where the own words of the node from lo to hi start: those of its parts, between its sources and its cell.
+pub fn own_start(s: &[usize], lo: usize, hi: usize) -> usize
+    requires { ⌜ NodeAt (now s) lo hi ⌝ }
+    ensures { λ r. ⌜ OwnStart (now (s .entry)) lo hi r ⌝ }
+{
+    let c = cells::cell_at(s, hi);
+    let n = arity::children_of(c.tag, c.flag, c.a, c.b, c.c);
+    if n.nodes == 0 {
+        return lo;
+    }
+    trees_start(s, n.parts + n.aggs, hi - 6)
+}
+
+// The number of columns of table t; a table that there isn't has none.
+fn table_columns(widths: &[usize], t: usize) -> usize
+    ensures { λ r. ⌜ r ≡ getD (now (widths .entry)) t 0 ⌝ }
+{
+    if t < widths.len() {
+        return widths[t];
+    }
+    0
+}
+
+// The larger of n and one past the target that a Target's cell says, if it says one.
+fn past_target(n: usize, flag: usize, a: usize) -> usize
+    requires { ⌜ past flag a ≤ 256 ⌝ }
+    ensures { λ r. ⌜ r ≡ max n (past flag a) ⌝ }
+{
+    if flag == 1 {
+        if n <= a {
+            return a + 1;
+        }
+        return n;
+    }
+    n
+}
+
+// One past the highest target of the Targets from lo to hi.
+fn remap_columns(s: &[usize], lo: usize, hi: usize) -> usize
+    requires { ⌜ TargetsAt (now s) lo hi ⌝ }
+    ensures { λ r. ⌜ RemapColumns (now (s .entry)) lo hi r ⌝ }
+{
+    let mut n: usize = 0;
+    let mut i = lo;
+    while i < hi {
+        i += 6;
+        let c = cells::cell_at(s, i);
+        n = past_target(n, c.flag, c.a);
+    }
+    n
+}
+
+// The columns of a node without sources.
+fn leaf_columns(s: &[usize], lo: usize, hi: usize, widths: &[usize]) -> usize
+    requires { ⌜ NodeAt (now s) lo hi ⌝ }
+    requires { ⌜ SourceCount (now s) lo hi 0 ⌝ }
+    ensures { λ r. ⌜ ColumnCount (now (widths .entry)) (now (s .entry)) lo hi r ⌝ }
+{
+    let c = cells::cell_at(s, hi);
+    if c.tag == 57 {
+        return c.a;
+    }
+    if c.tag == 63 {
+        if c.a == 0 {
+            return 0;
+        }
+        let first = trees_start(s, c.a - 1, hi - 6);
+        let row = cells::cell_at(s, first);
+        return row.a;
+    }
+    table_columns(widths, c.a)
+}
+
+// The columns of an Aggregate, a Projection or a Remap, whose own words start at m.
+fn own_columns(s: &[usize], lo: usize, hi: usize, m: usize, widths: &[usize]) -> usize
+    requires { ⌜ ColumnsAt (now widths) (now s) lo hi ⌝ }
+    requires { ⌜ SourceCount (now s) lo hi 1 ⌝ }
+    requires { ⌜ OwnStart (now s) lo hi m ⌝ }
+    requires { ⌜ (tag-at (now s) hi ≡ 50) ⊎ (60 ≤ tag-at (now s) hi) ⌝ }
+    ensures { λ r. ⌜ ColumnCount (now (widths .entry)) (now (s .entry)) lo hi r ⌝ }
+{
+    let c = cells::cell_at(s, hi);
+    if c.tag == 50 {
+        return c.b + c.a;
+    }
+    if c.tag == 60 {
+        return c.a;
+    }
+    remap_columns(s, m, hi - 6)
+}
+
+// Whether a node's columns are those of its sources, by its tag, from 50 Aggregate to 63 Values: Filter, Limit, Offset, Order and the joins.
+const THROUGH: [usize; 14] = [0, 1, 1, 0, 0, 1, 1, 0, 1, 1, 0, 0, 0, 0];
+
+fn goes_through(s: &[usize], lo: usize, hi: usize) -> usize
+    requires { ⌜ NodeAt (now s) lo hi ⌝ }
+    ensures { λ r. ⌜ GoesThrough (now (s .entry)) lo hi r ⌝ }
+{
+    let tag = cells::tag_at(s, hi);
+    THROUGH[tag - 50]
+}
+
+// The columns of a node that says them itself; its own words start at m.
+fn said_columns(s: &[usize], lo: usize, hi: usize, m: usize, widths: &[usize]) -> usize
+    requires { ⌜ ColumnsAt (now widths) (now s) lo hi ⌝ }
+    requires { ⌜ OwnStart (now s) lo hi m ⌝ }
+    requires { ⌜ GoesThrough (now s) lo hi 0 ⌝ }
+    ensures { λ r. ⌜ ColumnCount (now (widths .entry)) (now (s .entry)) lo hi r ⌝ }
+{
+    if source_count(s, lo, hi) == 0 {
+        return leaf_columns(s, lo, hi, widths);
+    }
+    own_columns(s, lo, hi, m, widths)
+}
+
+// plan.rs, columns: how many columns the node from lo to hi emits. widths[t] is the number of columns of table t. The node's cells are met from the
+// last to the first: one whose columns are those of its sources gives way to these, which end where its own words start.
+pub fn columns(s: &[usize], lo: usize, hi: usize, widths: &[usize]) -> usize
+    requires { ⌜ ColumnsAt (now widths) (now s) lo hi ⌝ }
+    ensures { λ r. ⌜ ColumnCount (now (widths .entry)) (now (s .entry)) lo hi r ⌝ }
+{
+    let mut total: usize = 0;
+    let mut end = hi;
+    while lo < end {
+        let from = cells::start(s, end);
+        let m = own_start(s, from, end);
+        if goes_through(s, from, end) == 1 {
+            end = m;
+            continue;
+        }
+        total += said_columns(s, from, end, m, widths);
+        end = from;
+    }
+    total
+}
