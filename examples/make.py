@@ -48,8 +48,8 @@ examples = {
     ),
     "p9": (sheet(Scan(one, Equal(A, null())), [one]), "accepted cells 4 columns 1"),
     "p10": (
-        sheet(NestedLoopJoin(Values(Row(integer(1), integer(1))), Values(Row()), Equal(A, B))),
-        "accepted cells 10 columns 2",
+        sheet(NestedLoopJoin(Values(Row(integer(1), integer(2))), Values(Row(integer(1), integer(2))), Equal(A, B))),
+        "accepted cells 12 columns 4",
     ),
     # Refusals. The last word says 69 bytes, and there are 68.
     "refused-2": (pack([cell(3), cell(45, a=1), cell(63, a=1)], length=69), "refused 2 place 0"),
