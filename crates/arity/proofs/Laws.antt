@@ -1,66 +1,112 @@
--- The table says of every cell what the definitions say: one equation for each rule, between two lists over all tags, which antt computes.
+-- What the definitions say of the tags in a range is one equation between two lists, which antt computes.
 -- Assumes nothing.
-use Prim.Native.Nat.{ℕ, zero, suc, _/_, _%_, _<_}
+use Prim.Native.Nat.{ℕ, zero, suc, _+_, _%_, _≤_, _<_}
 use native.Mathlib.Omega.{arith}
+use native.Mathlib.Decide.{decLt}
+use mathlib.Core.Logic.{_⊎_, inl, inr, ⊎-elim}
 use mathlib.Core.Path.{_≡_, refl, sym, ap, _∙_}
 use mathlib.Core.Bool.{Bool, true, false, _&&_}
-use mathlib.Core.List.{List, map}
+use mathlib.Core.List.{List, [], _∷_, map}
 use mathlib.Core.Option.{Option, none, some}
-use lib.Dec.{ltb, eqb}
-use lib.ListN.{getD, List·getD-map}
-use borrow.Author.Tests.{ltb-true}
+use lib.Dec.{eqb}
+use lib.ListN.{getD, List·getD-map, List·getD-eq-default}
+use Rattle.sql.specs.Plan.{up-to}
 use Rattle.sheet.specs.Cell.{Cell, Tag, unknown, not-carried, carried, tags, tag-of, fields-ok, float-ok, cell-ok}
-use Rattle.sheet.specs.Content.{Content, Reader, readers, content-of, bit, bit0}
-use Rattle.arity.specs.Arity.{sort-of, children-of}
-use Rattle.arity.specs.Table.{entries, sort-in, children-in}
+use Rattle.sheet.specs.Content.{Content, Reader, readers, content-of, bit}
+use Rattle.arity.specs.Arity.{sort-of, asking, children-of, Sorted, Asked}
+use Rattle.arity.specs.declared.Children.{Children}
 
--- What two tables say is the same at each index if it is so as lists, and for the entries that stand for those past the end.
-same-at : {A B C : Type 0} (f : A → C) (g : B → C) (l : List A) (m : List B) (d : A) (e : B) → f d ≡ g e → map f l ≡ map g m
-    → (n : ℕ) → f (getD l n d) ≡ g (getD m n e)
-same-at f g l m d e p q n =
-    sym (List·getD-map f l n d) ∙ ap (λ (x : List _). getD x n (f d)) q ∙ ap (λ (x : _). getD (map g m) n x) p ∙ List·getD-map g m n e
+-- ---- ranges
+
+lt-or-ge : (a b : ℕ) → (a < b) ⊎ (b ≤ a)
+lt-or-ge a b = go (decLt a b)
+  where
+    go : Dec (a < b) → (a < b) ⊎ (b ≤ a)
+    go (yes h) = inl h
+    go (no h) = inr (omega arith)
+
+abbrev rest : {A : Type 0} → List A → List A
+rest [] = []
+rest (x ∷ l) = l
+
+-- Two functions agree on a number of a range, if they do on the list of all its numbers.
+pub same-in : {A : Type 0} (f g : ℕ → A) (from n : ℕ) → map f (up-to from n) ≡ map g (up-to from n) → (i : ℕ) → from ≤ i → i < from + n → f i ≡ g i
+same-in f g from zero e i h j = absurd (omega arith)
+same-in f g from (suc n) e i h j =
+    ⊎-elim (λ (z : from < i). same-in f g (suc from) n (ap rest e) i (omega arith) (omega arith))
+    (λ (z : i ≤ from). let k : i ≡ from = omega arith in ap f k ∙ ap (λ (l : List _). getD l 0 (g from)) e ∙ sym (ap g k)) (lt-or-ge from i)
+
+-- for a tag past the list of readers
+abbrev no-cell : Reader
+no-cell text x = none
 
 -- a flag's bit 0, as a number
-bit0-is : (x : Cell) → bit (bit0 x) ≡ x .flag % 2
-bit0-is x = go (x .flag % 2) (omega arith)
+pub bit0-is : (flag : ℕ) → bit (eqb (flag % 2) 1) ≡ flag % 2
+bit0-is flag = go (flag % 2) (omega arith)
   where
     go : (n : ℕ) → n < 2 → bit (eqb n 1) ≡ n
     go zero h = refl
     go (suc zero) h = refl
     go (suc (suc n)) h = absurd (omega arith)
 
-module _ (text : List ℕ) (x : Cell) where
-  pub sort-rule : sort-of (content-of text x) ≡ sort-in (getD entries (x .tag) 0)
-  unfolding content-of entries
-  sort-rule = same-at (λ (r : Reader). sort-of (r text x)) sort-in readers entries (λ t c. none) 0 refl refl (x .tag)
+-- ---- sorts
 
-  pub children-rule : children-of (content-of text x) ≡ children-in x (getD entries (x .tag) 0)
-  unfolding content-of entries
-  children-rule =
-      same-at (λ (r : Reader). children-of (r text x)) (children-in x) readers entries (λ t c. none) 0 refl (simp bit0-is) (x .tag)
+module _ {tag : ℕ} where
+  -- The sort of the tags from one on is what a function says.
+  pub sorted-by : (f : ℕ → ℕ) (from n : ℕ) → ((text : List ℕ) (x : Cell) → map (λ t. sort-of (getD readers t no-cell text x)) (up-to from n) ≡ map f (up-to from n))
+      → from ≤ tag → tag < from + n → f tag < 10 → Sorted tag (f tag)
+  unfolding content-of
+  sorted-by f from n e h j k =
+      record {
+        is = λ text x q. sym (ap (λ (t : ℕ). sort-of (getD readers t no-cell text x)) q ∙ same-in (λ t. sort-of (getD readers t no-cell text x)) f from n (e text x) tag h j);
+        small = k;
+      }
 
--- The digits that are looked up are within the list of told numbers, and no cell asks for more than two nodes.
-pub record Digits (digits : ℕ) : Type 0 where
-  pub parts-told : digits / 1000 % 10 < 8
-  pub aggs-told : digits / 10000 < 8
-  pub nodes-few : digits / 100 % 10 < 3
+  pub unsorted : 64 ≤ tag → Sorted tag 0
+  unfolding content-of
+  unsorted h =
+      record {
+        is = λ text x q. sym (ap (λ (r : Reader). sort-of (r text x)) (ap (λ (t : ℕ). getD readers t no-cell) q ∙ List·getD-eq-default readers no-cell {n = tag} h));
+        small = omega arith;
+      }
 
-pub digits-known : (tag : ℕ) → Digits (getD entries tag 0)
-unfolding entries
-digits-known tag =
-    record {
-      parts-told = ltb-true _ _ (below (λ d. d / 1000 % 10) 8 refl refl);
-      aggs-told = ltb-true _ _ (below (λ d. d / 10000) 8 refl refl);
-      nodes-few = ltb-true _ _ (below (λ d. d / 100 % 10) 3 refl refl);
-    }
-  where
-    below : (f : ℕ → ℕ) (bound : ℕ) → ltb (f 0) bound ≡ true → map (λ d. ltb (f d) bound) entries ≡ map (λ d. true) entries
-        → ltb (f (getD entries tag 0)) bound ≡ true
-    below f bound p q = same-at (λ d. ltb (f d) bound) (λ d. true) entries entries 0 0 p q tag
+-- ---- children
 
--- The same, of a number that the code read there.
-pub digits-read : (tag : ℕ) {digits : ℕ} → digits ≡ getD entries tag 0 → Digits digits
-digits-read tag e = rw e (digits-known tag)
+abbrev it : (tag flag a b c zeros : ℕ) → Cell
+it tag flag a b c zeros = record { tag = tag; flag = flag; zeros = zeros; a = a; b = b; c = c }
+
+-- what the reader for a tag says that a cell asks for
+abbrev asked-at : List ℕ → Cell → ℕ → Children
+asked-at text x t = children-of (getD readers t no-cell text x)
+
+module _ {tag flag a b c : ℕ} where
+  -- Cells with the tags from one on ask for the same children.
+  pub asked-by : (v : Children) (from n : ℕ) → ((text : List ℕ) (zeros : ℕ) → map (asked-at text (it tag flag a b c zeros)) (up-to from n) ≡ map (λ t. v) (up-to from n))
+      → from ≤ tag → tag < from + n → v .nodes < 3 → {r : Children} → r ≡ v → Asked tag flag a b c r
+  unfolding content-of
+  asked-by v from n e h j k q =
+      record {
+        is = λ text zeros. q ∙ sym (same-in (asked-at text (it tag flag a b c zeros)) (λ t. v) from n (e text zeros) tag h j);
+        few = rw q k;
+      }
+
+  -- no cell has a tag past the readers
+  pub unasked : 64 ≤ tag → {r : Children} → r ≡ asking 0 0 0 0 → Asked tag flag a b c r
+  unfolding content-of
+  unasked h q =
+      record {
+        is = λ text zeros. q ∙ sym (ap (λ (r : Reader). children-of (r text (it tag flag a b c zeros))) (List·getD-eq-default readers no-cell {n = tag} h));
+        few = rw q (omega arith);
+      }
+
+  -- a cell of one tag
+  pub asked-as : (t : ℕ) (v : Children) → ((text : List ℕ) (zeros : ℕ) → asked-at text (it tag flag a b c zeros) t ≡ v) → tag ≡ t → v .nodes < 3 → {r : Children} → r ≡ v → Asked tag flag a b c r
+  unfolding content-of
+  asked-as t v e h k q =
+      record {
+        is = λ text zeros. q ∙ sym (ap (asked-at text (it tag flag a b c zeros)) h ∙ e text zeros);
+        few = rw q k;
+      }
 
 -- ---- cells whose layout is right
 
@@ -77,6 +123,12 @@ is-carried (carried flags a b c) = true
 abbrev has-content : Option Content → Bool
 has-content none = false
 has-content (some k) = true
+
+-- What two tables say is the same at each index if it is so as lists, and for the entries that stand for those past the end.
+same-at : {A B C : Type 0} (f : A → C) (g : B → C) (l : List A) (m : List B) (d : A) (e : B) → f d ≡ g e → map f l ≡ map g m
+    → (n : ℕ) → f (getD l n d) ≡ g (getD m n e)
+same-at f g l m d e p q n =
+    sym (List·getD-map f l n d) ∙ ap (λ (x : List _). getD x n (f d)) q ∙ ap (λ (x : _). getD (map g m) n x) p ∙ List·getD-map g m n e
 
 -- The tags that the layout allows are those that have a reader.
 carried-rule : (text : List ℕ) (x : Cell) → is-carried (tag-of (x .tag)) ≡ has-content (content-of text x)

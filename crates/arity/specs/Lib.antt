@@ -1,3 +1,2 @@
 pub mod Sort
 pub mod Arity
-pub mod Table

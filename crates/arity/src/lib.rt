@@ -1,9 +1,8 @@
-// What a cell is and which children it asks for, by its tag and its numbers.
+// What a cell is and which children it asks for, by its tag and its numbers. Tags are told apart by tests: a constant array over all tags would be stored
+// anew at each call, which takes longer than all else that is done for a cell.
 ghost use mathlib.Core.Path.{_≡_};
-ghost use Prim.Native.Nat.{_<_};
-ghost use lib.ListN.{getD};
-ghost use Rattle.arity.specs.Arity.{Sorted, Asked};
-ghost use Rattle.arity.specs.Table.{entries};
+ghost use Prim.Native.Nat.{_≤_, _<_};
+ghost use Rattle.arity.specs.Arity.{Sorted, asking, Asked};
 
 // The sorts of cells. A constant is an expression too, and serves where one is asked for.
 pub const CONSTANT: usize = 1;
@@ -32,98 +31,152 @@ pub struct Children {
     pub aggs: usize,
 }
 
-// Tags from 0 to 63, each a number of five decimal digits, from the left: where the number of Aggs is told, where the number of parts is told
-// (both an index into `told`), the number of nodes, the sort of the parts, and the sort of the cell itself. 0 where no cell has the tag.
-const TAGS: [usize; 64] = [
-    0,
-    1, // 1 Null
-    1, // 2 Boolean
-    1, // 3 Integer
-    1, // 4 Float
-    1, // 5 String
-    2, // 6 Column
-    0,
-    0,
-    0,
-    2022, // 10 And
-    2022, // 11 Or
-    2022, // 12 Equal
-    2022, // 13 GreaterThan
-    2022, // 14 LessThan
-    2022, // 15 Add
-    2022, // 16 Divide
-    0,
-    0,
-    0,
-    0,
-    0,
-    0,
-    0,
-    0,
-    0,
-    0,
-    0,
-    0,
-    0,
-    1022, // 30 Not
-    1022, // 31 Is Null
-    1022, // 32 Is NaN
-    1022, // 33 Identity
-    1022, // 34 Negate
-    0,
-    0,
-    0,
-    0,
-    0,
-    3, // 40 Label
-    1024, // 41 Item
-    1025, // 42 Key
-    6, // 43 Target
-    1027, // 44 Agg
-    3028, // 45 Row
-    0,
-    0,
-    0,
-    0,
-    73129, // 50 Aggregate
-    1129, // 51 Filter
-    209, // 52 HashJoin
-    5019, // 53 IndexLookup
-    4019, // 54 KeyLookup
-    109, // 55 Limit
-    6229, // 56 NestedLoopJoin
-    3039, // 57 Nothing
-    109, // 58 Offset
-    3159, // 59 Order
-    3149, // 60 Projection
-    3169, // 61 Remap
-    6029, // 62 Scan
-    3089, // 63 Values
-];
-
-fn entry(tag: usize) -> usize
-    ensures { λ r. ⌜ r ≡ getD entries tag 0 ⌝ }
+// The sort of an expression's cell, or 0: constants from 1 to 5, Column, operators of two operands from 10 to 16, of one from 30 to 34.
+fn expression_sort(tag: usize) -> usize
+    requires { ⌜ tag < 40 ⌝ }
+    ensures { λ r. ⌜ Sorted tag r ⌝ }
 {
-    if tag < 64 { TAGS[tag] } else { 0 }
+    if tag == 0 {
+        return 0;
+    }
+    if tag < 6 {
+        return CONSTANT;
+    }
+    if tag == 6 {
+        return EXPRESSION;
+    }
+    if tag < 10 {
+        return 0;
+    }
+    if tag < 17 {
+        return EXPRESSION;
+    }
+    if tag < 30 {
+        return 0;
+    }
+    if tag < 35 {
+        return EXPRESSION;
+    }
+    0
 }
 
-// The sort of a cell with this tag, or 0 where no cell has it.
+// The sort of a cell with this tag, or 0 where no cell has it. Those of the parts follow each other as the tags do, from 40 Label to 45 Row.
 pub fn sort_of(tag: usize) -> usize
     ensures { λ r. ⌜ Sorted tag r ⌝ }
 {
-    entry(tag) % 10
+    if tag < 40 {
+        return expression_sort(tag);
+    }
+    if tag < 46 {
+        return tag - 40 + LABEL;
+    }
+    if tag < 50 {
+        return 0;
+    }
+    if tag < 64 {
+        return NODE;
+    }
+    0
+}
+
+fn asking(nodes: usize, part: usize, parts: usize, aggs: usize) -> Children
+    ensures { λ r. ⌜ r ≡ asking nodes part parts aggs ⌝ }
+{
+    Children {
+        nodes: nodes,
+        part: part,
+        parts: parts,
+        aggs: aggs,
+    }
+}
+
+// The children of an expression's cell or of a part's: its operands.
+fn operands(tag: usize, flag: usize, a: usize, b: usize, c: usize) -> Children
+    requires { ⌜ tag < 50 ⌝ }
+    ensures { λ r. ⌜ Asked tag flag a b c r ⌝ }
+{
+    if tag < 10 {
+        return asking(0, 0, 0, 0);
+    }
+    if tag < 17 {
+        return asking(0, EXPRESSION, 2, 0);
+    }
+    if tag < 30 {
+        return asking(0, 0, 0, 0);
+    }
+    if tag < 35 {
+        return asking(0, EXPRESSION, 1, 0);
+    }
+    parts_operands(tag, flag, a, b, c)
+}
+
+// 40 Label and 43 Target have none, 41 Item, 42 Key and 44 Agg one, 45 Row so many as it says.
+fn parts_operands(tag: usize, flag: usize, a: usize, b: usize, c: usize) -> Children
+    requires { ⌜ (35 ≤ tag) × (tag < 50) ⌝ }
+    ensures { λ r. ⌜ Asked tag flag a b c r ⌝ }
+{
+    if tag < 41 {
+        return asking(0, 0, 0, 0);
+    }
+    if tag < 43 {
+        return asking(0, EXPRESSION, 1, 0);
+    }
+    if tag == 43 {
+        return asking(0, 0, 0, 0);
+    }
+    if tag == 44 {
+        return asking(0, EXPRESSION, 1, 0);
+    }
+    if tag == 45 {
+        return asking(0, EXPRESSION, a, 0);
+    }
+    asking(0, 0, 0, 0)
+}
+
+// 50 Aggregate, 51 Filter, 52 HashJoin, 53 IndexLookup, 54 KeyLookup, 55 Limit, 56 NestedLoopJoin.
+fn children_to_56(tag: usize, flag: usize, a: usize, b: usize, c: usize) -> Children
+    requires { ⌜ (50 ≤ tag) × (tag < 57) ⌝ }
+    ensures { λ r. ⌜ Asked tag flag a b c r ⌝ }
+{
+    match tag {
+        50 => asking(1, EXPRESSION, a, b),
+        51 => asking(1, EXPRESSION, 1, 0),
+        52 => asking(2, 0, 0, 0),
+        53 => asking(0, CONSTANT, c / 65536, 0),
+        54 => asking(0, CONSTANT, c, 0),
+        55 => asking(1, 0, 0, 0),
+        _ => asking(2, EXPRESSION, flag % 2, 0),
+    }
+}
+
+// 57 Nothing, 58 Offset, 59 Order, 60 Projection, 61 Remap, 62 Scan, 63 Values.
+fn children_from_57(tag: usize, flag: usize, a: usize, b: usize, c: usize) -> Children
+    requires { ⌜ (57 ≤ tag) × (tag < 64) ⌝ }
+    ensures { λ r. ⌜ Asked tag flag a b c r ⌝ }
+{
+    match tag {
+        57 => asking(0, LABEL, a, 0),
+        58 => asking(1, 0, 0, 0),
+        59 => asking(1, KEY, a, 0),
+        60 => asking(1, ITEM, a, 0),
+        61 => asking(1, TARGET, a, 0),
+        62 => asking(0, EXPRESSION, flag % 2, 0),
+        _ => asking(0, ROW, a, 0),
+    }
 }
 
 // The children of the cell with these fields.
 pub fn children_of(tag: usize, flag: usize, a: usize, b: usize, c: usize) -> Children
     ensures { λ r. ⌜ Asked tag flag a b c r ⌝ }
 {
-    let told = [0, 1, 2, a, c, c / 65536, flag % 2, b];
-    let digits = entry(tag);
-    Children {
-        nodes: digits / 100 % 10,
-        part: digits / 10 % 10,
-        parts: told[digits / 1000 % 10],
-        aggs: told[digits / 10000],
+    if tag < 50 {
+        return operands(tag, flag, a, b, c);
     }
+    if tag < 57 {
+        return children_to_56(tag, flag, a, b, c);
+    }
+    if tag < 64 {
+        return children_from_57(tag, flag, a, b, c);
+    }
+    asking(0, 0, 0, 0)
 }

@@ -4,9 +4,10 @@ use mathlib.Core.Bool.{Bool, not, _&&_, cond}
 use mathlib.Core.Path.{_≡_}
 use mathlib.Core.List.{List, []}
 use mathlib.Core.Option.{Option, none, some}
-use lib.Dec.{ltb}
+use lib.Dec.{eqb, ltb}
 use Rattle.sql.specs.Expression.{Expression, ands, and-vec, shift-column-down}
 use Rattle.sql.specs.Optimizer.{for-left, for-right, equijoin, is-lookup-of, last-lookup, copied, push-left, push-right, map-optional}
+use Rattle.cells.specs.Cells.{start-at}
 use Rattle.cells.specs.Room.{Wrote}
 use Rattle.words.specs.Words.{optional-words}
 use Rattle.words.specs.Place.{ExpressionHere}
@@ -27,6 +28,10 @@ Stands s (Place.At lo hi) none = ⊥
 Stands s (Place.At lo hi) (some e) = ExpressionHere s lo hi e
 Stands s Place.None none = Unit
 Stands s Place.None (some e) = ⊥
+
+-- the place of what ends before word hi; 0 says that there is none
+abbrev pub ending : List ℕ → ℕ → Place
+ending s hi = cond (eqb hi 0) Place.None (Place.At (start-at s hi) hi)
 
 -- among the conjuncts of the expression from lo up to hi
 abbrev pub FindsLast : ℕ → List ℕ → ℕ → ℕ → Place → Type 0

@@ -1,10 +1,13 @@
 // optimizer.rs, maybe_push_join: what is pushed into a join's sources. Beside its own conjuncts a source gets, for each equijoin that stays with the join, the
 // last lookup of the other source's column, copied to its own column. The conjuncts of the other source are lent, gathered before (crate conjuncts), so that
 // no others are searched.
+ghost use mathlib.Core.Path.{_≡_};
 ghost use Prim.Native.Nat.{_-_, _<_};
+ghost use Rattle.sql.specs.Optimizer.{is-number};
 ghost use Rattle.words.specs.Place.{ExpressionAt};
+ghost use Rattle.column_lookup.specs.Lookup.{found, column-in, equal-cells};
 ghost use Rattle.conjuncts.specs.Conjuncts.{OptionalAt};
-ghost use Rattle.copied_lookups.specs.Copies.{IsLookupOf, FindsLast, CopiesLast, CopiesPair, CopiesConjunct, CopiesEach, PushesLeft, PushesRight};
+ghost use Rattle.copied_lookups.specs.Copies.{IsLookupOf, ending, FindsLast, CopiesLast, CopiesPair, CopiesConjunct, CopiesEach, PushesLeft, PushesRight};
 
 // A source of a join.
 pub enum Source {
@@ -18,8 +21,33 @@ pub enum Place {
     None,
 }
 
-// Whether the expression from lo to hi is a lookup of column c.
-fn is_lookup_of(s: &[usize], lo: usize, hi: usize, c: usize) -> bool
+// Whether a cell is that of Column c.
+fn is_column(k: cells::Cell, c: usize) -> bool
+    ensures { λ q. ⌜ q ≡ is-number c (found (column-in k)) ⌝ }
+{
+    if k.tag == 6 {
+        return k.a == c;
+    }
+    false
+}
+
+// Whether Equal of operands with these cells is a lookup of column c.
+fn is_equal_lookup(l: cells::Cell, r: cells::Cell, c: usize) -> bool
+    ensures { λ q. ⌜ q ≡ is-number c (found (equal-cells l r)) ⌝ }
+{
+    if l.tag < 6 {
+        return is_column(r, c);
+    }
+    if l.tag == 6 {
+        if r.tag < 6 {
+            return l.a == c;
+        }
+    }
+    false
+}
+
+// Whether the Or from lo to hi is a lookup of column c.
+fn is_or_lookup(s: &[usize], lo: usize, hi: usize, c: usize) -> bool
     requires { ⌜ ExpressionAt (now s) lo hi ⌝ }
     ensures { λ r. ⌜ IsLookupOf c (now (s .entry)) lo hi r ⌝ }
 {
@@ -30,24 +58,96 @@ fn is_lookup_of(s: &[usize], lo: usize, hi: usize, c: usize) -> bool
     d == c
 }
 
+// Whether the expression from lo to hi is a lookup of column c. For each equijoin all lookups may be asked, so that only an Or is left to a call.
+fn is_lookup_of(s: &[usize], lo: usize, hi: usize, c: usize) -> bool
+    requires { ⌜ ExpressionAt (now s) lo hi ⌝ }
+    ensures { λ r. ⌜ IsLookupOf c (now (s .entry)) lo hi r ⌝ }
+{
+    let t = cells::tag_at(s, hi);
+    if t == 11 {
+        return is_or_lookup(s, lo, hi, c);
+    }
+    let end = hi - 6;
+    if t == 12 {
+        let mid = cells::start(s, end);
+        return is_equal_lookup(cells::cell_at(s, mid), cells::cell_at(s, end), c);
+    }
+    if t < 31 {
+        return false;
+    }
+    if 32 < t {
+        return false;
+    }
+    is_column(cells::cell_at(s, end), c)
+}
+
+// Where the last lookup of column c among the conjuncts of the expression from lo to hi ends, or 0.
+fn last_end(s: &[usize], lo: usize, hi: usize, c: usize) -> usize
+    requires { ⌜ ExpressionAt (now s) lo hi ⌝ }
+    ensures { λ r. ⌜ FindsLast c (now (s .entry)) lo hi (ending (now (s .entry)) r) ⌝ }
+{
+    if cells::tag_at(s, hi) == 10 {
+        let end = hi - 6;
+        let mid = cells::start(s, end);
+        let later = last_end(s, mid, end, c);
+        if later != 0 {
+            return later;
+        }
+        return last_end(s, lo, mid, c);
+    }
+    if is_lookup_of(s, lo, hi, c) {
+        return hi;
+    }
+    0
+}
+
+// The same for one conjunct, which is no And as a rule; then there is no call.
+fn conjunct_end(s: &[usize], lo: usize, hi: usize, c: usize) -> usize
+    requires { ⌜ ExpressionAt (now s) lo hi ⌝ }
+    ensures { λ r. ⌜ FindsLast c (now (s .entry)) lo hi (ending (now (s .entry)) r) ⌝ }
+{
+    if cells::tag_at(s, hi) == 10 {
+        return last_end(s, lo, hi, c);
+    }
+    if is_lookup_of(s, lo, hi, c) {
+        return hi;
+    }
+    0
+}
+
+// The same, from the last conjunct to the first: those that and_vec joined stand to the left.
+fn last_joined_end(s: &[usize], lo: usize, hi: usize, c: usize) -> usize
+    requires { ⌜ ExpressionAt (now s) lo hi ⌝ }
+    ensures { λ r. ⌜ FindsLast c (now (s .entry)) lo hi (ending (now (s .entry)) r) ⌝ }
+{
+    let mut at = hi;
+    let mut tag = cells::tag_at(s, hi);
+    while tag == 10 {
+        let end = at - 6;
+        let mid = cells::start(s, end);
+        let later = conjunct_end(s, mid, end, c);
+        if later != 0 {
+            return later;
+        }
+        at = mid;
+        tag = cells::tag_at(s, mid);
+    }
+    if is_lookup_of(s, lo, at, c) {
+        return at;
+    }
+    0
+}
+
 // The last lookup of column c among the conjuncts of the expression from lo to hi.
 pub fn last_lookup(s: &[usize], lo: usize, hi: usize, c: usize) -> Place
     requires { ⌜ ExpressionAt (now s) lo hi ⌝ }
     ensures { λ r. ⌜ FindsLast c (now (s .entry)) lo hi r ⌝ }
 {
-    if cells::tag_at(s, hi) == 10 {
-        let end = hi - 6;
-        let mid = cells::start(s, end);
-        let later = last_lookup(s, mid, end, c);
-        if let Place::At(a, b) = later {
-            return Place::At(a, b);
-        }
-        return last_lookup(s, lo, mid, c);
+    let end = last_joined_end(s, lo, hi, c);
+    if end == 0 {
+        return Place::None;
     }
-    if is_lookup_of(s, lo, hi, c) {
-        return Place::At(lo, hi);
-    }
-    Place::None
+    Place::At(cells::start(s, end), end)
 }
 
 // The last lookup of a column among the conjuncts that stand in s from lo up to hi, copied to another column, as one more conjunct.

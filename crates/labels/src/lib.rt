@@ -188,7 +188,7 @@ fn leaf_origin(s: &[usize], lo: usize, hi: usize, i: usize) -> Origin
 }
 
 // Whether a node with this tag and one source has columns of its own.
-fn own_columns(tag: usize) -> bool
+pub fn own_columns(tag: usize) -> bool
     ensures { λ r. ⌜ r ≡ says-columns tag ⌝ }
 {
     if tag == 50 {
@@ -347,7 +347,7 @@ fn entry(list: &[usize], i: usize) -> usize
 }
 
 // Where table t's columns start among all columns.
-fn first_column(widths: &[usize], t: usize) -> usize
+pub fn first_column(widths: &[usize], t: usize) -> usize
     requires { ⌜ first-column (now widths) t ≤ 256 ⌝ }
     ensures { λ r. ⌜ r ≡ first-column (now (widths .entry)) t ⌝ }
 {

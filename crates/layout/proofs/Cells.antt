@@ -1,6 +1,8 @@
 -- Laws on what a cell's layout allows.
 use Prim.Native.Nat.{ℕ, zero, suc, _+_, _-_, _*_, _/_, _%_, _≤_, _<_}
 use native.Mathlib.Omega.{arith}
+use native.Mathlib.Decide.{decLt}
+use mathlib.Core.Logic.{_⊎_, inl, inr, ⊎-elim}
 use mathlib.Core.Path.{_≡_, refl, sym, ap, _∙_}
 use mathlib.Core.Bool.{Bool, true, false, not, _&&_, _||_, cond}
 use mathlib.Core.List.{List, [], _∷_, map}
@@ -8,8 +10,9 @@ use mathlib.Core.Option.{Option}
 use lib.Dec.{ltb, eqb}
 use lib.Ieee as Ieee
 use lib.Ieee.Bits.{nanBits-above}
-use lib.ListN.{length, getD, List·getD-map}
+use lib.ListN.{length, getD}
 use borrow.Author.Tests.{lt-ltb, le-ltb, eq-eqb, ne-eqb, eqb-true}
+use Rattle.sql.specs.Plan.{up-to}
 use Rattle.sheet.specs.Parts.{first-failing, table-count, tables-at}
 use Rattle.sheet.specs.Cell.{Field, Tag, table, text, unknown, not-carried, carried, tags, tag-of, field-ok, fields-ok, wide, the-nan, float-ok, cell-ok, bad-cell, bad-number}
 use Rattle.sheet.specs.Cell as Sheet
@@ -19,12 +22,33 @@ use Rattle.layout.specs.Layout.{Laid, IsCell, as-cell}
 use Rattle.layout.specs.Row.{field-of, tag-from}
 use Rattle.layout.proofs.Laws.{fails, text-is, tables-are, cells-are, cell-there}
 
--- ---- the table of rows
+-- ---- rows
 
--- The rule of the whole table, of which the code's `ROWS` is one: each row says what the definition says of its tag.
-pub row-is : (rows : List ℕ) → map tag-from rows ≡ tags → (t : ℕ) → tag-from (getD rows t 0) ≡ tag-of t
-unfolding tag-of tag-from
-row-is rows e t = sym (List·getD-map tag-from rows t 0) ∙ ap (λ (l : List Tag). getD l t unknown) e
+lt-or-ge : (a b : ℕ) → (a < b) ⊎ (b ≤ a)
+lt-or-ge a b = go (decLt a b)
+  where
+    go : Dec (a < b) → (a < b) ⊎ (b ≤ a)
+    go (yes h) = inl h
+    go (no h) = inr (omega arith)
+
+abbrev rest : {A : Type 0} → List A → List A
+rest [] = []
+rest (x ∷ l) = l
+
+-- Two functions agree on a number of a range, if they do on the list of all its numbers.
+pub same-in : {A : Type 0} (f g : ℕ → A) (from n : ℕ) → map f (up-to from n) ≡ map g (up-to from n) → (i : ℕ) → from ≤ i → i < from + n → f i ≡ g i
+same-in f g from zero e i h j = absurd (omega arith)
+same-in f g from (suc n) e i h j =
+    ⊎-elim (λ (z : from < i). same-in f g (suc from) n (ap rest e) i (omega arith) (omega arith))
+    (λ (z : i ≤ from). let k : i ≡ from = omega arith in ap f k ∙ ap (λ (l : List _). getD l 0 (g from)) e ∙ sym (ap g k)) (lt-or-ge from i)
+
+-- A row says what the definition says of the tags in a range.
+pub row-in : (row from n : ℕ) → map tag-of (up-to from n) ≡ map (λ t. tag-from row) (up-to from n) → (t : ℕ) → from ≤ t → t < from + n → tag-from row ≡ tag-of t
+row-in row from n e t h j = sym (same-in tag-of (λ t. tag-from row) from n e t h j)
+
+-- of one tag
+pub row-as : (row n : ℕ) → tag-from row ≡ tag-of n → (t : ℕ) → t ≡ n → tag-from row ≡ tag-of t
+row-as row n e t h = e ∙ ap tag-of (sym h)
 
 past : (l : List Tag) (t : ℕ) → length l ≤ t → unknown ≡ getD l t unknown
 past [] t h = refl

@@ -1,4 +1,4 @@
--- What a tag allows as one number, a row of the code's table: its hexadecimal digits are the codes of the fields c, b and a, and the number of flags.
+-- What a tag allows as one number, which the code calls a row: its hexadecimal digits are the codes of the fields c, b and a, and the number of flags.
 use Prim.Native.Nat.{ℕ, zero, suc, _/_, _%_}
 use mathlib.Core.Bool.{Bool, true, false, cond}
 use lib.Dec.{eqb}

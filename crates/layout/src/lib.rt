@@ -336,83 +336,129 @@ pub fn cell_at(s: &[u8], i: usize) -> Cell
     cell_from(s, p.cells.at + i * 16)
 }
 
-// What each tag from 0 to 63 allows, in hexadecimal digits: the codes of the fields c, b and a, then the number of flags.
+// What each tag from 0 to 63 allows is a row, in hexadecimal digits: the codes of the fields c, b and a, then the number of flags.
 // Codes: 0 unused, 1 any number, 2 a bit, 3 a table, 4 a number up to 255 where the flag is at least 1, and 5 + k a text reference
 // where the flag is at least k. A tag that stands for no cell has no flags: 0x0000 is one that is unknown, 0x0010 one that is not carried over.
-const ROWS: [usize; 64] = [
-    0x0000, // 0
-    0x0001, // 1 Null
-    0x0021, // 2 Boolean
-    0x0111, // 3 Integer
-    0x0111, // 4 Float
-    0x0051, // 5 String
-    0x0011, // 6 Column
-    0x0000, // 7
-    0x0000, // 8
-    0x0000, // 9
-    0x0001, // 10 And
-    0x0001, // 11 Or
-    0x0001, // 12 Equal
-    0x0001, // 13 GreaterThan
-    0x0001, // 14 LessThan
-    0x0001, // 15 Add
-    0x0001, // 16 Divide
-    0x0010, // 17 Subtract
-    0x0010, // 18 Multiply
-    0x0010, // 19 Exponentiate
-    0x0010, // 20 Remainder
-    0x0010, // 21 Like
-    0x0000, // 22
-    0x0000, // 23
-    0x0000, // 24
-    0x0000, // 25
-    0x0000, // 26
-    0x0000, // 27
-    0x0000, // 28
-    0x0000, // 29
-    0x0001, // 30 Not
-    0x0001, // 31 Is Null
-    0x0001, // 32 Is NaN
-    0x0001, // 33 Identity
-    0x0001, // 34 Negate
-    0x0010, // 35 Factorial
-    0x0010, // 36 SquareRoot
-    0x0000, // 37
-    0x0000, // 38
-    0x0000, // 39
-    0x0763, // 40 Label
-    0x0763, // 41 Item
-    0x0002, // 42 Key
-    0x0042, // 43 Target
-    0x0005, // 44 Agg
-    0x0011, // 45 Row
-    0x0000, // 46
-    0x0000, // 47
-    0x0000, // 48
-    0x0000, // 49
-    0x0111, // 50 Aggregate
-    0x0001, // 51 Filter
-    0x0112, // 52 HashJoin
-    0x1632, // 53 IndexLookup
-    0x1632, // 54 KeyLookup
-    0x0111, // 55 Limit
-    0x0004, // 56 NestedLoopJoin
-    0x0011, // 57 Nothing
-    0x0111, // 58 Offset
-    0x0011, // 59 Order
-    0x0011, // 60 Projection
-    0x0011, // 61 Remap
-    0x0734, // 62 Scan
-    0x0011, // 63 Values
-];
+// Tags are told apart by tests: a constant array over all tags would be stored anew for each cell.
+const UNKNOWN: usize = 0x0000;
 
 const NOT_CARRIED: usize = 0x0010;
+
+// 1 Null, 2 Boolean, 3 Integer, 4 Float, 5 String, 6 Column.
+fn row_to_9(tag: usize) -> usize
+    requires { ⌜ tag < 10 ⌝ }
+    ensures { λ r. ⌜ tag-from r ≡ tag-of tag ⌝ }
+{
+    if 6 < tag {
+        return UNKNOWN;
+    }
+    match tag {
+        1 => 0x0001,
+        2 => 0x0021,
+        3 => 0x0111,
+        4 => 0x0111,
+        5 => 0x0051,
+        6 => 0x0011,
+        _ => UNKNOWN,
+    }
+}
+
+// Operators of two operands: 10 And to 16 Divide, and those from 17 Subtract to 21 Like. Of one operand: 30 Not to 34 Negate, 35 Factorial and
+// 36 SquareRoot.
+fn row_to_39(tag: usize) -> usize
+    requires { ⌜ (10 ≤ tag) × (tag < 40) ⌝ }
+    ensures { λ r. ⌜ tag-from r ≡ tag-of tag ⌝ }
+{
+    if tag < 17 {
+        return 0x0001;
+    }
+    if tag < 22 {
+        return NOT_CARRIED;
+    }
+    if tag < 30 {
+        return UNKNOWN;
+    }
+    if tag < 35 {
+        return 0x0001;
+    }
+    if tag < 37 {
+        return NOT_CARRIED;
+    }
+    UNKNOWN
+}
+
+// 40 Label, 41 Item, 42 Key, 43 Target, 44 Agg, 45 Row.
+fn row_to_49(tag: usize) -> usize
+    requires { ⌜ (40 ≤ tag) × (tag < 50) ⌝ }
+    ensures { λ r. ⌜ tag-from r ≡ tag-of tag ⌝ }
+{
+    match tag {
+        40 => 0x0763,
+        41 => 0x0763,
+        42 => 0x0002,
+        43 => 0x0042,
+        44 => 0x0005,
+        45 => 0x0011,
+        _ => UNKNOWN,
+    }
+}
+
+// 50 Aggregate, 51 Filter, 52 HashJoin, 53 IndexLookup, 54 KeyLookup, 55 Limit, 56 NestedLoopJoin.
+fn row_to_56(tag: usize) -> usize
+    requires { ⌜ (50 ≤ tag) × (tag < 57) ⌝ }
+    ensures { λ r. ⌜ tag-from r ≡ tag-of tag ⌝ }
+{
+    match tag {
+        50 => 0x0111,
+        51 => 0x0001,
+        52 => 0x0112,
+        53 => 0x1632,
+        54 => 0x1632,
+        55 => 0x0111,
+        _ => 0x0004,
+    }
+}
+
+// 57 Nothing, 58 Offset, 59 Order, 60 Projection, 61 Remap, 62 Scan, 63 Values.
+fn row_to_63(tag: usize) -> usize
+    requires { ⌜ (57 ≤ tag) × (tag < 64) ⌝ }
+    ensures { λ r. ⌜ tag-from r ≡ tag-of tag ⌝ }
+{
+    if tag == 57 {
+        return 0x0011;
+    }
+    if tag == 58 {
+        return 0x0111;
+    }
+    if tag < 62 {
+        return 0x0011;
+    }
+    if tag == 62 {
+        return 0x0734;
+    }
+    0x0011
+}
 
 // The row of a tag. Those from 64 on are unknown.
 fn row_of(tag: usize) -> usize
     ensures { λ r. ⌜ tag-from r ≡ tag-of tag ⌝ }
 {
-    if tag < 64 { ROWS[tag] } else { 0 }
+    if tag < 10 {
+        return row_to_9(tag);
+    }
+    if tag < 40 {
+        return row_to_39(tag);
+    }
+    if tag < 50 {
+        return row_to_49(tag);
+    }
+    if tag < 57 {
+        return row_to_56(tag);
+    }
+    if tag < 64 {
+        return row_to_63(tag);
+    }
+    UNKNOWN
 }
 
 // A field of this code may hold the number v.

@@ -2,14 +2,14 @@
 use Prim.Native.Nat.{ℕ, zero, suc, _+_, _-_, _%_, _≤_, _<_}
 use native.Mathlib.Omega.{arith}
 use mathlib.Core.Path.{_≡_, refl, sym, ap, _∙_}
-use mathlib.Core.Bool.{Bool, true, false, _&&_, cond}
-use mathlib.Core.List.{List, [], _∷_, map}
+use mathlib.Core.Bool.{Bool, true, false, cond}
+use mathlib.Core.List.{List, map}
 use mathlib.Core.Option.{none, some}
 use mathlib.Core.Logic.{_⊎_, inl, inr, ⊎-elim}
-use lib.Dec.{leb, ltb, eqb}
+use lib.Dec.{ltb, eqb}
 use lib.ListN.{length, getD, List·getD-eq-default}
-use borrow.Author.Tests.{lt-ltb, le-ltb, ne-eqb, leb-true}
-use Rattle.layout.proofs.Laws.{and-left, and-right}
+use borrow.Author.Tests.{lt-ltb, le-ltb, ne-eqb}
+use Rattle.layout.proofs.Cells.{same-in}
 use Rattle.sql.specs.Schema.{Table, Schema, no-table}
 use Rattle.sql.specs.Plan.{up-to}
 use Rattle.sheet.specs.Parts.{table-count, columns-of, first-column}
@@ -24,24 +24,14 @@ use Rattle.node_scope.proofs.Steps.{segment-length}
 
 -- ---- sources
 
-few : List ℕ → Bool
-few [] = true
-few (x ∷ xs) = leb x 2 && few xs
-
-getD-few : (l : List ℕ) (i : ℕ) → few l ≡ true → getD l i 0 ≤ 2
-unfolding few
-getD-few [] i e = omega arith
-getD-few (x ∷ xs) zero e = leb-true _ _ (and-left (leb x 2) (few xs) e)
-getD-few (x ∷ xs) (suc i) e = getD-few xs i (and-right (leb x 2) (few xs) e)
-
 module _ (tag : ℕ) where
   pub no-sources : 64 ≤ tag → 0 ≡ sources tag
   unfolding sources
   no-sources h = sym (List·getD-eq-default source-counts 0 {n = tag - 50} (omega arith))
 
-  pub sources-are : (getD source-counts (tag - 50) 0 ≡ sources tag) × (getD source-counts (tag - 50) 0 ≤ 2)
-  unfolding sources few
-  sources-are = (refl, getD-few source-counts (tag - 50) refl)
+  -- The nodes with the tags of a range have so many.
+  pub sources-in : (k from n : ℕ) → map sources (up-to from n) ≡ map (λ t. k) (up-to from n) → from ≤ tag → tag < from + n → k ≤ 2 → (k ≡ sources tag) × (k ≤ 2)
+  sources-in k from n e h j m = (sym (same-in sources (λ t. k) from n e tag h j), m)
 
 -- ---- tables
 

@@ -111,24 +111,8 @@ fn targets_end(s: &[u8], from: usize, to: usize) -> usize
 
 // ---- a node, whose own cells are those from `own` up to its cell `at`
 
-// The number of sources of a node, for the tags from 50 to 63.
-const SOURCES: [usize; 14] = [
-    1, // 50 Aggregate
-    1, // 51 Filter
-    2, // 52 HashJoin
-    0, // 53 IndexLookup
-    0, // 54 KeyLookup
-    1, // 55 Limit
-    2, // 56 NestedLoopJoin
-    0, // 57 Nothing
-    1, // 58 Offset
-    1, // 59 Order
-    1, // 60 Projection
-    1, // 61 Remap
-    0, // 62 Scan
-    0, // 63 Values
-];
-
+// The number of sources of a node: two of 52 HashJoin and 56 NestedLoopJoin; none of 53 IndexLookup, 54 KeyLookup, 57 Nothing, 62 Scan and 63 Values; one
+// of any other.
 pub fn sources(tag: usize) -> usize
     requires { ⌜ 50 ≤ tag ⌝ }
     ensures { λ r. ⌜ (r ≡ sources tag) × (r ≤ 2) ⌝ }
@@ -136,7 +120,28 @@ pub fn sources(tag: usize) -> usize
     if 64 <= tag {
         return 0;
     }
-    SOURCES[tag - 50]
+    if tag < 52 {
+        return 1;
+    }
+    if tag == 52 {
+        return 2;
+    }
+    if tag < 55 {
+        return 0;
+    }
+    if tag == 55 {
+        return 1;
+    }
+    if tag == 56 {
+        return 2;
+    }
+    if tag == 57 {
+        return 0;
+    }
+    if tag < 62 {
+        return 1;
+    }
+    0
 }
 
 // The number of columns of a table, 0 if there is none.

@@ -1,6 +1,7 @@
 -- Laws on a node's own words: how many trees they are, and what the node's cell asks for.
-use Prim.Native.Nat.{ℕ, zero, suc, _+_, _-_, _*_, _≤_, _<_}
+use Prim.Native.Nat.{ℕ, zero, suc, _+_, _-_, _*_, _%_, _≤_, _<_}
 use native.Mathlib.Omega.{arith}
+use mathlib.Core.Logic.{_⊎_, inl, inr, ⊎-elim}
 use mathlib.Core.Bool.{Bool, true, false}
 use mathlib.Core.Path.{_≡_, refl, sym, ap, _∙_, subst}
 use mathlib.Core.List.{List, [], _∷_, _++_, append-nil}
@@ -8,19 +9,18 @@ use mathlib.Core.Option.{Option, none, some}
 use lib.ListN.{length, length-append}
 use Rattle.sql.specs.Expression.{Expression, constant, column, unary, binary}
 use Rattle.sql.specs.Plan.{by-key, by-index, Leaf, scan, lookup, nothing, values, limit, offset, order, projection, remap, aggregate, Over, filter, other, Join, nested-loop, hash, Node, leaf, over, join}
-use Rattle.sheet.specs.Content.{Content, content-of, cell-of, constant-cell, label-cell, target-cell, item-cell, key-cell, agg-cell, row-cell}
-use Rattle.arity.specs.Arity.{Asked, children-of}
-use Rattle.arity.specs.declared.Children.{Children}
+use Rattle.sheet.specs.Content.{constant-cell, label-cell, target-cell, item-cell, key-cell, agg-cell, row-cell}
 use Rattle.cells.specs.declared.Cell.{Cell}
 use Rattle.cells.specs.Cells.{sized, cell-at, tag-at, Part}
+use Rattle.cells.proofs.Laws.{lt-or-ge}
 use Rattle.words.specs.Words.{cell, all-words, root, operand-words, expression-words, optional-words, constant-words, label-words, target-words, item-words, key-words, agg-words, row-words, leaf-own, over-own, join-own, own-words, source-words, node-cell, leaf-cell, over-cell, join-cell, source-count}
 use Rattle.words.specs.Place.{NodeHere, NodeAt}
 use Rattle.words.proofs.Expressions.{shape}
 use Rattle.words.proofs.Nodes.{node-cell-is, node-tag, own-part, node-in}
-use Rattle.words.proofs.Tags.{tagged, tag-known, told, sources-by-tag}
+use Rattle.words.proofs.Tags.{tag-of, tagged, tag-known, told, sources-by-tag, by-aggregate, by-filter, by-nested-loop}
 use Rattle.nodes.specs.Trees.{Trees, TreesAt, trees-start}
 use Rattle.nodes.specs.Trees as trees
-use Rattle.nodes.specs.Own.{leaf-count, over-count, join-count, own-count, OwnStart, SourceCount}
+use Rattle.nodes.specs.Own.{leaf-count, over-count, join-count, own-count, OwnStart, OwnTrees, SourceCount}
 use Rattle.nodes.proofs.Trees.{append-all, all-trees, trees-start-is, trees-few}
 
 -- ---- a node's own words are so many trees
@@ -58,86 +58,91 @@ own-trees (leaf l) = leaf-trees l
 own-trees (over o n) = over-trees o
 own-trees (join outer j l r) = join-trees j
 
--- ---- what a node's cell asks for
+-- ---- the number of them, by the node's cell
 
--- A cell is for so many sources; and where there are any, for so many trees behind them. (A leaf's own words start where the leaf does.)
-pub record Asks (k : Content) (sources parts : ℕ) : Type 0 where
-  pub nodes : children-of (content-of [] (cell-of k)) .nodes ≡ sources
-  pub own : (sources ≡ 0 → ⊥) → children-of (content-of [] (cell-of k)) .parts + children-of (content-of [] (cell-of k)) .aggs ≡ parts
+module _ {s : List ℕ} {lo hi : ℕ} {c : Cell} (q : c ≡ cell-at s hi) where
+  tag-said : (p : Node) → NodeHere s lo hi p → c .tag ≡ tag-of p
+  tag-said p u = ap (λ (k : Cell). k .tag) q ∙ node-tag p u ∙ tagged p
 
-exactly : (k : Content) {sources parts : ℕ} → children-of (content-of [] (cell-of k)) .nodes ≡ sources
-    → children-of (content-of [] (cell-of k)) .parts + children-of (content-of [] (cell-of k)) .aggs ≡ parts → Asks k sources parts
-exactly k e f = record { nodes = e; own = λ z. f }
-
-sourceless : (k : Content) {parts : ℕ} → children-of (content-of [] (cell-of k)) .nodes ≡ 0 → Asks k 0 parts
-sourceless k e = record { nodes = e; own = λ z. absurd (z refl) }
-
-leaf-asks : (l : Leaf) → Asks (leaf-cell l) 0 (leaf-count l)
-unfolding content-of
-leaf-asks (scan t none q) = sourceless (leaf-cell (scan t none q)) refl
-leaf-asks (scan t (some r) q) = sourceless (leaf-cell (scan t (some r) q)) refl
-leaf-asks (lookup by-key t none vs) = sourceless (leaf-cell (lookup by-key t none vs)) refl
-leaf-asks (lookup by-key t (some r) vs) = sourceless (leaf-cell (lookup by-key t (some r) vs)) refl
-leaf-asks (lookup (by-index i) t none vs) = sourceless (leaf-cell (lookup (by-index i) t none vs)) refl
-leaf-asks (lookup (by-index i) t (some r) vs) = sourceless (leaf-cell (lookup (by-index i) t (some r) vs)) refl
-leaf-asks (nothing ls) = sourceless (leaf-cell (nothing ls)) refl
-leaf-asks (values rs) = sourceless (leaf-cell (values rs)) refl
-
-over-asks : (o : Over) → Asks (over-cell o) 1 (over-count o)
-unfolding content-of
-over-asks (filter e) = exactly (over-cell (filter e)) refl refl
-over-asks (other (limit n)) = exactly (over-cell (other (limit n))) refl refl
-over-asks (other (offset n)) = exactly (over-cell (other (offset n))) refl refl
-over-asks (other (order ks)) = exactly (over-cell (other (order ks))) refl (omega arith)
-over-asks (other (projection is)) = exactly (over-cell (other (projection is))) refl (omega arith)
-over-asks (other (remap ts)) = exactly (over-cell (other (remap ts))) refl (omega arith)
-over-asks (other (aggregate es gs)) = exactly (over-cell (other (aggregate es gs))) refl refl
-
-join-asks : (outer : Bool) (j : Join) → Asks (join-cell outer j) 2 (join-count j)
-unfolding content-of
-join-asks false (nested-loop none) = exactly (join-cell false (nested-loop none)) refl refl
-join-asks true (nested-loop none) = exactly (join-cell true (nested-loop none)) refl refl
-join-asks false (nested-loop (some e)) = exactly (join-cell false (nested-loop (some e))) refl refl
-join-asks true (nested-loop (some e)) = exactly (join-cell true (nested-loop (some e))) refl refl
-join-asks outer (hash i j) = exactly (join-cell outer (hash i j)) refl refl
-
-asks : (p : Node) → Asks (node-cell p) (source-count p) (own-count p)
-asks (leaf l) = leaf-asks l
-asks (over o n) = over-asks o
-asks (join outer j l r) = join-asks outer j
-
--- ---- the answers of the code
-
-module _ {s : List ℕ} {lo hi : ℕ} {c : Cell} (q : c ≡ cell-at s hi) {r : Children} (a : Asked (c .tag) (c .flag) (c .a) (c .b) (c .c) r) where
-  said : (p : Node) → NodeHere s lo hi p → r ≡ children-of (content-of [] (cell-of (node-cell p)))
+  pub aggregate-trees : c .tag ≡ 50 → OwnTrees s lo hi (c .a + c .b)
   unfolding cell
-  said p u =
-      let e : c ≡ cell (node-cell p) = q ∙ node-cell-is p u in
-      a .is [] (cell-of (node-cell p) .zeros)
-      ∙ ap (λ (k : Cell). children-of (content-of [] (record { tag = k .tag; flag = k .flag; zeros = cell-of (node-cell p) .zeros; a = k .a; b = k .b; c = k .c }))) e
+  aggregate-trees z p u y =
+      by-aggregate (λ p. NodeHere s lo hi p → c .a + c .b ≡ own-count p)
+      (λ es gs n u. ap (λ (k : Cell). k .a + k .b) (q ∙ node-cell-is (over (other (aggregate es gs)) n) u)) p (sym (tag-said p u) ∙ z) u
 
-  pub sources-said : SourceCount s lo hi (r .nodes)
-  sources-said p u = ap (λ (x : Children). x .nodes) (said p u) ∙ asks p .nodes
+  pub list-trees : 59 ≤ c .tag → OwnTrees s lo hi (c .a)
+  unfolding cell
+  list-trees z p u y = go p u (tag-said p u) y
+    where
+      go : (p : Node) → NodeHere s lo hi p → c .tag ≡ tag-of p → (source-count p ≡ 0 → ⊥) → c .a ≡ own-count p
+      go (leaf l) u e y = absurd (y refl)
+      go (over (filter x) n) u e y = absurd (omega arith)
+      go (over (other (limit x)) n) u e y = absurd (omega arith)
+      go (over (other (offset x)) n) u e y = absurd (omega arith)
+      go (over (other (order ks)) n) u e y = ap (λ (k : Cell). k .a) (q ∙ node-cell-is (over (other (order ks)) n) u)
+      go (over (other (projection is)) n) u e y = ap (λ (k : Cell). k .a) (q ∙ node-cell-is (over (other (projection is)) n) u)
+      go (over (other (remap ts)) n) u e y = ap (λ (k : Cell). k .a) (q ∙ node-cell-is (over (other (remap ts)) n) u)
+      go (over (other (aggregate es gs)) n) u e y = absurd (omega arith)
+      go (join outer (nested-loop x) l r) u e y = absurd (omega arith)
+      go (join outer (hash a b) l r) u e y = absurd (omega arith)
 
-  pub parts-said : (p : Node) → NodeHere s lo hi p → (r .nodes ≡ 0 → ⊥) → r .parts + r .aggs ≡ own-count p
-  parts-said p u z = ap (λ (x : Children). x .parts + x .aggs) (said p u) ∙ asks p .own (λ y. z (sources-said p u ∙ y))
+  pub filter-trees : c .tag ≡ 51 → OwnTrees s lo hi 1
+  filter-trees z p u y = by-filter (λ p. 1 ≡ own-count p) (λ e n. refl) p (sym (tag-said p u) ∙ z)
 
-  pub leaf-start : r .nodes ≡ 0 → OwnStart s lo hi lo
-  leaf-start z p u = go p (sym (sources-said p u) ∙ z)
+  pub join-trees-said : c .tag ≡ 56 → OwnTrees s lo hi (c .flag % 2)
+  unfolding cell
+  join-trees-said z p u y = by-nested-loop (λ p. NodeHere s lo hi p → c .flag % 2 ≡ own-count p) go p (sym (tag-said p u) ∙ z) u
+    where
+      go : (outer : Bool) (x : Option Expression) (l r : Node) → NodeHere s lo hi (join outer (nested-loop x) l r) → c .flag % 2 ≡ own-count (join outer (nested-loop x) l r)
+      go false none l r u = ap (λ (k : Cell). k .flag % 2) (q ∙ node-cell-is (join false (nested-loop none) l r) u)
+      go true none l r u = ap (λ (k : Cell). k .flag % 2) (q ∙ node-cell-is (join true (nested-loop none) l r) u)
+      go false (some x) l r u = ap (λ (k : Cell). k .flag % 2) (q ∙ node-cell-is (join false (nested-loop (some x)) l r) u)
+      go true (some x) l r u = ap (λ (k : Cell). k .flag % 2) (q ∙ node-cell-is (join true (nested-loop (some x)) l r) u)
+
+  pub no-trees : (c .tag ≡ 50 → ⊥) → c .tag < 59 → (c .tag ≡ 51 → ⊥) → (c .tag ≡ 56 → ⊥) → OwnTrees s lo hi 0
+  no-trees a b d f p u y = go p (tag-said p u) y
+    where
+      go : (p : Node) → c .tag ≡ tag-of p → (source-count p ≡ 0 → ⊥) → 0 ≡ own-count p
+      go (leaf l) e y = absurd (y refl)
+      go (over (filter x) n) e y = absurd (d e)
+      go (over (other (limit x)) n) e y = refl
+      go (over (other (offset x)) n) e y = refl
+      go (over (other (order ks)) n) e y = absurd (omega arith)
+      go (over (other (projection is)) n) e y = absurd (omega arith)
+      go (over (other (remap ts)) n) e y = absurd (omega arith)
+      go (over (other (aggregate es gs)) n) e y = absurd (a e)
+      go (join outer (nested-loop x) l r) e y = absurd (f e)
+      go (join outer (hash i j) l r) e y = refl
+
+  -- an Aggregate's parts stand in the list
+  pub aggregate-few : c .tag ≡ 50 → NodeAt s lo hi → c .a + c .b ≤ hi
+  aggregate-few z t =
+      by-aggregate (λ p. NodeHere s lo hi p → c .a + c .b ≤ hi)
+      (λ es gs n u.
+      let p = over (other (aggregate es gs)) n in
+      omega (arith, aggregate-trees z p u (λ y. omega arith), trees-few (record { lo = lo + length (source-words p); w = own-words p; trees = own-trees p; part = own-part p u refl })))
+      (t .p) (sym (tag-said (t .p) (t .here)) ∙ z) (t .here)
+
+-- ---- where they start
+
+module _ {s : List ℕ} {lo hi n : ℕ} (k : SourceCount s lo hi n) where
+  pub leaf-start : n ≡ 0 → OwnStart s lo hi lo
+  leaf-start z p u = go p (sym (k p u) ∙ z)
     where
       go : (p : Node) → source-count p ≡ 0 → lo ≡ lo + length (source-words p)
       go (leaf l) h = omega arith
       go (over o n) h = absurd (omega arith)
       go (join outer j l r) h = absurd (omega arith)
 
-  pub own-at : (r .nodes ≡ 0 → ⊥) → NodeAt s lo hi → TreesAt s (r .parts + r .aggs) (hi - 6)
-  own-at z t =
-      rw (parts-said (t .p) (t .here) z)
-      (record { lo = lo + length (source-words (t .p)); w = own-words (t .p); trees = own-trees (t .p); part = own-part (t .p) (t .here) refl })
+  module _ (z : n ≡ 0 → ⊥) {r : ℕ} (f : OwnTrees s lo hi r) where
+    pub own-at : NodeAt s lo hi → TreesAt s r (hi - 6)
+    own-at t =
+        subst (λ (m : ℕ). TreesAt s m (hi - 6)) (sym (f (t .p) (t .here) (λ y. z (k (t .p) (t .here) ∙ y))))
+        (record { lo = lo + length (source-words (t .p)); w = own-words (t .p); trees = own-trees (t .p); part = own-part (t .p) (t .here) refl })
 
-  pub own-start-said : (r .nodes ≡ 0 → ⊥) → {m : ℕ} → m ≡ trees-start s (r .parts + r .aggs) (hi - 6) → OwnStart s lo hi m
-  own-start-said z e p u =
-      e ∙ ap (λ (n : ℕ). trees-start s n (hi - 6)) (parts-said p u z) ∙ trees-start-is (own-trees p) (own-part p u refl)
+    pub own-start-said : {m : ℕ} → m ≡ trees-start s r (hi - 6) → OwnStart s lo hi m
+    own-start-said e p u =
+        e ∙ ap (λ (i : ℕ). trees-start s i (hi - 6)) (f p u (λ y. z (k p u ∙ y))) ∙ trees-start-is (own-trees p) (own-part p u refl)
 
 pub at-in : {s : List ℕ} {lo hi : ℕ} → NodeAt s lo hi → (lo + 6 ≤ hi) × (hi ≤ length s)
 at-in t = node-in (t .p) (t .here)
@@ -148,3 +153,30 @@ tag-in a e = let (h, k) = tag-known (a .p) in let i = e ∙ node-tag (a .p) (a .
 
 pub sources-told : {s : List ℕ} {lo hi t : ℕ} → t ≡ tag-at s hi → SourceCount s lo hi (told t)
 sources-told e p u = ap told (e ∙ node-tag p u ∙ tagged p) ∙ sym (sources-by-tag p)
+
+-- what the code's tests of a tag tell of it
+module _ {t : ℕ} where
+  either : {n k : ℕ} → (t ≡ n → told t ≡ k) → (n + 1 ≤ t → told t ≡ k) → n ≤ t → told t ≡ k
+  either {n} {k} f g h = ⊎-elim (λ (z : t < n + 1). f (omega arith)) g (lt-or-ge t (n + 1))
+
+  is : {n k : ℕ} → told n ≡ k → t ≡ n → told t ≡ k
+  is e h = ap told h ∙ e
+
+  pub told-low : 50 ≤ t → (t ≡ 52 → ⊥) → t < 53 → told t ≡ 1
+  told-low a b d = either (is {n = 50} refl) (either (is {n = 51} refl) (λ h. absurd (b (omega arith)))) a
+
+  pub told-lookup : 53 ≤ t → t < 55 → told t ≡ 0
+  told-lookup a b = either (is {n = 53} refl) (either (is {n = 54} refl) (λ h. absurd (omega arith))) a
+
+  pub told-high : 55 ≤ t → (t ≡ 56 → ⊥) → (t ≡ 57 → ⊥) → t < 62 → told t ≡ 1
+  told-high a b d e =
+      either (is {n = 55} refl)
+      (either (λ z. absurd (b z))
+      (either (λ z. absurd (d z))
+      (either (is {n = 58} refl) (either (is {n = 59} refl) (either (is {n = 60} refl) (either (is {n = 61} refl) (λ h. absurd (omega arith)))))))) a
+
+  pub told-last : 62 ≤ t → t < 64 → told t ≡ 0
+  told-last a b = either (is {n = 62} refl) (either (is {n = 63} refl) (λ h. absurd (omega arith))) a
+
+pub count-told : {s : List ℕ} {lo hi t : ℕ} → t ≡ tag-at s hi → {k : ℕ} → told t ≡ k → SourceCount s lo hi k
+count-told e z p u = sym z ∙ sources-told e p u

@@ -12,8 +12,9 @@ use lib.Seq.{take-at}
 use borrow.Author.Tests.{eq-eqb, ne-eqb}
 use Rattle.sql.specs.Schema.{Table, Schema, no-table, table-of}
 use Rattle.sql.specs.Expression.{Expression, constant, column, unary, binary, size}
-use Rattle.sql.specs.Plan.{Label, by-key, by-index, Leaf, scan, lookup, nothing, values, limit, offset, order, projection, remap, aggregate, Over, filter, other, Join, nested-loop, hash, Node, leaf, over, join, remap-columns, values-columns, other-columns, leaf-columns, columns, sum, row-size, item-size, aggregate-size, leaf-size, over-size, join-size, node-size}
+use Rattle.sql.specs.Plan.{Label, by-key, by-index, Leaf, scan, lookup, nothing, values, limit, offset, order, projection, remap, aggregate, Over, filter, other, Join, nested-loop, hash, Node, leaf, over, join, remap-columns, values-columns, other-columns, leaf-columns, columns, up-to, sum, row-size, item-size, aggregate-size, leaf-size, over-size, join-size, node-size}
 use Rattle.sheet.specs.Content.{cell-of, target-cell, row-cell}
+use Rattle.arity.proofs.Laws.{same-in}
 use Rattle.cells.specs.declared.Cell.{Cell}
 use Rattle.cells.specs.Cells.{words, sized, cell-at, tag-at, start-at, Part, Sized}
 use Rattle.cells.proofs.Laws.{part-left, part-right, part-in, cell-is, cell-in}
@@ -365,8 +366,13 @@ by-tag (over (other (aggregate es gs)) n) = refl
 by-tag (join outer (nested-loop q) l r) = refl
 by-tag (join outer (hash i j) l r) = refl
 
-pub through-said : {s : List ℕ} {lo hi t : ℕ} → t ≡ tag-at s hi → GoesThrough s lo hi (getD through-told (t - 50) 0)
-through-said e p u = ap (λ (n : ℕ). getD through-told (n - 50) 0) (e ∙ node-tag p u ∙ tagged p) ∙ by-tag p
+-- The nodes with the tags of a range go through, or none of them does.
+pub through-in : (k from n : ℕ) → map (λ t. getD through-told (t - 50) 0) (up-to from n) ≡ map (λ t. k) (up-to from n)
+    → {s : List ℕ} {lo hi t : ℕ} → t ≡ tag-at s hi → from ≤ t → t < from + n → GoesThrough s lo hi k
+through-in k from n q {t = t} e h j p u =
+    sym (same-in (λ t. getD through-told (t - 50) 0) (λ t. k) from n q t h j)
+    ∙ ap (λ (n : ℕ). getD through-told (n - 50) 0) (e ∙ node-tag p u ∙ tagged p)
+    ∙ by-tag p
 
 -- Nodes that stand one after the other.
 pub data Forest : Type 0 where

@@ -47,3 +47,7 @@ OwnStart s lo hi r = (p : Node) → NodeHere s lo hi p → r ≡ lo + length (so
 -- r is the number of the node's sources.
 abbrev pub SourceCount : List ℕ → ℕ → ℕ → ℕ → Type 0
 SourceCount s lo hi r = (p : Node) → NodeHere s lo hi p → r ≡ source-count p
+
+-- r is the number of trees that the node's own words are, if it has sources.
+abbrev pub OwnTrees : List ℕ → ℕ → ℕ → ℕ → Type 0
+OwnTrees s lo hi r = (p : Node) → NodeHere s lo hi p → (source-count p ≡ 0 → ⊥) → r ≡ own-count p

@@ -6,7 +6,7 @@ ghost use lib.ListN.{getD};
 ghost use Rattle.cells.specs.Cells.{tag-at};
 ghost use Rattle.words.specs.Place.{NodeAt};
 ghost use Rattle.nodes.specs.Trees.{TreesAt, trees-start};
-ghost use Rattle.nodes.specs.Own.{OwnStart, SourceCount};
+ghost use Rattle.nodes.specs.Own.{OwnStart, OwnTrees, SourceCount};
 ghost use Rattle.nodes.specs.Columns.{ColumnsAt, ColumnCount, past, TargetsAt, RemapColumns, GoesThrough};
 
 // Where the last n trees start that end before hi.
@@ -23,16 +23,53 @@ pub fn trees_start(s: &[usize], n: usize, hi: usize) -> usize
     at
 }
 
-// How many sources a node has, by its tag, from 50 Aggregate to 63 Values.
-const SOURCES: [usize; 14] = [1, 1, 2, 0, 0, 1, 2, 0, 1, 1, 1, 1, 0, 0];
-
-// How many sources the node from lo to hi has: none, one or two.
+// How many sources the node from lo to hi has: two a join; none a lookup (53, 54), a Nothing, a Scan or a Values (62, 63); one any other.
 pub fn source_count(s: &[usize], lo: usize, hi: usize) -> usize
     requires { ⌜ NodeAt (now s) lo hi ⌝ }
     ensures { λ r. ⌜ SourceCount (now (s .entry)) lo hi r ⌝ }
 {
     let tag = cells::tag_at(s, hi);
-    SOURCES[tag - 50]
+    if tag == 52 {
+        return 2;
+    }
+    if tag == 56 {
+        return 2;
+    }
+    if tag < 53 {
+        return 1;
+    }
+    if tag < 55 {
+        return 0;
+    }
+    if tag == 57 {
+        return 0;
+    }
+    if tag < 62 {
+        return 1;
+    }
+    0
+}
+
+// How many trees the own words of a node with sources are: an Aggregate's expressions and Aggs, an Order's Keys, a Projection's Items, a Remap's
+// Targets, a Filter's predicate, and that of a NestedLoopJoin if it has one.
+fn own_trees(s: &[usize], lo: usize, hi: usize) -> usize
+    requires { ⌜ NodeAt (now s) lo hi ⌝ }
+    ensures { λ r. ⌜ OwnTrees (now (s .entry)) lo hi r ⌝ }
+{
+    let c = cells::cell_at(s, hi);
+    if c.tag == 50 {
+        return c.a + c.b;
+    }
+    if 59 <= c.tag {
+        return c.a;
+    }
+    if c.tag == 51 {
+        return 1;
+    }
+    if c.tag == 56 {
+        return c.flag % 2;
+    }
+    0
 }
 
 // Where the own words of the node from lo to hi start: those of its parts, between its sources and its cell.
@@ -40,12 +77,11 @@ pub fn own_start(s: &[usize], lo: usize, hi: usize) -> usize
     requires { ⌜ NodeAt (now s) lo hi ⌝ }
     ensures { λ r. ⌜ OwnStart (now (s .entry)) lo hi r ⌝ }
 {
-    let c = cells::cell_at(s, hi);
-    let n = arity::children_of(c.tag, c.flag, c.a, c.b, c.c);
-    if n.nodes == 0 {
+    if source_count(s, lo, hi) == 0 {
         return lo;
     }
-    trees_start(s, n.parts + n.aggs, hi - 6)
+    let n = own_trees(s, lo, hi);
+    trees_start(s, n, hi - 6)
 }
 
 // The number of columns of table t; a table that there isn't has none.
@@ -126,15 +162,31 @@ fn own_columns(s: &[usize], lo: usize, hi: usize, m: usize, widths: &[usize]) ->
     remap_columns(s, m, hi - 6)
 }
 
-// Whether a node's columns are those of its sources, by its tag, from 50 Aggregate to 63 Values: Filter, Limit, Offset, Order and the joins.
-const THROUGH: [usize; 14] = [0, 1, 1, 0, 0, 1, 1, 0, 1, 1, 0, 0, 0, 0];
-
+// Whether the columns of the node from lo to hi are those of its sources: 51 Filter, 52 HashJoin, 55 Limit, 56 NestedLoopJoin, 58 Offset, 59 Order.
 fn goes_through(s: &[usize], lo: usize, hi: usize) -> usize
     requires { ⌜ NodeAt (now s) lo hi ⌝ }
     ensures { λ r. ⌜ GoesThrough (now (s .entry)) lo hi r ⌝ }
 {
     let tag = cells::tag_at(s, hi);
-    THROUGH[tag - 50]
+    if tag == 50 {
+        return 0;
+    }
+    if tag < 53 {
+        return 1;
+    }
+    if tag < 55 {
+        return 0;
+    }
+    if tag < 57 {
+        return 1;
+    }
+    if tag == 57 {
+        return 0;
+    }
+    if tag < 60 {
+        return 1;
+    }
+    0
 }
 
 // The columns of a node that says them itself; its own words start at m.

@@ -1,29 +1,54 @@
--- `layout::row_of` meets its contract: the table's rule is one equation, which antt computes: its rows, read as tags, are the definition's list.
-use Rattle.layout.specs.Row.{tag-from}
-use Rattle.layout.proofs.Cells.{row-is, row-past}
-use Prim.Native.Nat.{ℕ}
-use mathlib.Core.Path.{refl}
-use mathlib.Core.List.{List, [], _∷_}
+-- `layout::row_of` meets its contract: by ranges of tags, and none from 64 on is known.
+use Rattle.layout.proofs.Cells.{row-past}
 use borrow.Author.Needs.{needs}
 use Rattle.layout.proofs.row_of.Statement.{statement}
 use Rattle.layout.proofs.row_of.Tie as tie
 
-mul-result : tie.Need-mul-result
-mul-result c = search needs
-
-rows : List ℕ
-rows =
-    0 ∷ 1 ∷ 33 ∷ 273 ∷ 273 ∷ 81 ∷ 17 ∷ 0 ∷ 0 ∷ 0 ∷ 1 ∷ 1 ∷ 1 ∷ 1 ∷ 1 ∷ 1 ∷ 1 ∷ 16 ∷ 16 ∷ 16 ∷ 16 ∷ 16 ∷ 0 ∷ 0 ∷ 0 ∷ 0 ∷ 0 ∷ 0 ∷ 0 ∷ 0 ∷ 1 ∷ 1 ∷ 1 ∷ 1 ∷ 1 ∷ 16 ∷ 16 ∷ 0 ∷ 0 ∷ 0 ∷ 1891 ∷ 1891 ∷ 2 ∷ 66 ∷ 5 ∷ 17 ∷ 0 ∷ 0 ∷ 0 ∷ 0 ∷ 273 ∷ 1 ∷ 274 ∷ 5682 ∷ 5682 ∷ 273 ∷ 4 ∷ 17 ∷ 273 ∷ 17 ∷ 17 ∷ 17 ∷ 1844 ∷ 17 ∷ []
-
-array-read-result : tie.Need-array-read-result
-array-read-result c = search needs
+row-to-9-requires : tie.Need-row-to-9-requires
+row-to-9-requires c κs = search needs
 
 returns : tie.Need-returns
-unfolding rows tag-from
-returns c = row-is rows refl (c .before .args .tag)
+returns c = search needs
+
+row-to-39-requires : tie.Need-row-to-39-requires
+row-to-39-requires c κs = search needs
 
 returns-2 : tie.Need-returns-2
-returns-2 c = row-past _ (c .if1 .left)
+returns-2 c = search needs
+
+row-to-49-requires : tie.Need-row-to-49-requires
+row-to-49-requires c κs = search needs
+
+returns-3 : tie.Need-returns-3
+returns-3 c = search needs
+
+row-to-56-requires : tie.Need-row-to-56-requires
+row-to-56-requires c κs = search needs
+
+returns-4 : tie.Need-returns-4
+returns-4 c = search needs
+
+row-to-63-requires : tie.Need-row-to-63-requires
+row-to-63-requires c κs = search needs
+
+returns-5 : tie.Need-returns-5
+returns-5 c = search needs
+
+returns-6 : tie.Need-returns-6
+returns-6 c = row-past _ (c .if5 .left)
 
 pub row-of-spec : {M : Type 1} → statement M
-row-of-spec = tie.close (tie.spec mul-result array-read-result returns returns-2)
+row-of-spec =
+    tie.close
+    (tie.spec
+    row-to-9-requires
+    returns
+    row-to-39-requires
+    returns-2
+    row-to-49-requires
+    returns-3
+    row-to-56-requires
+    returns-4
+    row-to-63-requires
+    returns-5
+    returns-6)

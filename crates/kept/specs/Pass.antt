@@ -1,0 +1,24 @@
+-- The contract of a pass, or of a step of one, that edits the plan in place (crate edit). `widths` is what the code is lent of the schema (crate nodes).
+use Prim.Native.Nat.{ℕ, _≤_}
+use mathlib.Core.List.{List}
+use lib.ListN.{length}
+use Rattle.sql.specs.Schema.{Schema}
+use Rattle.sql.specs.Plan.{Node}
+use Rattle.sql.specs.Answer.{Answer}
+use Rattle.nodes.specs.Columns.{Tables}
+use Rattle.edit.specs.Edit.{Held, Edit}
+use Rattle.kept.specs.Kept.{Kept}
+
+-- Some sound node of a schema that is lent stands there, in a list that is short enough for its columns to be counted without overflow.
+pub record PassAt (widths x : List ℕ) (t lo tail : ℕ) : Type 0 where
+  pub schema : Schema
+  pub text : List ℕ
+  pub tables : ℕ
+  pub given : Tables schema widths
+  pub held : Held (Kept schema text tables) x t lo tail
+  pub short : length x ≤ 16777216
+
+-- x′ with n words is x with t words after f, a function of the room, the schema, the number of cells outside the node, and the node.
+abbrev pub Passes : (ℕ → Schema → ℕ → Node → Answer Node) → (widths x : List ℕ) (t lo tail n : ℕ) → List ℕ → Type 0
+Passes f widths x t lo tail n x′ =
+    (schema : Schema) (text : List ℕ) (tables : ℕ) → Tables schema widths → Edit (Kept schema text tables) (λ room. f room schema) x t lo tail n x′

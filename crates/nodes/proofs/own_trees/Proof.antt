@@ -1,0 +1,42 @@
+use Rattle.nodes.proofs.Own.{at-in, aggregate-trees, aggregate-few, list-trees, filter-trees, join-trees-said, no-trees}
+use Prim.Native.Nat.{ℕ, _+_, _-_, _*_, _≤_, _<_}
+use native.Mathlib.Omega.{arith}
+use mathlib.Core.Path.{_≡_, refl, sym, ap, _∙_, subst}
+use mathlib.Core.List.{List, [], _∷_, _++_}
+use lib.ListN.{length, take, drop}
+use borrow.Author.Needs.{needs}
+use Rattle.nodes.proofs.own_trees.Statement.{statement}
+use Rattle.nodes.proofs.own_trees.Tie as tie
+
+cell-at-requires : tie.Need-cell-at-requires
+cell-at-requires c κs = let (h, k) = at-in (c .before .pre) in (omega arith, k)
+
+add-result : tie.Need-add-result
+add-result c = let (h, k) = at-in (c .before .before .before .before .before .pre) in omega (arith, aggregate-few (c .before .before .before .cell-at .ensures) (c .before .if1 .taken) (c .before .before .before .before .before .pre))
+
+returns : tie.Need-returns
+returns c = aggregate-trees (c .before .before .before .cell-at .ensures) (c .before .if1 .taken)
+
+returns-2 : tie.Need-returns-2
+returns-2 c = list-trees (c .before .before .before .before .cell-at .ensures) (c .if2 .taken)
+
+returns-3 : tie.Need-returns-3
+returns-3 c = filter-trees (c .before .before .before .before .before .before .cell-at .ensures) (c .if3 .taken)
+
+returns-4 : tie.Need-returns-4
+returns-4 c = join-trees-said (c .before .before .before .before .before .before .before .before .before .cell-at .ensures) (c .before .if4 .taken)
+
+returns-5 : tie.Need-returns-5
+returns-5 c = no-trees (c .before .before .before .before .before .before .before .before .cell-at .ensures) (c .before .before .before .before .before .before .if1 .left) (c .before .before .before .before .if2 .left) (c .before .before .if3 .left) (c .if4 .left)
+
+pub own-trees-spec : {M : Type 1} → statement M
+own-trees-spec =
+    tie.close
+    (tie.spec
+    cell-at-requires
+    add-result
+    returns
+    returns-2
+    returns-3
+    returns-4
+    returns-5)
