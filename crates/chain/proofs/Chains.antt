@@ -1,0 +1,185 @@
+-- Laws on chains: going down through one, its words, and its words over another node.
+use Prim.Native.Nat.{ℕ, _+_, _-_, _*_, _≤_, _<_}
+use native.Mathlib.Omega.{arith}
+use mathlib.Core.Bool.{Bool, true, false}
+use mathlib.Core.Path.{_≡_, refl, sym, ap, _∙_}
+use mathlib.Core.List.{List, [], _∷_, _++_, append-assoc, append-nil}
+use mathlib.Core.Option.{Option, none, some}
+use lib.ListN.{length, length-append}
+use Rattle.sql.specs.Expression.{IsNull, IsNaN, Identity, Negate, Unary, Not, function, Expression, constant, column, unary, binary}
+use Rattle.sql.specs.Plan.{Label, unlabelled, unqualified, qualified, Other, limit, offset, order, projection, remap, aggregate, filter, other, Node, leaf, over, join, over-size, node-size}
+use Rattle.sheet.specs.Content.{Content, bit, constant-cell, column-cell, unary-cell, binary-cell, item-cell, key-cell, target-cell, agg-cell, unary-tag}
+use Rattle.cells.specs.Cells.{words, sized, tag-at}
+use Rattle.words.specs.Words.{cell, all-words, expression-words, item-words, key-words, agg-words, target-words, over-own, over-cell, node-words, source-count}
+use Rattle.words.specs.Place.{NodeHere, NodeAt}
+use Rattle.words.proofs.Expressions.{tag, tag-cell, constant-tag, binary-range}
+use Rattle.words.proofs.Nodes.{node-tag, source-part, node-in}
+use Rattle.words.proofs.Tags.{tag-of, over-tag, tagged, tag-known}
+use Rattle.words.proofs.Sizes.{over-long}
+use Rattle.nodes.specs.Own.{OwnStart, SourceCount}
+use Rattle.chain.specs.Chain.{chain, sizes, behind-one, behind, is-other, IsOther, Through, GoesDown}
+use Rattle.chain.specs.Resized.{resized}
+use Rattle.chain.proofs.Resizing.{Plain, plain-none, plain-both, plain-sized, node-resized}
+
+-- ---- whether a node is one of a chain
+
+other-tag : (o : Other) → over-tag (other o) ≡ 51 → ⊥
+other-tag (limit n) h = absurd (omega arith)
+other-tag (offset n) h = absurd (omega arith)
+other-tag (order ks) h = absurd (omega arith)
+other-tag (projection is) h = absurd (omega arith)
+other-tag (remap ts) h = absurd (omega arith)
+other-tag (aggregate es gs) h = absurd (omega arith)
+
+pub tag-in : {s : List ℕ} {lo hi : ℕ} → NodeAt s lo hi → (6 ≤ hi) × (hi ≤ length s)
+tag-in g = let (h, k) = node-in (g .p) (g .here) in (omega arith, k)
+
+pub a-filter : {s : List ℕ} {lo hi tag : ℕ} → tag ≡ tag-at s hi → tag ≡ 51 → IsOther s lo hi false
+a-filter {s} {lo} {hi} e z p u = go p (sym (tagged p) ∙ sym (node-tag p u) ∙ sym e ∙ z)
+  where
+    go : (p : Node) → tag-of p ≡ 51 → false ≡ is-other p
+    go (leaf l) h = refl
+    go (over (filter e) n) h = refl
+    go (over (other o) n) h = absurd (other-tag o h)
+    go (join outer j l r) h = refl
+
+pub an-other : {s : List ℕ} {lo hi tag count : ℕ} → tag ≡ tag-at s hi → (tag ≡ 51 → ⊥) → SourceCount s lo hi count → count ≡ 1 → IsOther s lo hi true
+an-other {s} {lo} {hi} e y c z p u = go p (λ k. y (e ∙ node-tag p u ∙ tagged p ∙ k)) (sym (c p u) ∙ z)
+  where
+    go : (p : Node) → (tag-of p ≡ 51 → ⊥) → source-count p ≡ 1 → true ≡ is-other p
+    go (leaf l) h k = absurd (omega arith)
+    go (over (filter e) n) h k = absurd (h refl)
+    go (over (other o) n) h k = refl
+    go (join outer j l r) h k = absurd (omega arith)
+
+pub no-other : {s : List ℕ} {lo hi count : ℕ} → SourceCount s lo hi count → (count ≡ 1 → ⊥) → IsOther s lo hi false
+no-other {s} {lo} {hi} c z p u = go p (λ k. z (c p u ∙ k))
+  where
+    go : (p : Node) → (source-count p ≡ 1 → ⊥) → false ≡ is-other p
+    go (leaf l) h = refl
+    go (over (filter e) n) h = refl
+    go (over (other o) n) h = absurd (h refl)
+    go (join outer j l r) h = refl
+
+-- ---- going down
+
+pub down-none : (s : List ℕ) (n lo hi : ℕ) → GoesDown s n lo hi n hi
+down-none s n lo hi p u = record { above = []; q = p; is = refl; count = omega arith; here = u }
+
+pub down-at : {s : List ℕ} {n lo hi left end : ℕ} → GoesDown s n lo hi left end → NodeAt s lo hi → NodeAt s lo end
+down-at d g = let r = d (g .p) (g .here) in record { p = r .q; here = r .here }
+
+no-true : {A : Type 0} → false ≡ true → A
+no-true h = let y : _≡_ {A = ℕ} 0 1 = ap bit h in absurd (omega arith)
+
+by-other : (P : Node → Type 0) → ((o : Other) (n : Node) → P (over (other o) n)) → (p : Node) → is-other p ≡ true → P p
+by-other P f (leaf l) h = no-true h
+by-other P f (over (filter e) n) h = no-true h
+by-other P f (over (other o) n) h = f o n
+by-other P f (join outer j l r) h = no-true h
+
+pub down-next : {s : List ℕ} {n lo hi left end m : ℕ} {b : Bool} → GoesDown s n lo hi left end → IsOther s lo end b → b ≡ true → OwnStart s lo end m → 0 < left
+    → GoesDown s n lo hi (left - 1) m
+down-next {s} {n} {lo} {hi} {left} {end} {m} d c z own k p u =
+    let r = d p u in
+    by-other (λ q. p ≡ chain (r .above) q → NodeHere s lo end q → Through s n lo (left - 1) m p)
+    (λ o q e h. record {
+      above = o ∷ r .above;
+      q = q;
+      is = e;
+      count = omega (arith, r .count);
+      here = record { part = source-part (over (other o) q) h (own (over (other o) q) h) };
+    })
+    (r .q) (sym (c (r .q) (r .here)) ∙ z) (r .is) (r .here)
+
+-- ---- a chain's words
+
+over-words : (o : Other) (p : Node) → node-words (over (other o) p) ≡ node-words p ++ behind-one o p
+unfolding node-words
+over-words o p =
+    append-assoc (node-words p) (over-own (other o)) (words (cell (over-cell (other o))) (length (node-words p ++ over-own (other o)) + 6))
+
+pub chain-words : (os : List Other) (p : Node) → node-words (chain os p) ≡ node-words p ++ behind os p
+chain-words [] p = sym (append-nil (node-words p))
+chain-words (o ∷ os) p =
+    chain-words os (over (other o) p)
+    ∙ ap (λ (w : List ℕ). w ++ behind os (over (other o) p)) (over-words o p)
+    ∙ append-assoc (node-words p) (behind-one o p) (behind os (over (other o) p))
+
+one-long : (o : Other) (p : Node) → length (behind-one o p) ≡ 6 * over-size (other o)
+one-long o p =
+    omega (arith, over-long (other o), length-append (over-own (other o)) (words (cell (over-cell (other o))) (length (node-words p ++ over-own (other o)) + 6)))
+
+pub behind-long : (os : List Other) (p : Node) → length (behind os p) ≡ 6 * sizes os
+behind-long [] p = refl
+behind-long (o ∷ os) p =
+    omega (arith, length-append (behind-one o p) (behind os (over (other o) p)), one-long o p, behind-long os (over (other o) p))
+
+pub chain-size : (os : List Other) (p : Node) → node-size (chain os p) ≡ node-size p + sizes os
+chain-size [] p = omega arith
+chain-size (o ∷ os) p = omega (arith, chain-size os (over (other o) p))
+
+-- ---- over another node
+
+plain-content : (k : Content) (b : List ℕ) → Plain b → tag k < 50 → Plain (sized b (cell k))
+plain-content k b f h = plain-sized b (cell k) f (omega (arith, tag-cell k))
+
+unary-small : (o : Unary) → unary-tag o < 50
+unary-small Not = omega arith
+unary-small (function IsNull) = omega arith
+unary-small (function IsNaN) = omega arith
+unary-small (function Identity) = omega arith
+unary-small (function Negate) = omega arith
+
+plain-expression : (e : Expression) → Plain (expression-words e)
+unfolding expression-words
+plain-expression (constant v) = plain-content (constant-cell v) [] plain-none (omega (arith, constant-tag v))
+plain-expression (column i) = plain-content (column-cell i) [] plain-none (omega arith)
+plain-expression (unary o x) = plain-content (unary-cell o) (expression-words x) (plain-expression x) (unary-small o)
+plain-expression (binary o l r) =
+    plain-content (binary-cell o) (expression-words l ++ expression-words r) (plain-both (expression-words l) (expression-words r) (plain-expression l) (plain-expression r)) (omega (arith, binary-range o .1))
+
+plain-all : {A : Type 0} (f : A → List ℕ) → ((x : A) → Plain (f x)) → (xs : List A) → Plain (all-words f xs)
+plain-all f h [] = plain-none
+plain-all f h (x ∷ xs) = plain-both (f x) (all-words f xs) (h x) (plain-all f h xs)
+
+item-small : (l : Label) → tag (item-cell l) < 50
+item-small unlabelled = omega arith
+item-small (unqualified n) = omega arith
+item-small (qualified q n) = omega arith
+
+target-small : (t : Option ℕ) → tag (target-cell t) < 50
+target-small none = omega arith
+target-small (some t) = omega arith
+
+plain-own : (o : Other) → Plain (over-own (other o))
+plain-own (limit n) = plain-none
+plain-own (offset n) = plain-none
+plain-own (order ks) =
+    plain-all key-words (λ k. plain-content (key-cell (k .1)) (expression-words (k .0)) (plain-expression (k .0)) (omega arith)) ks
+plain-own (projection is) =
+    plain-all item-words (λ i. plain-content (item-cell (i .1)) (expression-words (i .0)) (plain-expression (i .0)) (item-small (i .1))) is
+plain-own (remap ts) = plain-all target-words (λ t. plain-content (target-cell t) [] plain-none (target-small t)) ts
+plain-own (aggregate es gs) =
+    plain-both (all-words expression-words es) (all-words agg-words gs) (plain-all expression-words plain-expression es)
+    (plain-all agg-words (λ g. plain-content (agg-cell (g .0)) (expression-words (g .1)) (plain-expression (g .1)) (omega arith)) gs)
+
+pub behind-resized : (os : List Other) (p q : Node) → resized (length (node-words q)) (behind os p) ≡ behind os q
+unfolding resized
+behind-resized [] p q = refl
+behind-resized (o ∷ os) p q =
+    let own = over-own (other o) in
+    let k = cell (over-cell (other o)) in
+    let low = length (node-words p ++ own) + 6 in
+    let high = length (node-words q ++ own) + 6 in
+    let rest = behind os (over (other o) p) in
+    let t : 50 ≤ k .tag = omega (arith, tag-cell (over-cell (other o)), tagged (over (other o) p), tag-known (over (other o) p) .0) in
+    let e : length (node-words q) + length own + 6 ≡ high = omega (arith, length-append (node-words q) own) in
+    let i : high ≡ length (node-words (over (other o) q)) =
+    omega (arith, ap length (over-words o q), length-append (node-words q) (behind-one o q), length-append own (words k high), length-append (node-words q) own) in
+    ap (resized (length (node-words q))) (append-assoc own (words k low) rest)
+    ∙ plain-own o (length (node-words q)) (words k low ++ rest)
+    ∙ ap (λ (w : List ℕ). own ++ w) (node-resized k low (length (node-words q) + length own) rest t)
+    ∙ ap (λ (n : ℕ). own ++ (words k n ++ resized n rest)) e
+    ∙ ap (λ (w : List ℕ). own ++ (words k high ++ w)) (ap (λ (n : ℕ). resized n rest) i ∙ behind-resized os (over (other o) p) (over (other o) q))
+    ∙ sym (append-assoc own (words k high) (behind os (over (other o) q)))

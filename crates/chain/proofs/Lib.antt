@@ -1,0 +1,4 @@
+pub mod Resizing
+pub mod Chains
+pub mod Edits
+pub mod Writing

@@ -1,0 +1,54 @@
+use Rattle.chain.specs.Chain.{GoesDown}
+use Rattle.chain.proofs.Chains.{down-none, down-at, down-next}
+use borrow.Author.Needs.{needs}
+use Rattle.chain.proofs.descend.Statement.{statement}
+use Rattle.chain.proofs.descend.Tie as tie
+use Rattle.chain.proofs.descend.Reads as reads
+use Rattle.chain.proofs.descend.Lts as lts
+use Rattle.chain.proofs.is_other.Reads as is-other-reads
+use Rattle.nodes.proofs.own_start.Reads as own-start-reads
+
+abbrev Inv-loop : tie.InvT-loop
+Inv-loop s n lo hi left₀ end₀ left end = GoesDown s n lo hi left end
+
+abbrev μ-loop : tie.MeasureT-loop
+μ-loop s n lo hi left₀ end₀ left end = left
+
+loop-holds : tie.Need-loop-holds Inv-loop μ-loop
+loop-holds c = down-none (c .before .args .s .now) (c .before .args .n) (c .before .args .lo) (c .before .args .hi)
+
+is-other-requires : tie.Need-is-other-requires Inv-loop μ-loop
+is-other-requires c κs = down-at (c .before .loop .inv) (c .before .before .before .pre)
+
+own-start-requires : tie.Need-own-start-requires Inv-loop μ-loop
+own-start-requires c κs = down-at (c .before .before .before .loop .inv) (c .before .before .before .before .before .pre)
+
+sub-left : tie.Need-sub-left Inv-loop μ-loop
+sub-left c = search needs
+
+loop-less : tie.Need-loop-less Inv-loop μ-loop
+loop-less c = search needs
+
+loop-again : tie.Need-loop-again Inv-loop μ-loop
+loop-again c = down-next (c .before .before .before .before .loop .inv) (c .before .before .is-other .ensures) (c .before .if1 .taken) (c .own-start .ensures) (c .before .before .before .loop-test .taken)
+
+returns : tie.Need-returns Inv-loop μ-loop
+returns c = c .before .before .before .loop .inv
+
+returns-2 : tie.Need-returns-2 Inv-loop μ-loop
+returns-2 c = c .before .loop .inv
+
+pub descend-spec : {M : Type 1} → statement M
+descend-spec =
+    tie.close
+    (tie.spec
+    Inv-loop
+    μ-loop
+    loop-holds
+    is-other-requires
+    own-start-requires
+    sub-left
+    loop-less
+    loop-again
+    returns
+    returns-2)

@@ -1,0 +1,100 @@
+use Rattle.chain.proofs.Resizing.{Doing, none-done, next-done, all-done}
+use Prim.Native.Nat.{_-_, _≤_}
+use native.Mathlib.Omega.{arith}
+use mathlib.Core.Path.{_≡_, refl}
+use lib.ListN.{length, length-set}
+use borrow.Author.Needs.{needs}
+use Rattle.chain.proofs.reseal.Statement.{statement}
+use Rattle.chain.proofs.reseal.Tie as tie
+use Rattle.chain.proofs.reseal.Reads as reads
+use Rattle.chain.proofs.reseal.Lts as lts
+use Rattle.chain.proofs.size.Reads as size-reads
+
+abbrev Inv-loop : tie.InvT-loop
+Inv-loop x₀ t lo from tail to at₀ x at = (lo ≤ at) × ((at ≤ t - tail) × ((length x ≡ length x₀) × Doing x₀ lo from (t - tail) at x))
+
+abbrev μ-loop : tie.MeasureT-loop
+μ-loop x₀ t lo from tail to at₀ x at = t - tail - at
+
+sub-to : tie.Need-sub-to Inv-loop μ-loop
+sub-to c = search needs
+
+loop-holds : tie.Need-loop-holds Inv-loop μ-loop
+loop-holds c = (c .before .pre .0, (omega (arith, c .before .pre .1 .0), (refl, none-done (c .before .args .x .now) (c .before .args .lo) (c .before .args .from) (c .before .args .t - c .before .args .tail))))
+
+sub-loop : tie.Need-sub-loop Inv-loop μ-loop
+sub-loop c = search needs
+
+mul-size : tie.Need-mul-size Inv-loop μ-loop
+mul-size c = search needs
+
+slice-read-size : tie.Need-slice-read-size Inv-loop μ-loop
+slice-read-size c = search needs
+
+add-size : tie.Need-add-size Inv-loop μ-loop
+add-size c = search needs
+
+sub-size : tie.Need-sub-size Inv-loop μ-loop
+sub-size c = search needs
+
+add-size-2 : tie.Need-add-size-2 Inv-loop μ-loop
+add-size-2 c = search needs
+
+mul-size-2 : tie.Need-mul-size-2 Inv-loop μ-loop
+mul-size-2 c = search needs
+
+slice-read-size-2 : tie.Need-slice-read-size-2 Inv-loop μ-loop
+slice-read-size-2 c = search needs
+
+size-requires : tie.Need-size-requires Inv-loop μ-loop
+size-requires c κs = search needs
+
+add-x : tie.Need-add-x Inv-loop μ-loop
+add-x c = search needs
+
+mul-x : tie.Need-mul-x Inv-loop μ-loop
+mul-x c = search needs
+
+slice-write-x : tie.Need-slice-write-x Inv-loop μ-loop
+slice-write-x c = search needs
+
+add-at : tie.Need-add-at Inv-loop μ-loop
+add-at c = search needs
+
+loop-less : tie.Need-loop-less Inv-loop μ-loop
+loop-less c = search needs
+
+loop-again : tie.Need-loop-again Inv-loop μ-loop
+loop-again c = (omega (arith, c .before .before .before .before .loop .inv .0), (omega (arith, c .before .before .before .loop-test .taken), (simp length-set (c .before .before .before .before .loop .inv .1 .1 .0), next-done (c .before .before .before .before .before .before .args .x .now) (c .before .before .before .before .loop .x) (c .before .before .before .before .before .before .args .lo) (c .before .before .before .before .before .before .args .from) (c .before .before .before .before .before .before .args .t - c .before .before .before .before .before .before .args .tail) (c .before .before .before .before .loop .at) (c .size .result) (c .before .before .before .before .loop .inv .0) (c .before .before .before .loop-test .taken) (c .size .ensures) (c .before .before .before .before .loop .inv .1 .1 .1))))
+
+same-length : tie.Need-same-length Inv-loop μ-loop
+same-length c = search needs
+
+returns : tie.Need-returns Inv-loop μ-loop
+returns c = all-done (c .before .before .before .args .x .now) (c .before .loop .x) (c .before .before .before .args .t) (c .before .before .before .args .lo) (c .before .before .before .args .from) (c .before .before .before .args .tail) (c .before .loop .at) (omega (arith, c .loop-test .left)) (c .before .loop .inv .1 .1 .1)
+
+pub reseal-spec : {M : Type 1} → statement M
+reseal-spec =
+    tie.close
+    (tie.spec
+    Inv-loop
+    μ-loop
+    sub-to
+    loop-holds
+    sub-loop
+    mul-size
+    slice-read-size
+    add-size
+    sub-size
+    add-size-2
+    mul-size-2
+    slice-read-size-2
+    size-requires
+    add-x
+    mul-x
+    slice-write-x
+    add-at
+    loop-less
+    loop-again
+    same-length
+    returns)

@@ -1,0 +1,57 @@
+-- Chains: nodes with one source that are no Filters, each over the next one, and where the node below them stands.
+use Prim.Native.Nat.{ℕ, _+_}
+use mathlib.Core.Bool.{Bool, true, false}
+use mathlib.Core.Path.{_≡_}
+use mathlib.Core.List.{List, [], _∷_, _++_}
+use lib.ListN.{length}
+use Rattle.sql.specs.Plan.{Other, filter, other, Node, leaf, over, join, over-size}
+use Rattle.cells.specs.Cells.{words}
+use Rattle.cells.specs.Room.{Wrote}
+use Rattle.words.specs.Words.{cell, over-own, over-cell, node-words}
+use Rattle.words.specs.Place.{NodeHere}
+
+-- the nodes of a chain over a node, the lowest one first
+abbrev pub chain : List Other → Node → Node
+chain [] p = p
+chain (o ∷ os) p = chain os (over (other o) p)
+
+-- how many cells they have
+abbrev pub sizes : List Other → ℕ
+sizes [] = 0
+sizes (o ∷ os) = sizes os + over-size (other o)
+
+-- their words, which stand behind those of the node below
+abbrev pub behind-one : Other → Node → List ℕ
+behind-one o p = over-own (other o) ++ words (cell (over-cell (other o))) (length (node-words p ++ over-own (other o)) + 6)
+
+abbrev pub behind : List Other → Node → List ℕ
+behind [] p = []
+behind (o ∷ os) p = behind-one o p ++ behind os (over (other o) p)
+
+abbrev pub is-other : Node → Bool
+is-other (leaf l) = false
+is-other (over (filter e) n) = false
+is-other (over (other o) n) = true
+is-other (join outer j l r) = false
+
+-- ---- contracts
+
+abbrev pub IsOther : List ℕ → ℕ → ℕ → Bool → Type 0
+IsOther s lo hi r = (p : Node) → NodeHere s lo hi p → r ≡ is-other p
+
+-- p is a chain over a node that ends before `end`; n is the length of the chain and `left`.
+pub record Through (s : List ℕ) (n lo left end : ℕ) (p : Node) : Type 0 where
+  pub above : List Other
+  pub q : Node
+  pub is : p ≡ chain above q
+  pub count : n ≡ left + length above
+  pub here : NodeHere s lo end q
+
+abbrev pub GoesDown : List ℕ → ℕ → ℕ → ℕ → ℕ → ℕ → Type 0
+GoesDown s n lo hi left end = (p : Node) → NodeHere s lo hi p → Through s n lo left end p
+
+-- The chain from `end` up to hi is written over whatever node was written from lo up to `at`.
+abbrev pub Follows : List ℕ → ℕ → ℕ → List ℕ → ℕ → ℕ → ℕ → List ℕ → Type 0
+Follows x end hi y lo at n y′ =
+    (low : ℕ) (os : List Other) (p q : Node) → NodeHere x low hi (chain os p) → NodeHere x low end p → (y₀ : List ℕ) → length y ≡ length y₀
+    → Wrote y₀ lo (node-words q) at y → Wrote y₀ lo (node-words (chain os q)) n y′

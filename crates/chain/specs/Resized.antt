@@ -1,0 +1,30 @@
+-- Cells of nodes that follow each other, with new sizes: a chain's cells over a node that has changed.
+use Prim.Native.Nat.{ℕ, _+_, _-_}
+use mathlib.Core.Bool.{cond}
+use mathlib.Core.Path.{_≡_}
+use mathlib.Core.List.{List, [], _∷_, _++_}
+use lib.ListN.{length}
+use lib.Dec.{leb}
+
+-- the size of a cell with this tag: the new one if it is a node's
+unfoldable pub new-size : ℕ → ℕ → ℕ → ℕ
+new-size tag new old = cond (leb 50 tag) new old
+
+-- The words of cells, of which n words of their node stand before the first.
+unfoldable pub resized : ℕ → List ℕ → List ℕ
+resized n [] = []
+resized n (t ∷ []) = t ∷ []
+resized n (t ∷ f ∷ []) = t ∷ f ∷ []
+resized n (t ∷ f ∷ a ∷ []) = t ∷ f ∷ a ∷ []
+resized n (t ∷ f ∷ a ∷ b ∷ []) = t ∷ f ∷ a ∷ b ∷ []
+resized n (t ∷ f ∷ a ∷ b ∷ c ∷ []) = t ∷ f ∷ a ∷ b ∷ c ∷ []
+resized n (t ∷ f ∷ a ∷ b ∷ c ∷ size ∷ ws) = t ∷ f ∷ a ∷ b ∷ c ∷ new-size t (n + 6) size ∷ resized (n + 6) ws
+
+-- The words of x from `from` up to `to` have new sizes in x′.
+abbrev pub Resizes : List ℕ → ℕ → ℕ → ℕ → List ℕ → Type 0
+Resizes x lo from to x′ =
+    (a c post : List ℕ) → x ≡ a ++ (c ++ post) → length a ≡ from → from + length c ≡ to → x′ ≡ a ++ (resized (from - lo) c ++ post)
+
+pub record Reseals (x : List ℕ) (t lo from tail r : ℕ) (x′ : List ℕ) : Type 0 where
+  pub same : r ≡ t
+  pub words : Resizes x lo from (t - tail) x′

@@ -1,0 +1,83 @@
+// Chains: nodes with one source that FilterPushdown leaves as they are, each over the next one. Such a chain can be as long as the plan, so a pass goes
+// down through it in a loop, works on the node below it, and seals the chain's cells over what that node has become in a second loop.
+ghost use mathlib.Core.Path.{_≡_};
+ghost use Prim.Native.Nat.{_+_, _≤_};
+ghost use lib.ListN.{length};
+ghost use Rattle.words.specs.Place.{NodeAt};
+ghost use Rattle.chain.specs.Chain.{IsOther, GoesDown, Follows};
+ghost use Rattle.chain.specs.Resized.{new-size, Reseals};
+
+// Whether the node from lo to hi has one source and is no Filter.
+fn is_other(s: &[usize], lo: usize, hi: usize) -> bool
+    requires { ⌜ NodeAt (now s) lo hi ⌝ }
+    ensures { λ r. ⌜ IsOther (now (s .entry)) lo hi r ⌝ }
+{
+    if cells::tag_at(s, hi) == 51 {
+        return false;
+    }
+    if nodes::source_count(s, lo, hi) == 1 {
+        return true;
+    }
+    false
+}
+
+// Where the node below a chain ends, and what is left of a number that is one lower for each node of the chain.
+pub struct Below {
+    pub end: usize,
+    pub left: usize,
+}
+
+// The node below the first n nodes of the chain that ends before hi, or below all of it if there are fewer. They all start at lo.
+pub fn descend(s: &[usize], n: usize, lo: usize, hi: usize) -> Below
+    requires { ⌜ NodeAt (now s) lo hi ⌝ }
+    ensures { λ r. ⌜ GoesDown (now (s .entry)) n lo hi (r .left) (r .end) ⌝ }
+{
+    let mut left = n;
+    let mut end = hi;
+    while 0 < left {
+        if is_other(s, lo, end) {
+            end = nodes::own_start(s, lo, end);
+            left -= 1;
+            continue;
+        }
+        return Below { end, left };
+    }
+    Below { end, left }
+}
+
+// The size in a cell of a chain: the cells of nodes, whose tags are from 50 up, get the new one, those of their parts keep theirs.
+fn size(tag: usize, new: usize, old: usize) -> usize
+    ensures { λ r. ⌜ r ≡ new-size tag new old ⌝ }
+{
+    if 50 <= tag {
+        return new;
+    }
+    old
+}
+
+// The plan stands in the first t words of x, and all but the last `tail` of the words behind `from` are those of a chain: its cells say how long its nodes
+// are, which start at lo.
+pub fn reseal(x: &mut [usize], t: usize, lo: usize, from: usize, tail: usize) -> usize
+    requires { ⌜ (lo ≤ from) × ((from + tail ≤ t) × (t ≤ length (now x))) ⌝ }
+    ensures { λ r. ⌜ Reseals (now (x .entry)) t lo from tail r (now (x .exit)) ⌝ }
+{
+    let to = t - tail;
+    let mut at = from;
+    while 6 <= to - at {
+        x[at + 5] = size(x[at], at + 6 - lo, x[at + 5]);
+        at += 6;
+    }
+    t
+}
+
+// The words of a chain, read in x from `end` up to hi, behind the node that was written to y from lo up to at: the chain over that node.
+pub fn follow(x: &[usize], end: usize, hi: usize, y: &mut [usize], lo: usize, at: usize) -> usize
+    requires { ⌜ (end ≤ hi) × ((hi ≤ length (now x)) × (lo ≤ at)) ⌝ }
+    ensures { λ r. ⌜ Follows (now (x .entry)) end hi (now (y .entry)) lo at r (now (y .exit)) ⌝ }
+{
+    let n = cells::copy(x, end, hi, y, at);
+    if y.len() < n {
+        return n;
+    }
+    reseal(y, n, lo, at, 0)
+}

@@ -1,0 +1,1 @@
+// What is lent of a schema to find lookups by: definitions alone.

@@ -1,0 +1,41 @@
+-- What the functions over a sheet's records are given, and what they fill in.
+use Prim.Native.Nat.{ℕ, _+_, _*_, _≤_}
+use mathlib.Core.Path.{_≡_}
+use mathlib.Core.Bool.{Bool, _||_}
+use mathlib.Core.List.{List}
+use mathlib.Core.Option.{none}
+use lib.Dec.{eqb}
+use lib.ListN.{length, take}
+use Rattle.sql.specs.Schema as Sql
+use Rattle.sheet.specs.Bytes.{byte}
+use Rattle.sheet.specs.Parts.{bad-record}
+use Rattle.layout.specs.Layout.{Whole}
+use Rattle.schema.specs.declared.Kind.{Kind}
+use Rattle.schema.specs.declared.Kind.the-variants.{Boolean, Integer, Float, String}
+
+-- What refusals 2, 4 and 5 leave: the parts stand in order, and each record is as it should be.
+pub record Recorded (s : List ℕ) : Type 0 where
+  pub whole : Whole s
+  pub records-are : bad-record s ≡ none
+
+-- A kind as the definitions have it, and as a sheet does.
+abbrev pub as-kind : Kind → Sql.Kind
+as-kind Boolean = Sql.Boolean
+as-kind Integer = Sql.Integer
+as-kind Float = Sql.Float
+as-kind String = Sql.String
+
+abbrev pub number : Kind → ℕ
+number Boolean = 0
+number Integer = 1
+number Float = 2
+number String = 3
+
+-- The first r elements of d are these.
+pub record Filled {A : Type 0} (values : List A) (r : ℕ) (d : List A) : Type 0 where
+  pub is : take r d ≡ values
+  pub inside : r ≤ length d
+
+-- Column i of a table is the key, or has an index. The table's column records start at byte `from`.
+abbrev pub mark : List ℕ → (from key i : ℕ) → Bool
+mark s from key i = eqb i key || eqb (byte s (from + i * 16 + 5)) 1

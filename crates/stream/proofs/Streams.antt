@@ -1,0 +1,199 @@
+-- Laws on what a streamed function leaves: a node that is written, a step with room, one answer after another, and a node's own words behind its sources.
+use Prim.Native.Nat.{ℕ, _+_, _-_, _*_, _≤_, _<_}
+use native.Mathlib.Omega.{arith}
+use mathlib.Core.Logic.{_⊎_, ⊎-elim}
+use mathlib.Core.Path.{_≡_, refl, sym, ap, _∙_, subst}
+use mathlib.Core.List.{List, [], _++_, append-assoc}
+use lib.ListN.{length, take, drop, length-append, take-append-drop}
+use lib.Seq.{take-take, take-at, length-take-le}
+use lib.Dec.{leb}
+use borrow.Author.Tests.{le-leb, lt-leb}
+use Rattle.sql.specs.Schema.{Schema}
+use Rattle.sql.specs.Plan.{Node, node-size}
+use Rattle.sql.specs.Answer.{Answer, done, refused, _>>=_}
+use Rattle.sql.specs.Room.{if-room}
+use Rattle.cells.specs.declared.Cell.{Cell}
+use Rattle.cells.specs.Cells.{sized, cell-at}
+use Rattle.cells.specs.Room.{Wrote, Seals, Copies}
+use Rattle.cells.proofs.Laws.{then, lt-or-ge}
+use Rattle.words.specs.Words.{cell, own-words, node-words}
+use Rattle.words.specs.Place.{NodeHere, NodeAt}
+use Rattle.words.proofs.Nodes.{own-part, node-cell-is, node-in}
+use Rattle.words.proofs.Sizes.{words-long}
+use Rattle.edit.specs.Edit.{Shares}
+use Rattle.kept.specs.Kept.{Kept}
+use Rattle.stream.specs.Stream.{Reading, StreamAt, Streamed, Finishes, InRoom}
+
+-- ---- the node that is read
+pub reading-total : {schema : Schema} {text : List ℕ} {tables : ℕ} {x : List ℕ} {lo hi tail : ℕ} {y : List ℕ} {at room rest : ℕ} {p : Node}
+    → Reading schema text tables x lo hi tail y at room rest p → at + length (node-words p) + tail ≤ length y
+reading-total h = omega (arith, h .fits, h .here .part .high)
+
+module _ {Lent : Schema → Type 0} {x : List ℕ} {lo hi tail : ℕ} {y : List ℕ} {at : ℕ} (g : StreamAt Lent x lo hi tail y at) where
+  pub stream-node : NodeAt x lo hi
+  stream-node = record { p = g .p; here = g .reading .here }
+
+  pub stream-in : (lo + 6 ≤ hi) × (hi ≤ length x)
+  stream-in = node-in (g .p) (g .reading .here)
+
+  pub stream-fits : at + (hi - lo) + tail ≤ length y
+  stream-fits = g .reading .fits
+
+-- ---- what is written
+module _ {Fit : Node → Type 0} {y : List ℕ} {at tail n : ℕ} {y′ : List ℕ} where
+  -- a node that is written, where there is room
+  pub written-done : (q : Node) → Fit q → length y′ ≡ length y → at + length (node-words q) + tail ≤ length y → Wrote y at (node-words q) n y′
+      → Streamed Fit y at tail n y′ (done q)
+  written-done q i k z w = let (e, f) = w .fits (omega arith) in record { is = (omega arith, (f, i)) }
+
+  -- no room
+  pub streamed-refused : length y′ < n → Streamed Fit y at tail n y′ (refused 14 0)
+  streamed-refused z = record { is = (z, (refl, refl)) }
+
+  -- a step: the node that is written, with the question for room
+  pub step-streamed : {room rest r : ℕ} (q : Node) → Fit q → Shares y at tail room rest → length y′ ≡ length y → Wrote y at (node-words q) n y′ → InRoom y′ n tail r
+      → Streamed Fit y at tail r y′ (if-room (leb (rest + node-size q) room) q)
+  step-streamed {room} {rest} {r} q i s k w g =
+      let l = words-long q in
+      ⊎-elim
+      (λ (z : room < rest + node-size q).
+      rw (lt-leb _ _ z)
+      (record {
+        is = (
+          ⊎-elim
+              (λ (v : length y < at + length (node-words q)). let a = w .full v in let b = g .full (omega arith) in omega arith)
+              (λ (v : at + length (node-words q) ≤ length y).
+              let (e, f) = w .fits v in let b = g .full (omega (arith, s .all, s .outside)) in omega arith)
+              (lt-or-ge (length y) (at + length (node-words q))),
+          (refl, refl),
+        );
+      }))
+      (λ (z : rest + node-size q ≤ room).
+      let (e, f) = w .fits (omega (arith, s .all, s .outside)) in
+      let b = g .fits (omega (arith, s .all, s .outside)) in
+      rw (le-leb _ _ z) (record { is = (omega (arith, s .all, s .outside), (ap (λ (m : ℕ). take m y′) b ∙ f, i)) }))
+      (lt-or-ge room (rest + node-size q))
+
+  -- a node that was written, as the next function finds it
+  module _ (q : Node) (h : at ≤ length y) (s : Streamed Fit y at tail n y′ (done q)) where
+    pub done-fit : Fit q
+    done-fit = s .is .1 .1
+
+    pub done-room : n + tail ≤ length y′
+    done-room = s .is .0
+
+    pub done-long : n ≡ at + length (node-words q)
+    done-long =
+        omega (arith, s .is .0, length-take-le n y′ (omega (arith, s .is .0)), ap length (s .is .1 .0), length-append (take at y) (node-words q), length-take-le at y h)
+
+    pub done-wrote : length y′ ≡ length y → Wrote y at (node-words q) n y′
+    done-wrote k = record { fits = λ i. (done-long, s .is .1 .0); full = λ i. absurd (omega (arith, done-long, s .is .0)) }
+
+    pub done-here : NodeHere y′ at n q
+    done-here =
+        record {
+          part =
+              record {
+                before = take at y;
+                after = drop n y′;
+                whole =
+                    sym (take-append-drop n y′)
+                    ∙ ap (λ (l : List ℕ). l ++ drop n y′) (s .is .1 .0)
+                    ∙ append-assoc (take at y) (node-words q) (drop n y′);
+                low = length-take-le at y h;
+                high = sym done-long;
+              };
+        }
+
+    -- the words before it are those that were written before
+    pub done-before : take at y′ ≡ take at y
+    done-before =
+        sym (take-take at n y′ (omega (arith, done-long))) ∙ ap (take at) (s .is .1 .0) ∙ take-at (take at y) (node-words q) at (length-take-le at y h)
+
+    -- so what is written over it stands behind the same words
+    pub written-over : length y′ ≡ length y → {w : List ℕ} {r : ℕ} {y₂ : List ℕ} → Wrote y′ at w r y₂ → Wrote y at w r y₂
+    written-over k {w} a =
+        record {
+          fits = λ i. let (e, f) = a .fits (omega arith) in (e, f ∙ ap (λ (l : List ℕ). l ++ w) done-before);
+          full = λ i. let z = a .full (omega arith) in omega arith;
+        }
+
+-- a node that is copied as it is
+pub copied-done : {schema : Schema} {text : List ℕ} {tables : ℕ} {x : List ℕ} {lo hi tail : ℕ} {y : List ℕ} {at room rest : ℕ} (p : Node)
+    → Reading schema text tables x lo hi tail y at room rest p → {n : ℕ} {y′ : List ℕ} → length y′ ≡ length y → Copies x lo hi y at n y′
+    → Streamed (Kept schema text tables p) y at tail n y′ (done p)
+copied-done p h k c = written-done p (h .fit) k (reading-total h) (c (node-words p) (h .here .part))
+
+-- ---- one answer after another
+module _ {Fit : Node → Type 0} {y : List ℕ} {at tail n : ℕ} {y′ : List ℕ} (o : Answer Node) (s : Streamed Fit y at tail n y′ o) where
+  -- the answer is done where the number of words isn't past the end
+  pub streamed-with : n ≤ length y′ → (P : Type 0) → ((q : Node) → Streamed Fit y at tail n y′ (done q) → P) → P
+  streamed-with z P k = go o s
+    where
+      go : (o : Answer Node) → Streamed Fit y at tail n y′ o → P
+      go (done q) s = k q s
+      go (refused number place) s = absurd (omega (arith, s .is .0))
+
+  module _ {Next : Node → Type 0} {y₀ : List ℕ} {at₀ tail₀ : ℕ} (g : Node → Answer Node) where
+    pub streamed-stop : length y′ < n → Streamed Next y₀ at₀ tail₀ n y′ (o >>= g)
+    streamed-stop z = go o s
+      where
+        go : (o : Answer Node) → Streamed Fit y at tail n y′ o → Streamed Next y₀ at₀ tail₀ n y′ (o >>= g)
+        go (done q) s = absurd (omega (arith, s .is .0))
+        go (refused number place) s = record { is = s .is }
+
+    pub streamed-go : n ≤ length y′ → {r : ℕ} {y₂ : List ℕ} → ((q : Node) → Streamed Fit y at tail n y′ (done q) → Streamed Next y₀ at₀ tail₀ r y₂ (g q))
+        → Streamed Next y₀ at₀ tail₀ r y₂ (o >>= g)
+    streamed-go z {r} {y₂} k = go o s
+      where
+        go : (o : Answer Node) → Streamed Fit y at tail n y′ o → Streamed Next y₀ at₀ tail₀ r y₂ (o >>= g)
+        go (done q) s = k q s
+        go (refused number place) s = absurd (omega (arith, s .is .0))
+
+-- ---- own words and cell
+pub finished : {x : List ℕ} {m hi : ℕ} {y : List ℕ} {at u end n : ℕ} {y₁ y₂ : List ℕ} {c : Cell} → length y₁ ≡ length y → Copies x m (hi - 6) y u end y₁
+    → c ≡ cell-at x hi → Seals y₁ at end c n y₂ → Finishes x m hi y at u n y₂
+finished {at = at} {n = n} {y₂ = y₂} k a q s lo p h own y₀ b k₀ w =
+    subst (λ (k : Cell). Wrote y₀ at (sized (b ++ own-words p) k) n y₂) (q ∙ node-cell-is p h)
+    (s y₀ (b ++ own-words p) (k ∙ k₀) (then k₀ w (a (own-words p) (own-part p h (own p h)))))
+
+-- ---- the whole plan
+module _ (x : List ℕ) (t : ℕ) (p : Node) (e : take t x ≡ node-words p) (h : t ≤ length x) where
+  top-long : length (node-words p) ≡ t
+  top-long = ap length (sym e) ∙ length-take-le t x h
+
+  pub top-here : NodeHere x 0 t p
+  top-here =
+      record {
+        part =
+            record {
+              before = [];
+              after = drop t x;
+              whole = sym (take-append-drop t x) ∙ ap (λ (l : List ℕ). l ++ drop t x) e;
+              low = refl;
+              high = omega (arith, top-long);
+            };
+      }
+
+  module _ (schema : Schema) (text : List ℕ) (tables : ℕ) (fit : Kept schema text tables p p) (y : List ℕ) (room : ℕ) (a : length y ≡ 6 * room) (f : t ≤ length y) where
+    pub top-reading : Reading schema text tables x 0 t 0 y 0 room 0 p
+    top-reading = record { fit = fit; here = top-here; shares = record { all = a; outside = refl }; fits = omega arith }
+
+    pub top-at : (Lent : Schema → Type 0) → Lent schema → length x ≤ 16777216 → length y ≤ 16777216 → StreamAt Lent x 0 t 0 y 0
+    top-at Lent l s u =
+        record {
+          schema = schema;
+          text = text;
+          tables = tables;
+          lent = l;
+          room = room;
+          rest = 0;
+          p = p;
+          reading = top-reading;
+          short = s;
+          short-out = u;
+        }
+
+pub top-done : {Fit : Node → Type 0} {y : List ℕ} {n : ℕ} {y′ : List ℕ} (q : Node) → Streamed Fit y 0 0 n y′ (done q)
+    → (n ≤ length y′) × ((take n y′ ≡ node-words q) × Fit q)
+top-done q s = (omega (arith, s .is .0), (s .is .1 .0, s .is .1 .1))
