@@ -1,0 +1,45 @@
+use Rattle.nodes.proofs.Widths.{columns-node}
+use Rattle.nodes.proofs.Own.{at-in}
+use Rattle.column_labels.proofs.Steps.{nothing-copied}
+use native.Mathlib.Omega.{arith}
+use mathlib.Core.Path.{sym, _∙_}
+use borrow.Author.Needs.{needs}
+use Rattle.column_labels.proofs.leaf_labels.Statement.{statement}
+use Rattle.column_labels.proofs.leaf_labels.Tie as tie
+
+tag-at-requires : tie.Need-tag-at-requires
+tag-at-requires c κs = let (h, k) = at-in (columns-node (c .before .before .before .before .before .pre .0)) in (omega arith, k)
+
+sub-copy : tie.Need-sub-copy
+sub-copy c = let (h, k) = at-in (columns-node (c .before .before .before .before .before .before .before .pre .0)) in omega arith
+
+copy-requires : tie.Need-copy-requires
+copy-requires c κs = let (h, k) = at-in (columns-node (c .before .before .before .before .before .before .before .before .pre .0)) in (omega arith, omega arith)
+
+same-length : tie.Need-same-length
+same-length c = search needs
+
+returns : tie.Need-returns
+returns c = nothing-copied (sym (c .before .before .before .before .before .tag-at .ensures) ∙ c .before .before .before .before .if1 .taken) (c .before .before .copy .ensures)
+
+each-label-requires : tie.Need-each-label-requires
+each-label-requires c κs = (c .before .before .before .before .before .before .before .before .pre .0, c .before .before .before .before .before .before .before .before .pre .1)
+
+same-length-2 : tie.Need-same-length-2
+same-length-2 c = search needs
+
+returns-2 : tie.Need-returns-2
+returns-2 c = c .before .before .each-label .ensures
+
+pub leaf-labels-spec : {M : Type 1} → statement M
+leaf-labels-spec =
+    tie.close
+    (tie.spec
+    tag-at-requires
+    sub-copy
+    copy-requires
+    same-length
+    returns
+    each-label-requires
+    same-length-2
+    returns-2)

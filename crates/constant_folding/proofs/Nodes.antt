@@ -1,0 +1,402 @@
+-- What folding a node leaves, from what its calls leave.
+use Prim.Native.Nat.{ℕ, _+_, _-_, _*_, _≤_, _<_}
+use native.Mathlib.Omega.{arith}
+use mathlib.Core.Bool.{Bool}
+use mathlib.Core.Path.{_≡_, refl, sym, ap, _∙_, subst}
+use mathlib.Core.List.{List, [], _∷_, _++_, append-assoc}
+use mathlib.Core.Option.{Option, none, some}
+use lib.ListN.{length, take, length-append}
+use lib.Seq.{take-take}
+use Rattle.sql.specs.Plan.{Leaf, Over, Join, Node, leaf, over, join, node-size}
+use Rattle.sql.specs.Answer.{Answer, done, refused, _>>=_}
+use Rattle.sql.specs.Optimizer.{fold-leaf, fold-over, fold-join, ConstantFolding}
+use Rattle.sheet_laws.specs.Fits.{All, Optional}
+use Rattle.sound.specs.Answers.{answer-is}
+use Rattle.cells.specs.declared.Cell.{Cell}
+use Rattle.cells.specs.Cells.{sized, cell-at, start-at, Part, Sized}
+use Rattle.cells.specs.Room.{Wrote, Seals, Copies}
+use Rattle.cells.proofs.Laws.{then, part-left, part-right, part-in}
+use Rattle.words.specs.Words.{cell, node-words, leaf-own, over-own, join-own, leaf-cell, over-cell, join-cell, source-words, own-words, node-cell}
+use Rattle.words.specs.Place.{NodeHere, NodeAt}
+use Rattle.words.proofs.Nodes.{node-shape, node-cell-is, node-in, node-size-at, node-start, node-long, source-part}
+use Rattle.words.proofs.Sizes.{sized-long, words-long}
+use Rattle.nodes.specs.Own.{OwnStart}
+use Rattle.fold_operator.specs.Left.{Appended}
+use Rattle.fold_operator.specs.declared.Folded.{Folded}
+use Rattle.fold_operator.specs.declared.Folded.the-variants as Folded
+use Rattle.fold_operator.proofs.Parts.{appended, wrote, appended-part, before-stays, part-kept}
+use Rattle.fold_parts.specs.Leaves.{Leaves, Up-to}
+use Rattle.fold_parts.specs.Parts.{Part-fits}
+use Rattle.fold_parts.specs.Own.{own-parts, OwnHere, OwnAt, Own-left, FoldsOwn}
+use Rattle.fold_parts.proofs.Leaves.{appended-none, appended-then, appended-as, said-as, up-to-as, refused-on, done-on, made-into, made-of}
+use Rattle.constant_folding.specs.Nodes.{Node-fits, earlier-source, last-source, words-of, fold-source, SourcesAt, LastStart, ClosesAt, Closes, SourceHere, SourceAt, Same-below, Stays, FoldsSource}
+use Rattle.constant_folding.proofs.Cells.{leaf-cell-kept, over-cell-kept, join-cell-kept}
+
+-- ---- last_source
+
+node-six : (p : Node) → 6 ≤ length (node-words p)
+node-six p = omega (arith, ap length (node-shape p), sized-long (source-words p ++ own-words p) (cell (node-cell p)))
+
+module _ {x : List ℕ} {lo m : ℕ} where
+  pub last-none : m ≤ lo → LastStart x lo m lo
+  last-none h (leaf l) u = omega arith
+  last-none h (over o n) u = absurd (omega (arith, node-six n, u .high))
+  last-none h (join outer j l r) u = absurd (omega (arith, node-six l, u .high, length-append (node-words l) (node-words r)))
+
+  module _ (h : lo < m) where
+    pub last-sized : SourcesAt x lo m → Sized x m
+    last-sized t = go (t .p) (t .stand)
+      where
+        go : (p : Node) → Part x lo m (source-words p) → Sized x m
+        go (leaf l) u = absurd (omega (arith, u .high))
+        go (over o n) u = node-size-at n (record { part = u })
+        go (join outer j l r) u = node-size-at r (record { part = part-right (node-words l) (node-words r) u })
+
+    pub last-some : {mid : ℕ} → mid ≡ start-at x m → LastStart x lo m mid
+    last-some e (leaf l) u = absurd (omega (arith, u .high))
+    last-some e (over o n) u = let k = node-start n (record { part = u }) in omega arith
+    last-some e (join outer j l r) u = e ∙ node-start r (record { part = part-right (node-words l) (node-words r) u })
+
+-- ---- close
+
+pub closes : {x : List ℕ} {hi : ℕ} {y : List ℕ} {at m : ℕ} {z : List ℕ} {zat n end r : ℕ} {k : Cell} {y₁ y₂ : List ℕ} → length y₁ ≡ length y → k ≡ cell-at x hi
+    → Copies z zat n y m end y₁ → Seals y₁ at end k r y₂ → Closes x hi y at m z zat n r y₂
+closes {at = at} {r = r} {y₂ = y₂} long e c s =
+    record { over-all = λ y₀ v w l a p. subst (λ (k : Cell). Wrote y₀ at (sized (v ++ w) k) r y₂) e (s y₀ (v ++ w) (long ∙ l) (then l a (c w p))) }
+
+-- ---- where the sources stand
+
+sources-are : (p : Node) → source-words p ≡ words-of (earlier-source p) ++ words-of (last-source p)
+sources-are (leaf l) = refl
+sources-are (over o n) = refl
+sources-are (join outer j l r) = refl
+
+earlier-fits : (text : List ℕ) (p : Node) → Node-fits text p → Optional (Node-fits text) (earlier-source p)
+earlier-fits text (leaf l) f = tt
+earlier-fits text (over o n) f = tt
+earlier-fits text (join outer j l r) f = f .1 .0
+
+last-fits : (text : List ℕ) (p : Node) → Node-fits text p → Optional (Node-fits text) (last-source p)
+last-fits text (leaf l) f = tt
+last-fits text (over o n) f = f .1
+last-fits text (join outer j l r) f = f .1 .1
+
+own-fits : (text : List ℕ) (p : Node) → Node-fits text p → All (Part-fits text) (own-parts p)
+own-fits text (leaf l) f = f
+own-fits text (over o n) f = f .0
+own-fits text (join outer j l r) f = f .0
+
+-- from where the own words start, and the last source
+module _ {x : List ℕ} {lo hi m : ℕ} (own : OwnStart x lo hi m) where
+  sources-part : (p : Node) → NodeHere x lo hi p → Part x lo m (source-words p)
+  sources-part p u = source-part p u (own p u)
+
+  -- the number of the first own cell
+  leaf-number : (first : ℕ) → lo ≡ 6 * first → (l : Leaf) → NodeHere x lo hi (leaf l) → m ≡ 6 * first
+  leaf-number first e l u = omega (arith, own (leaf l) u)
+
+  over-number : (first : ℕ) → lo ≡ 6 * first → (o : Over) (n : Node) → NodeHere x lo hi (over o n) → m ≡ 6 * (first + node-size n)
+  over-number first e o n u = omega (arith, own (over o n) u, words-long n)
+
+  join-number : (first : ℕ) → lo ≡ 6 * first → (outer : Bool) (j : Join) (l r : Node) → NodeHere x lo hi (join outer j l r) → m ≡ 6 * (first + (node-size l + node-size r))
+  join-number first e outer j l r u = omega (arith, own (join outer j l r) u, length-append (node-words l) (node-words r), words-long l, words-long r)
+
+  module _ {mid : ℕ} (last : LastStart x lo m mid) where
+    both : (p : Node) → NodeHere x lo hi p → Part x lo m (words-of (earlier-source p) ++ words-of (last-source p))
+    both p u = subst (λ (w : List ℕ). Part x lo m w) (sources-are p) (sources-part p u)
+
+    mid-is : (p : Node) (u : NodeHere x lo hi p) → lo + length (words-of (earlier-source p)) ≡ mid
+    mid-is p u = sym (last p (sources-part p u))
+
+    join-mid : (first : ℕ) → lo ≡ 6 * first → (outer : Bool) (j : Join) (l r : Node) → NodeHere x lo hi (join outer j l r) → mid ≡ 6 * (first + node-size l)
+    join-mid first e outer j l r u = omega (arith, mid-is (join outer j l r) u, words-long l)
+
+    over-mid : (first : ℕ) → lo ≡ 6 * first → (o : Over) (n : Node) → NodeHere x lo hi (over o n) → mid ≡ 6 * first
+    over-mid first e o n u = omega (arith, mid-is (over o n) u)
+
+module _ {text x : List ℕ} {lo hi : ℕ} where
+  -- There is a node.
+  by-node : (Q : Option Node → Type 0) → ((p : Node) → NodeHere x lo hi p → Node-fits text p → Q (some p)) → lo < hi → (source : Option Node) → SourceHere text x lo hi source → Q source
+  by-node Q f h none u = absurd (omega (arith, u .stand .high))
+  by-node Q f h (some p) u = f p (record { part = u .stand }) (u .fit)
+
+  pub node-at : lo < hi → SourceAt text x lo hi → NodeAt x lo hi
+  node-at h t = by-node (λ o. NodeAt x lo hi) (λ p u f. record { p = p; here = u }) h (t .source) (t .here)
+
+  own-here : (p : Node) → NodeHere x lo hi p → Node-fits text p → OwnHere text x lo hi p
+  own-here p u f = record { here = u; fit = own-fits text p f }
+
+  module _ {m : ℕ} (own : OwnStart x lo hi m) where
+    pub sources-at : lo < hi → SourceAt text x lo hi → SourcesAt x lo m
+    sources-at h t = by-node (λ o. SourcesAt x lo m) (λ p u f. record { p = p; stand = sources-part own p u }) h (t .source) (t .here)
+
+    pub own-in : lo < hi → SourceAt text x lo hi → (lo ≤ m) × ((m + 6 ≤ hi) × (hi ≤ length x))
+    own-in h t = by-node (λ o. (lo ≤ m) × ((m + 6 ≤ hi) × (hi ≤ length x)))
+        (λ p u f. (omega (arith, own p u), (omega (arith, own p u, node-long p u), node-in p u .1))) h (t .source) (t .here)
+
+    pub own-at : lo < hi → SourceAt text x lo hi → OwnAt text x lo hi m
+    own-at h t = by-node (λ o. OwnAt text x lo hi m) go h (t .source) (t .here)
+      where
+        made : (p : Node) → NodeHere x lo hi p → Node-fits text p → (first : ℕ) → m ≡ 6 * first → OwnAt text x lo hi m
+        made p u f first e = record { p = p; here = own-here p u f; own = own; first = first; numbered = e; short = t .short }
+
+        go : (p : Node) → NodeHere x lo hi p → Node-fits text p → OwnAt text x lo hi m
+        go (leaf l) u f = made (leaf l) u f (t .first) (leaf-number own (t .first) (t .numbered) l u)
+        go (over o n) u f = made (over o n) u f (t .first + node-size n) (over-number own (t .first) (t .numbered) o n u)
+        go (join outer j l r) u f = made (join outer j l r) u f (t .first + (node-size l + node-size r)) (join-number own (t .first) (t .numbered) outer j l r u)
+
+    module _ {mid : ℕ} (last : LastStart x lo m mid) where
+      earlier-here : (p : Node) → NodeHere x lo hi p → Node-fits text p → SourceHere text x lo mid (earlier-source p)
+      earlier-here p u f = record {
+        stand = subst (λ (n : ℕ). Part x lo n (words-of (earlier-source p))) (mid-is own last p u) (part-left (words-of (earlier-source p)) (words-of (last-source p)) (both own last p u));
+        fit = earlier-fits text p f;
+      }
+
+      last-here : (p : Node) → NodeHere x lo hi p → Node-fits text p → SourceHere text x mid m (last-source p)
+      last-here p u f = record {
+        stand = subst (λ (n : ℕ). Part x n m (words-of (last-source p))) (mid-is own last p u) (part-right (words-of (earlier-source p)) (words-of (last-source p)) (both own last p u));
+        fit = last-fits text p f;
+      }
+
+      pub mid-in : lo < hi → SourceAt text x lo hi → (lo ≤ mid) × (mid ≤ m)
+      mid-in h t = by-node (λ o. (lo ≤ mid) × (mid ≤ m)) (λ p u f. (part-in (earlier-here p u f .stand) .0, part-in (last-here p u f .stand) .0)) h (t .source) (t .here)
+
+      pub earlier-at : lo < hi → SourceAt text x lo hi → SourceAt text x lo mid
+      earlier-at h t = by-node (λ o. SourceAt text x lo mid)
+          (λ p u f. record { source = earlier-source p; here = earlier-here p u f; first = t .first; numbered = t .numbered; short = t .short }) h (t .source) (t .here)
+
+      pub last-at : lo < hi → SourceAt text x lo hi → SourceAt text x mid m
+      last-at h t = by-node (λ o. SourceAt text x mid m) go h (t .source) (t .here)
+        where
+          made : (p : Node) → NodeHere x lo hi p → Node-fits text p → (first : ℕ) → mid ≡ 6 * first → SourceAt text x mid m
+          made p u f first e = record { source = last-source p; here = last-here p u f; first = first; numbered = e; short = t .short }
+
+          go : (p : Node) → NodeHere x lo hi p → Node-fits text p → SourceAt text x mid m
+          go (leaf l) u f = made (leaf l) u f (t .first) (omega (arith, mid-is own last (leaf l) u, t .numbered))
+          go (over o n) u f = made (over o n) u f (t .first) (over-mid own last (t .first) (t .numbered) o n u)
+          go (join outer j l r) u f = made (join outer j l r) u f (t .first + node-size l) (join-mid own last (t .first) (t .numbered) outer j l r u)
+
+-- ---- what waits in z
+
+-- Some words are appended.
+pub record Waiting (z : List ℕ) (zat n : ℕ) (z′ : List ℕ) : Type 0 where
+  pub words : List ℕ
+  pub is : Appended z zat words n z′
+
+waits : {A : Type 0} {f : A → List ℕ} {z : List ℕ} {zat n : ℕ} {z′ : List ℕ} (a : Answer A) → Leaves f z zat a (Folded.Done n) z′ → Waiting z zat n z′
+waits {f = f} (done y) h = record { words = f y; is = h .left }
+waits (refused i p) h = absurd (h .left)
+
+own-waits : {z : List ℕ} {zat n : ℕ} {z′ : List ℕ} (first : ℕ) (p : Node) → Own-left z zat first p (Folded.Done n) z′ → Waiting z zat n z′
+own-waits first (leaf l) h = waits (fold-leaf first l) h
+own-waits first (over o n) h = waits (fold-over first o) h
+own-waits first (join outer j l r) h = waits (fold-join first j) h
+
+stays-as : {zat : ℕ} {z z′ : List ℕ} {r q : Folded} → r ≡ q → Stays zat z z′ r → Stays zat z z′ q
+stays-as {zat} {z} {z′} e h = subst (λ (x : Folded). Stays zat z z′ x) e h
+
+own-as : (z : List ℕ) (zat : ℕ) {r q : Folded} (z′ : List ℕ) → r ≡ q → (first : ℕ) (p : Node) → Own-left z zat first p r z′ → Own-left z zat first p q z′
+own-as z zat z′ e first (leaf l) h = said-as e h
+own-as z zat z′ e first (over o n) h = said-as e h
+own-as z zat z′ e first (join outer j l r) h = said-as e h
+
+pub own-bound : {text x : List ℕ} {lo hi : ℕ} {z : List ℕ} {zat m : ℕ} {q : Folded} {z′ : List ℕ} {n : ℕ} → q ≡ Folded.Done n → FoldsOwn text x lo hi z zat m q z′ → n ≤ zat + (hi - 6 - m)
+own-bound e g = up-to-as e (g .within) .ends
+
+pub source-bound : {text x : List ℕ} {lo hi : ℕ} {y : List ℕ} {at : ℕ} {z : List ℕ} {zat : ℕ} {q : Folded} {y′ z′ : List ℕ} {n : ℕ} → q ≡ Folded.Done n
+    → FoldsSource text x lo hi y at z zat q y′ z′ → n ≤ at + (hi - lo)
+source-bound e g = up-to-as e (g .within) .ends
+
+pub own-waiting : {text x : List ℕ} {lo hi : ℕ} {z : List ℕ} {zat m : ℕ} {q : Folded} {z′ : List ℕ} {n : ℕ} → OwnAt text x lo hi m → q ≡ Folded.Done n
+    → FoldsOwn text x lo hi z zat m q z′ → Waiting z zat n z′
+own-waiting {z = z} {zat} {z′ = z′} t e g = own-waits (t .first) (t .p) (own-as z zat z′ e (t .first) (t .p) (g .leaves (t .first) (t .p) (t .numbered) (t .here)))
+
+-- It can be copied, however the words behind it change.
+pub waiting-in : {text x : List ℕ} {lo hi m : ℕ} → lo < hi → OwnStart x lo hi m → SourceAt text x lo hi → {z : List ℕ} {zat : ℕ} {q : Folded} {z₁ : List ℕ} {n : ℕ}
+    → FoldsOwn text x lo hi z zat m q z₁ → q ≡ Folded.Done n → {z₂ : List ℕ} → length z₂ ≡ length z → n ≤ length z → ClosesAt x hi z₂ zat n
+waiting-in h own t g e long k =
+    let (i, (j, l)) = own-in own h t in
+    let w = own-waiting (own-at own h t) e g in
+    record { first = omega arith; last = l; order = omega (arith, w .is .ends); inside = omega arith }
+
+-- ---- fold_node
+
+pub source-none : {text x : List ℕ} {lo hi : ℕ} {y : List ℕ} {at : ℕ} {z : List ℕ} {zat : ℕ} → hi ≤ lo → FoldsSource text x lo hi y at z zat (Folded.Done at) y z
+source-none {text} {x} {lo} {hi} {y} {at} h = record { leaves = go; within = record { ends = omega arith }; stays = record { same = refl } }
+  where
+    go : (first : ℕ) (source : Option Node) → lo ≡ 6 * first → SourceHere text x lo hi source → Leaves words-of y at (fold-source first source) (Folded.Done at) y
+    go first none e u = record { left = appended-none y at }
+    go first (some p) e u = absurd (omega (arith, node-six p, u .stand .high))
+
+-- the answer without its `some`
+node-left : {y : List ℕ} {at : ℕ} {r : Folded} {y′ : List ℕ} (first : ℕ) (p : Node) → Leaves words-of y at (fold-source first (some p)) r y′ → Leaves node-words y at (ConstantFolding first p) r y′
+node-left first p h = made-of (ConstantFolding first p) some (λ q. refl) h
+
+-- a node that its own cell closes
+module _ {x : List ℕ} {lo hi : ℕ} where
+  leaf-words : (first : ℕ) (l m : Leaf) → NodeHere x lo hi (leaf l) → fold-leaf first l ≡ done m → sized (([] ++ []) ++ leaf-own m) (cell-at x hi) ≡ node-words (leaf m)
+  unfolding node-words
+  leaf-words first l m u e =
+      ap (λ (k : Cell). sized (leaf-own m) k) (node-cell-is (leaf l) u ∙ ap cell (sym (answer-is (λ m. leaf-cell m ≡ leaf-cell l) (fold-leaf first l) m (leaf-cell-kept first l) e)))
+
+  over-words : (first : ℕ) (o p : Over) (n s : Node) → NodeHere x lo hi (over o n) → fold-over first o ≡ done p → sized (([] ++ node-words s) ++ over-own p) (cell-at x hi) ≡ node-words (over p s)
+  unfolding node-words
+  over-words first o p n s u e =
+      ap (λ (k : Cell). sized (node-words s ++ over-own p) k) (node-cell-is (over o n) u ∙ ap cell (sym (answer-is (λ m. over-cell m ≡ over-cell o) (fold-over first o) p (over-cell-kept first o) e)))
+
+  join-words : (first : ℕ) (outer : Bool) (j k : Join) (l r a b : Node) → NodeHere x lo hi (join outer j l r) → fold-join first j ≡ done k
+      → sized ((node-words a ++ node-words b) ++ join-own k) (cell-at x hi) ≡ node-words (join outer k a b)
+  unfolding node-words
+  join-words first outer j k l r a b u e =
+      ap (λ (w : List ℕ). sized w (cell-at x hi)) (append-assoc (node-words a) (node-words b) (join-own k))
+      ∙ ap (λ (c : Cell). sized (node-words a ++ (node-words b ++ join-own k)) c)
+      (node-cell-is (join outer j l r) u ∙ ap cell (sym (answer-is (λ m. join-cell outer m ≡ join-cell outer j) (fold-join first j) k (join-cell-kept outer first j) e)))
+
+module _ {text x : List ℕ} {lo hi m mid : ℕ} (h : lo < hi) (own : OwnStart x lo hi m) (last : LastStart x lo m mid)
+    {y : List ℕ} {at : ℕ} {z : List ℕ} {zat : ℕ} {q : Folded} {z₁ : List ℕ} (g : FoldsOwn text x lo hi z zat m q z₁) where
+  pub own-refused : {j i : ℕ} → q ≡ Folded.Refused j i → FoldsSource text x lo hi y at z zat (Folded.Refused j i) y z₁
+  own-refused {j} {i} e = record {
+    leaves = λ first source n u. by-node (λ o. Leaves words-of y at (fold-source first o) (Folded.Refused j i) y)
+        (λ p v f. made-into (ConstantFolding first p) some (λ q. refl) (go first n p v f)) h source u;
+    within = record { ends = tt };
+    stays = record { same = tt };
+  }
+    where
+      go : (first : ℕ) → lo ≡ 6 * first → (p : Node) → NodeHere x lo hi p → Node-fits text p → Leaves node-words y at (ConstantFolding first p) (Folded.Refused j i) y
+      go first n (leaf l) v f = refused-on (fold-leaf first l) (λ m. done (leaf m)) (said-as e (g .leaves first (leaf l) (leaf-number own first n l v) (own-here (leaf l) v f)))
+      go first n (over o s) v f =
+          refused-on (fold-over (first + node-size s) o) (λ p. ConstantFolding first s >>= λ t. done (over p t))
+          (said-as e (g .leaves (first + node-size s) (over o s) (over-number own first n o s v) (own-here (over o s) v f)))
+      go first n (join outer c a b) v f =
+          refused-on (fold-join (first + (node-size a + node-size b)) c) (λ k. ConstantFolding first a >>= λ l. ConstantFolding (first + node-size a) b >>= λ r. done (join outer k l r))
+          (said-as e (g .leaves (first + (node-size a + node-size b)) (join outer c a b) (join-number own first n outer c a b v) (own-here (join outer c a b) v f)))
+
+  module _ {n : ℕ} (qe : q ≡ Folded.Done n) {q₂ : Folded} {y₁ z₂ : List ℕ} (g₂ : FoldsSource text x lo mid y at z₁ n q₂ y₁ z₂) where
+    -- what each call leaves, by the kind of node
+    leaf-own-left : (first : ℕ) → lo ≡ 6 * first → (l : Leaf) → NodeHere x lo hi (leaf l) → Node-fits text (leaf l) → Leaves leaf-own z zat (fold-leaf first l) (Folded.Done n) z₁
+    leaf-own-left first e l u f = said-as qe (g .leaves first (leaf l) (leaf-number own first e l u) (own-here (leaf l) u f))
+
+    over-own-left : (first : ℕ) → lo ≡ 6 * first → (o : Over) (s : Node) → NodeHere x lo hi (over o s) → Node-fits text (over o s)
+        → Leaves over-own z zat (fold-over (first + node-size s) o) (Folded.Done n) z₁
+    over-own-left first e o s u f = said-as qe (g .leaves (first + node-size s) (over o s) (over-number own first e o s u) (own-here (over o s) u f))
+
+    join-own-left : (first : ℕ) → lo ≡ 6 * first → (outer : Bool) (c : Join) (a b : Node) → NodeHere x lo hi (join outer c a b) → Node-fits text (join outer c a b)
+        → Leaves join-own z zat (fold-join (first + (node-size a + node-size b)) c) (Folded.Done n) z₁
+    join-own-left first e outer c a b u f =
+        said-as qe (g .leaves (first + (node-size a + node-size b)) (join outer c a b) (join-number own first e outer c a b u) (own-here (join outer c a b) u f))
+
+    pub earlier-refused : {j i : ℕ} → q₂ ≡ Folded.Refused j i → FoldsSource text x lo hi y at z zat (Folded.Refused j i) y₁ z₂
+    earlier-refused {j} {i} e = record {
+      leaves = λ first source k u. by-node (λ o. Leaves words-of y at (fold-source first o) (Folded.Refused j i) y₁)
+          (λ p v f. made-into (ConstantFolding first p) some (λ q. refl) (go first k p v f)) h source u;
+      within = record { ends = tt };
+      stays = record { same = tt };
+    }
+      where
+        go : (first : ℕ) → lo ≡ 6 * first → (p : Node) → NodeHere x lo hi p → Node-fits text p → Leaves node-words y at (ConstantFolding first p) (Folded.Refused j i) y₁
+        go first k (leaf l) v f = absurd (said-as e (g₂ .leaves first none k (earlier-here own last (leaf l) v f)) .left)
+        go first k (over o s) v f = absurd (said-as e (g₂ .leaves first none k (earlier-here own last (over o s) v f)) .left)
+        go first k (join outer c a b) v f =
+            done-on (fold-join (first + (node-size a + node-size b)) c) (λ k. ConstantFolding first a >>= λ l. ConstantFolding (first + node-size a) b >>= λ r. done (join outer k l r))
+            (join-own-left first k outer c a b v f)
+            (λ d _ _. refused-on (ConstantFolding first a) (λ l. ConstantFolding (first + node-size a) b >>= λ r. done (join outer d l r))
+            (node-left first a (said-as e (g₂ .leaves first (some a) k (earlier-here own last (join outer c a b) v f)))))
+
+    module _ {e : ℕ} (q₂e : q₂ ≡ Folded.Done e) {q₃ : Folded} {y₂ z₃ : List ℕ} (g₃ : FoldsSource text x mid m y₁ e z₂ n q₃ y₂ z₃) where
+      join-earlier : (first : ℕ) → lo ≡ 6 * first → (outer : Bool) (c : Join) (a b : Node) → NodeHere x lo hi (join outer c a b) → Node-fits text (join outer c a b)
+          → Leaves node-words y at (ConstantFolding first a) (Folded.Done e) y₁
+      join-earlier first k outer c a b v f = node-left first a (said-as q₂e (g₂ .leaves first (some a) k (earlier-here own last (join outer c a b) v f)))
+
+      pub last-refused : {j i : ℕ} → q₃ ≡ Folded.Refused j i → FoldsSource text x lo hi y at z zat (Folded.Refused j i) y₂ z₃
+      last-refused {j} {i} w = record {
+        leaves = λ first source k u. by-node (λ o. Leaves words-of y at (fold-source first o) (Folded.Refused j i) y₂)
+            (λ p v f. made-into (ConstantFolding first p) some (λ q. refl) (go first k p v f)) h source u;
+        within = record { ends = tt };
+        stays = record { same = tt };
+      }
+        where
+          go : (first : ℕ) → lo ≡ 6 * first → (p : Node) → NodeHere x lo hi p → Node-fits text p → Leaves node-words y at (ConstantFolding first p) (Folded.Refused j i) y₂
+          go first k (leaf l) v f = absurd (said-as w (g₃ .leaves first none (omega (arith, mid-is own last (leaf l) v)) (last-here own last (leaf l) v f)) .left)
+          go first k (over o s) v f =
+              done-on (fold-over (first + node-size s) o) (λ p. ConstantFolding first s >>= λ t. done (over p t)) (over-own-left first k o s v f)
+              (λ d _ _. refused-on (ConstantFolding first s) (λ t. done (over d t))
+              (node-left first s (said-as w (g₃ .leaves first (some s) (over-mid own last first k o s v) (last-here own last (over o s) v f)))))
+          go first k (join outer c a b) v f =
+              done-on (fold-join (first + (node-size a + node-size b)) c) (λ k. ConstantFolding first a >>= λ l. ConstantFolding (first + node-size a) b >>= λ r. done (join outer k l r))
+              (join-own-left first k outer c a b v f)
+              (λ d _ _. done-on (ConstantFolding first a) (λ l. ConstantFolding (first + node-size a) b >>= λ r. done (join outer d l r)) (join-earlier first k outer c a b v f)
+              (λ l _ _. refused-on (ConstantFolding (first + node-size a) b) (λ r. done (join outer d l r))
+              (node-left (first + node-size a) b (said-as w (g₃ .leaves (first + node-size a) (some b) (join-mid own last first k outer c a b v) (last-here own last (join outer c a b) v f))))))
+
+      module _ {i : ℕ} (q₃e : q₃ ≡ Folded.Done i) where
+        -- What waited is still there.
+        same-z : take n z₃ ≡ take n z₁
+        same-z = stays-as q₃e (g₃ .stays) .same ∙ stays-as q₂e (g₂ .stays) .same
+
+        module _ (t : SourceAt text x lo hi) (zroom : zat + (hi - lo) ≤ length z) (room : at + (hi - lo) ≤ length y) (long₁ : length y₁ ≡ length y) (long₂ : length y₂ ≡ length y₁)
+            {r : ℕ} {y₃ : List ℕ} (c : Closes x hi y₂ at i z₃ zat n r y₃) where
+          closed-room : (v w o : List ℕ) (k : Cell) → Appended y at v e y₁ → Appended y₁ e w i y₂ → Appended z zat o n z₁ → at + length (sized ((v ++ w) ++ o) k) ≤ at + (hi - lo)
+          closed-room v w o k a b d =
+              let (j₁, (j₂, j₃)) = own-in own h t in
+              let (j₄, j₅) = mid-in own last h t in
+              omega (arith, sized-long ((v ++ w) ++ o) k, length-append (v ++ w) o, length-append v w, a .ends, b .ends, d .ends, own-bound qe g, source-bound q₂e g₂, source-bound q₃e g₃)
+
+          closed : (v w o : List ℕ) → Appended y at v e y₁ → Appended y₁ e w i y₂ → Appended z zat o n z₁ → Appended y at (sized ((v ++ w) ++ o) (cell-at x hi)) r y₃
+          closed v w o a b d =
+              let j = closed-room v w o (cell-at x hi) a b d in
+              let k = appended-then a b in
+              appended (c .over-all y (v ++ w) o (long₂ ∙ long₁) (wrote k (omega (arith, sized-long ((v ++ w) ++ o) (cell-at x hi), length-append (v ++ w) o)))
+              (part-kept (appended-part d (omega arith)) same-z)) (omega arith)
+
+          node-done : (first : ℕ) → lo ≡ 6 * first → (p : Node) → NodeHere x lo hi p → Node-fits text p → Leaves node-words y at (ConstantFolding first p) (Folded.Done r) y₃
+          node-done first k (leaf l) v f =
+              done-on (fold-leaf first l) (λ m. done (leaf m)) (leaf-own-left first k l v f)
+              (λ d de da. record {
+                left = appended-as (leaf-words first l d v de) (closed [] [] (leaf-own d)
+                    (said-as q₂e (g₂ .leaves first none k (earlier-here own last (leaf l) v f)) .left)
+                    (said-as q₃e (g₃ .leaves first none (omega (arith, mid-is own last (leaf l) v)) (last-here own last (leaf l) v f)) .left) da);
+              })
+          node-done first k (over o s) v f =
+              done-on (fold-over (first + node-size s) o) (λ p. ConstantFolding first s >>= λ t. done (over p t)) (over-own-left first k o s v f)
+              (λ d de da. done-on (ConstantFolding first s) (λ t. done (over d t))
+              (node-left first s (said-as q₃e (g₃ .leaves first (some s) (over-mid own last first k o s v) (last-here own last (over o s) v f))))
+              (λ t _ ta. record {
+                left = appended-as (over-words (first + node-size s) o d s t v de) (closed [] (node-words t) (over-own d)
+                    (said-as q₂e (g₂ .leaves first none k (earlier-here own last (over o s) v f)) .left) ta da);
+              }))
+          node-done first k (join outer j a b) v f =
+              done-on (fold-join (first + (node-size a + node-size b)) j) (λ k. ConstantFolding first a >>= λ l. ConstantFolding (first + node-size a) b >>= λ r. done (join outer k l r))
+              (join-own-left first k outer j a b v f)
+              (λ d de da. done-on (ConstantFolding first a) (λ l. ConstantFolding (first + node-size a) b >>= λ r. done (join outer d l r)) (join-earlier first k outer j a b v f)
+              (λ l _ la. done-on (ConstantFolding (first + node-size a) b) (λ r. done (join outer d l r))
+              (node-left (first + node-size a) b (said-as q₃e (g₃ .leaves (first + node-size a) (some b) (join-mid own last first k outer j a b v) (last-here own last (join outer j a b) v f))))
+              (λ r _ ra. record { left = appended-as (join-words (first + (node-size a + node-size b)) outer j d a b l r v de) (closed (node-words l) (node-words r) (join-own d) la ra da) })))
+
+          pub node-closed : FoldsSource text x lo hi y at z zat (Folded.Done r) y₃ z₃
+          node-closed = record {
+            leaves = λ first source k u. by-node (λ o. Leaves words-of y at (fold-source first o) (Folded.Done r) y₃)
+                (λ p v f. made-into (ConstantFolding first p) some (λ q. refl) (node-done first k p v f)) h source u;
+            within = record { ends = ended };
+            stays = record { same = below };
+          }
+            where
+              waiting : Waiting z zat n z₁
+              waiting = own-waiting (own-at own h t) qe g
+
+              below : take zat z₃ ≡ take zat z
+              below =
+                  let j : zat ≤ n = omega (arith, waiting .is .ends) in
+                  sym (take-take zat n z₃ j) ∙ (ap (take zat) same-z ∙ (take-take zat n z₁ j ∙ before-stays (waiting .is) (omega arith)))
+
+              of-words : (v w o : List ℕ) → Appended y at v e y₁ → Appended y₁ e w i y₂ → Appended z zat o n z₁ → r ≤ at + (hi - lo)
+              of-words v w o a b d = omega (arith, closed v w o a b d .ends, closed-room v w o (cell-at x hi) a b d)
+
+              source-words-of : {text x : List ℕ} {lo hi : ℕ} {y : List ℕ} {at : ℕ} {z : List ℕ} {zat : ℕ} {q : Folded} {y′ z′ : List ℕ} {n : ℕ} → SourceAt text x lo hi → q ≡ Folded.Done n
+                  → FoldsSource text x lo hi y at z zat q y′ z′ → Waiting y at n y′
+              source-words-of t e g = waits (fold-source (t .first) (t .source)) (said-as e (g .leaves (t .first) (t .source) (t .numbered) (t .here)))
+
+              ended : r ≤ at + (hi - lo)
+              ended =
+                  let a = source-words-of (earlier-at own last h t) q₂e g₂ in
+                  let b = source-words-of (last-at own last h t) q₃e g₃ in
+                  of-words (a .words) (b .words) (waiting .words) (a .is) (b .is) (waiting .is)

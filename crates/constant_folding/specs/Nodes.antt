@@ -1,0 +1,94 @@
+-- What folding a node of a plan does. The sources of a node are one kind: a node, or nothing.
+use Prim.Native.Nat.{ℕ, _+_, _-_, _*_, _≤_, _<_}
+use mathlib.Core.Path.{_≡_}
+use mathlib.Core.List.{List, [], _++_}
+use mathlib.Core.Option.{Option, none, some}
+use lib.ListN.{length, take}
+use Rattle.sql.specs.Plan.{Node, leaf, over, join}
+use Rattle.sql.specs.Answer.{Answer, done, _>>=_}
+use Rattle.sql.specs.Optimizer.{ConstantFolding}
+use Rattle.sheet_laws.specs.Fits.{All, Optional}
+use Rattle.cells.specs.Cells.{sized, cell-at, Part}
+use Rattle.cells.specs.Room.{Wrote}
+use Rattle.words.specs.Words.{node-words, source-words}
+use Rattle.fold_operator.specs.declared.Folded.{Folded}
+use Rattle.fold_operator.specs.declared.Folded.the-variants as Folded
+use Rattle.fold_parts.specs.Leaves.{Leaves, Up-to}
+use Rattle.fold_parts.specs.Parts.{Part-fits}
+use Rattle.fold_parts.specs.Own.{leaf-parts, over-parts, join-parts}
+
+-- The own parts of the node, and of all below it, fit.
+abbrev pub Node-fits : List ℕ → Node → Type 0
+Node-fits text (leaf l) = All (Part-fits text) (leaf-parts l)
+Node-fits text (over o n) = All (Part-fits text) (over-parts o) × Node-fits text n
+Node-fits text (join outer j l r) = All (Part-fits text) (join-parts j) × (Node-fits text l × Node-fits text r)
+
+-- ---- sources: the last one, and the one before it
+
+abbrev pub earlier-source : Node → Option Node
+earlier-source (leaf l) = none
+earlier-source (over o n) = none
+earlier-source (join outer j l r) = some l
+
+abbrev pub last-source : Node → Option Node
+last-source (leaf l) = none
+last-source (over o n) = some n
+last-source (join outer j l r) = some r
+
+abbrev pub words-of : Option Node → List ℕ
+words-of none = []
+words-of (some p) = node-words p
+
+abbrev pub fold-source : ℕ → Option Node → Answer (Option Node)
+fold-source first none = done none
+fold-source first (some p) = do
+  q ← ConstantFolding first p
+  done (some q)
+
+-- ---- contracts
+
+-- The sources of some node stand in x from word lo up to m.
+pub record SourcesAt (x : List ℕ) (lo m : ℕ) : Type 0 where
+  pub p : Node
+  pub stand : Part x lo m (source-words p)
+
+-- r is where the last one starts.
+abbrev pub LastStart : List ℕ → ℕ → ℕ → ℕ → Type 0
+LastStart x lo m r = (p : Node) → Part x lo m (source-words p) → r ≡ lo + length (words-of (earlier-source p))
+
+pub record ClosesAt (x : List ℕ) (hi : ℕ) (z : List ℕ) (zat n : ℕ) : Type 0 where
+  pub first : 6 ≤ hi
+  pub last : hi ≤ length x
+  pub order : zat ≤ n
+  pub inside : n ≤ length z
+
+-- Whatever was written from `at` up to m, and whatever stands in z from zat up to n, below the cell that ends before hi in x.
+pub record Closes (x : List ℕ) (hi : ℕ) (y : List ℕ) (at m : ℕ) (z : List ℕ) (zat n r : ℕ) (y′ : List ℕ) : Type 0 where
+  pub over-all : (y₀ v w : List ℕ) → length y ≡ length y₀ → Wrote y₀ at v m y → Part z zat n w → Wrote y₀ at (sized (v ++ w) (cell-at x hi)) r y′
+
+-- The node, if there is one, stands in x from word lo up to hi, and fits.
+pub record SourceHere (text x : List ℕ) (lo hi : ℕ) (source : Option Node) : Type 0 where
+  pub stand : Part x lo hi (words-of source)
+  pub fit : Optional (Node-fits text) source
+
+-- Some node stands there so, or none, from a cell on. A text has at most 8,192 bytes; less than 65,536 is what text references need.
+pub record SourceAt (text x : List ℕ) (lo hi : ℕ) : Type 0 where
+  pub source : Option Node
+  pub here : SourceHere text x lo hi source
+  pub first : ℕ
+  pub numbered : lo ≡ 6 * first
+  pub short : length text < 65536
+
+-- The first zat words stay, if nothing is refused.
+abbrev pub Same-below : ℕ → List ℕ → List ℕ → Folded → Type 0
+Same-below zat z z′ (Folded.Done n) = take zat z′ ≡ take zat z
+Same-below zat z z′ (Folded.Refused number place) = Unit {0}
+
+pub record Stays (zat : ℕ) (z z′ : List ℕ) (r : Folded) : Type 0 where
+  pub same : Same-below zat z z′ r
+
+-- The answer of folding it; what is done is not longer than it is.
+pub record FoldsSource (text x : List ℕ) (lo hi : ℕ) (y : List ℕ) (at : ℕ) (z : List ℕ) (zat : ℕ) (r : Folded) (y′ z′ : List ℕ) : Type 0 where
+  pub leaves : (first : ℕ) (source : Option Node) → lo ≡ 6 * first → SourceHere text x lo hi source → Leaves words-of y at (fold-source first source) r y′
+  pub within : Up-to (at + (hi - lo)) r
+  pub stays : Stays zat z z′ r

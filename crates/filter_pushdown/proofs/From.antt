@@ -1,0 +1,52 @@
+-- Laws on push_filters_from in place, and on the whole pass.
+use Prim.Native.Nat.{ℕ, zero, suc, _-_, _/_, _≤_, _<_}
+use native.Mathlib.Omega.{arith}
+use mathlib.Core.Path.{_≡_, refl, ap}
+use mathlib.Core.List.{List}
+use lib.ListN.{length}
+use Rattle.sql.specs.Schema.{Schema}
+use Rattle.sql.specs.Plan.{Node, node-size}
+use Rattle.sql.specs.Answer.{Answer, _>>=_}
+use Rattle.sql.specs.Room.{push-filters, each-source, push-filters-from, FilterPushdown}
+use Rattle.edit.specs.Edit.{Holds, Shares}
+use Rattle.edit.proofs.Edits.{total-cells}
+use Rattle.kept.specs.Pass.{Passes}
+use Rattle.push_filters.proofs.Pushing.{passes-stop, passes-go, passes-as}
+
+-- ---- push_filters_from
+abbrev sources-from : ℕ → ℕ → Schema → ℕ → Node → Answer Node
+sources-from n room schema = each-source room schema (push-filters-from room schema n)
+
+from-is : (room : ℕ) (schema : Schema) (n rest : ℕ) (p : Node) → (n ≡ 0 → ⊥)
+    → push-filters room schema n rest p >>= sources-from (n - 1) room schema rest ≡ push-filters-from room schema n rest p
+unfolding push-filters-from
+from-is room schema zero rest p z = absurd (z refl)
+from-is room schema (suc n) rest p z =
+    let e : suc n - 1 ≡ n = omega arith in ap (λ (m : ℕ). push-filters room schema (suc n) rest p >>= sources-from m room schema rest) e
+
+module _ (n : ℕ) (i : n ≡ 0 → ⊥) {widths x : List ℕ} {t lo tail u : ℕ} {x₁ : List ℕ} (a : Passes (λ room schema. push-filters room schema n) widths x t lo tail u x₁) where
+  as-from : {r : ℕ} {x′ : List ℕ}
+      → Passes (λ room schema rest p. push-filters room schema n rest p >>= sources-from (n - 1) room schema rest) widths x t lo tail r x′
+      → Passes (λ room schema. push-filters-from room schema n) widths x t lo tail r x′
+  as-from =
+      passes-as (λ room schema rest p. push-filters room schema n rest p >>= sources-from (n - 1) room schema rest) (λ room schema. push-filters-from room schema n)
+      (λ room schema rest pre post p s h. from-is room schema n rest p i)
+
+  pub from-full : length x₁ < u → Passes (λ room schema. push-filters-from room schema n) widths x t lo tail u x₁
+  from-full z = as-from (passes-stop (λ room schema. push-filters room schema n) (sources-from (n - 1)) a z)
+
+  pub from-again : u ≤ length x₁ → length x₁ ≡ length x → {r : ℕ} {x₂ : List ℕ}
+      → Passes (λ room schema. each-source room schema (push-filters-from room schema (n - 1))) widths x₁ u lo tail r x₂
+      → Passes (λ room schema. push-filters-from room schema n) widths x t lo tail r x₂
+  from-again z e b = as-from (passes-go (λ room schema. push-filters room schema n) (sources-from (n - 1)) a z e b)
+
+-- ---- the whole plan: t / 6 is the number of its cells
+pub whole-plan : {widths x : List ℕ} {t r : ℕ} {x′ : List ℕ} → Passes (λ room schema. push-filters-from room schema (t / 6)) widths x t 0 0 r x′
+    → Passes FilterPushdown widths x t 0 0 r x′
+unfolding FilterPushdown
+whole-plan {x = x} {t = t} =
+    passes-as (λ room schema. push-filters-from room schema (t / 6)) FilterPushdown
+    (λ room schema rest pre post p s h. ap (λ (m : ℕ). push-filters-from room schema m rest p) (cells s h))
+  where
+    cells : {room rest : ℕ} {pre post : List ℕ} {p : Node} → Shares x 0 0 room rest → Holds x t 0 0 pre post p → t / 6 ≡ node-size p
+    cells s h = omega (arith, total-cells s h, s .outside)

@@ -1,0 +1,94 @@
+// optimizer.rs, FilterPushdown, in place (crate edit): the whole plan stands in the first t words of x, the node that is worked on from lo up to t - tail. A
+// number of words past the end of x stands for refusal 14. y, z and w are scratch; widths is the number of columns of each table. n bounds the nodes, as in
+// the definition (crate sql, Room).
+ghost use Rattle.sql.specs.Room;
+ghost use Rattle.kept.specs.Pass.{PassAt, Passes};
+ghost use Rattle.push_filters.specs.Buffers.{Buffers};
+
+// The sources of the node, left before right.
+fn each_source(
+    x: &mut [usize],
+    y: &mut [usize],
+    z: &mut [usize],
+    w: &mut [usize],
+    n: usize,
+    t: usize,
+    lo: usize,
+    tail: usize,
+    widths: &[usize],
+) -> usize
+    requires { ⌜ PassAt (now widths) (now x) t lo tail ⌝ }
+    requires { ⌜ Buffers (now x) (now y) (now z) (now w) ⌝ }
+    ensures { λ r. ⌜ Passes (λ room schema. Room.each-source room schema (Room.push-filters-from room schema n)) (now (widths .entry)) (now (x .entry)) t lo tail r (now (x .exit)) ⌝ }
+{
+    let count = nodes::source_count(x, lo, t - tail);
+    if count == 0 {
+        return t;
+    }
+    let m = nodes::own_start(x, lo, t - tail);
+    if count == 1 {
+        let u = push_filters_from(x, y, z, w, n, t, lo, t - m, widths);
+        if x.len() < u {
+            return u;
+        }
+        return edit::reseal(x, u, lo, tail);
+    }
+    let back = t - cells::start(x, m);
+    let u = push_filters_from(x, y, z, w, n, t, lo, back, widths);
+    if x.len() < u {
+        return u;
+    }
+    let v = push_filters_from(x, y, z, w, n, u, u - back, t - m, widths);
+    if x.len() < v {
+        return v;
+    }
+    edit::reseal(x, v, lo, tail)
+}
+
+// A node, then the sources of what it became. A chain of nodes that stay as they are is gone through without a frame for each.
+fn push_filters_from(
+    x: &mut [usize],
+    y: &mut [usize],
+    z: &mut [usize],
+    w: &mut [usize],
+    n: usize,
+    t: usize,
+    lo: usize,
+    tail: usize,
+    widths: &[usize],
+) -> usize
+    requires { ⌜ PassAt (now widths) (now x) t lo tail ⌝ }
+    requires { ⌜ Buffers (now x) (now y) (now z) (now w) ⌝ }
+    ensures { λ r. ⌜ Passes (λ room schema. Room.push-filters-from room schema n) (now (widths .entry)) (now (x .entry)) t lo tail r (now (x .exit)) ⌝ }
+{
+    let deep = chain::descend(x, n, lo, t - tail);
+    if deep.left == 0 {
+        return t;
+    }
+    let back = t - deep.end;
+    let u = push_filters::push_filters(x, y, z, w, deep.left, t, lo, back, widths);
+    if x.len() < u {
+        return u;
+    }
+    let v = each_source(x, y, z, w, deep.left - 1, u, lo, back, widths);
+    if x.len() < v {
+        return v;
+    }
+    chain::reseal(x, v, lo, v - back, tail)
+}
+
+// The whole plan, which has t / 6 cells, and no more nodes than cells.
+pub fn filter_pushdown(
+    x: &mut [usize],
+    y: &mut [usize],
+    z: &mut [usize],
+    w: &mut [usize],
+    t: usize,
+    widths: &[usize],
+) -> usize
+    requires { ⌜ PassAt (now widths) (now x) t 0 0 ⌝ }
+    requires { ⌜ Buffers (now x) (now y) (now z) (now w) ⌝ }
+    ensures { λ r. ⌜ Passes Room.FilterPushdown (now (widths .entry)) (now (x .entry)) t 0 0 r (now (x .exit)) ⌝ }
+{
+    push_filters_from(x, y, z, w, t / 6, t, 0, 0, widths)
+}

@@ -1,0 +1,4 @@
+pub mod Leaves
+pub mod Each
+pub mod Parts
+pub mod Own

@@ -1,0 +1,90 @@
+// optimizer.rs, ConstantFolding of a node's own parts in their working form: they are read from one slice, and what they fold to is appended to another.
+// The slice that is read holds the given sheet's plan from its first word on, so that a cell's number is a sixth of the word that it starts at.
+use fold_operator::Folded;
+ghost use Prim.Native.Nat.{ℕ, _+_, _-_, _≤_, _<_};
+ghost use mathlib.Core.Path.{_≡_};
+ghost use lib.ListN.{length};
+ghost use Rattle.words.specs.Place.{NodeAt};
+ghost use Rattle.nodes.specs.Own.{OwnStart};
+ghost use Rattle.fold_parts.specs.Parts.{Numbers, PartsAt, FoldsParts, PartAt, FoldsPart};
+ghost use Rattle.fold_parts.specs.Own.{Visits, OwnAt, FoldsOwn};
+
+// The number of the cell that starts at a word.
+fn number(at: usize) -> usize
+    ensures { λ r. ⌜ Numbers at r ⌝ }
+{
+    at / 6
+}
+
+// All parts from lo to hi, from the first to the last. The last one's start is known from its end, so that those before it are folded by a call.
+fn fold_parts(text: &[u8], s: &[usize], lo: usize, hi: usize, d: &mut [usize], at: usize) -> Folded
+    requires { ⌜ PartsAt (now text) (now s) lo hi ⌝ }
+    requires { ⌜ at + (hi - lo) ≤ length (now d) ⌝ }
+    ensures { λ r. ⌜ FoldsParts (now (text .entry)) (now (s .entry)) lo hi (now (d .entry)) at r (now (d .exit)) ⌝ }
+{
+    if hi <= lo {
+        return Folded::Done(at);
+    }
+    let mid = cells::start(s, hi);
+    match fold_parts(text, s, lo, mid, d, at) {
+        Folded::Done(m) => fold_part(text, s, mid, hi, d, m),
+        Folded::Refused(number, place) => Folded::Refused(number, place),
+    }
+}
+
+// One part: an expression, or the expressions below the cell of an Item, a Key or a Row.
+fn fold_part(text: &[u8], s: &[usize], lo: usize, hi: usize, d: &mut [usize], at: usize) -> Folded
+    requires { ⌜ PartAt (now text) (now s) lo hi ⌝ }
+    requires { ⌜ at + (hi - lo) ≤ length (now d) ⌝ }
+    ensures { λ r. ⌜ FoldsPart (now (text .entry)) (now (s .entry)) lo hi (now (d .entry)) at r (now (d .exit)) ⌝ }
+{
+    if cells::tag_at(s, hi) < 40 {
+        return folding::fold_expression(text, s, lo, hi, d, at, number(lo));
+    }
+    match fold_parts(text, s, lo, hi - 6, d, at) {
+        Folded::Done(n) => Folded::Done(cells::put(d, at, n, cells::cell_at(s, hi))),
+        Folded::Refused(number, place) => Folded::Refused(number, place),
+    }
+}
+
+// Whether the own expressions of a node are visited, 1 or 0: those of 51 Filter, 56 NestedLoopJoin, 59 Order, 60 Projection, 62 Scan and 63 Values are.
+// A table would be written to the stack, and this is met in the frame of each node.
+fn is_visited(s: &[usize], lo: usize, hi: usize) -> usize
+    requires { ⌜ NodeAt (now s) lo hi ⌝ }
+    ensures { λ r. ⌜ Visits (now (s .entry)) lo hi r ⌝ }
+{
+    let tag = cells::tag_at(s, hi);
+    if tag == 51 {
+        return 1;
+    }
+    if tag == 56 {
+        return 1;
+    }
+    if tag < 59 {
+        return 0;
+    }
+    if tag == 61 {
+        return 0;
+    }
+    1
+}
+
+// The own parts, from word m on, of the node from lo to hi. Those that aren't visited are copied.
+pub fn fold_own(
+    text: &[u8],
+    s: &[usize],
+    lo: usize,
+    hi: usize,
+    d: &mut [usize],
+    at: usize,
+    m: usize,
+) -> Folded
+    requires { ⌜ OwnAt (now text) (now s) lo hi m ⌝ }
+    requires { ⌜ at + (hi - m) ≤ length (now d) ⌝ }
+    ensures { λ r. ⌜ FoldsOwn (now (text .entry)) (now (s .entry)) lo hi (now (d .entry)) at m r (now (d .exit)) ⌝ }
+{
+    if is_visited(s, lo, hi) == 1 {
+        return fold_parts(text, s, m, hi - 6, d, at);
+    }
+    Folded::Done(cells::copy(s, m, hi - 6, d, at))
+}

@@ -1,0 +1,63 @@
+-- IndexLookup goes on into a node's sources, and leaves the node over what they became.
+use Prim.Native.Nat.{ℕ, _+_, _-_, _≤_, _<_}
+use mathlib.Core.Bool.{Bool}
+use mathlib.Core.Path.{_≡_, refl, sym, _∙_}
+use mathlib.Core.List.{List}
+use lib.ListN.{length}
+use Rattle.sql.specs.Schema.{Schema}
+use Rattle.sql.specs.Plan.{Over, Join, Node, over, join, over-size, join-size, node-size}
+use Rattle.sql.specs.Answer.{Answer, done, _>>=_}
+use Rattle.sql.specs.Room.{IndexLookup}
+use Rattle.cells.specs.Cells.{start-at}
+use Rattle.nodes.specs.Own.{OwnStart, SourceCount}
+use Rattle.stream.specs.Stream.{Streams, Finishes}
+use Rattle.stream.proofs.Sources.{source-stop, source-go, over-done, left-stop, right-stop, both-go, join-done}
+use Rattle.lookup_step.specs.Lookup.{Lent}
+
+after-source : ℕ → Schema → ℕ → Over → Node → Node → Answer Node
+after-source room schema rest o n q = done (over o q)
+
+after-sources : ℕ → Schema → ℕ → Bool → Join → Node → Node → Node → Node → Answer Node
+after-sources room schema rest outer j l r p q = done (join outer j p q)
+
+over-shape : (room : ℕ) (schema : Schema) (rest : ℕ) (o : Over) (n : Node)
+    → IndexLookup room schema rest (over o n) ≡ (IndexLookup room schema (rest + over-size o) n >>= after-source room schema rest o n)
+unfolding IndexLookup after-source
+over-shape room schema rest o n = refl
+
+join-shape : (room : ℕ) (schema : Schema) (rest : ℕ) (outer : Bool) (j : Join) (l r : Node)
+    → IndexLookup room schema rest (join outer j l r)
+    ≡ (IndexLookup room schema (rest + (node-size r + join-size j)) l >>= λ p. IndexLookup room schema (rest + (node-size p + join-size j)) r >>= after-sources room schema rest outer j l r p)
+unfolding IndexLookup after-sources
+join-shape room schema rest outer j l r = refl
+
+module _ (widths keys : List ℕ) (marks : List Bool) {x : List ℕ} {lo hi tail g m : ℕ} {y : List ℕ} {at : ℕ} (c : SourceCount x lo hi g) (own : OwnStart x lo hi m) where
+  module _ (one : g ≡ 1) {u : ℕ} {y₁ : List ℕ} (a : Streams (Lent widths keys marks) IndexLookup x lo m (tail + (hi - m)) y at u y₁) where
+    pub one-stop : length y₁ < u → Streams (Lent widths keys marks) IndexLookup x lo hi tail y at u y₁
+    one-stop z = source-stop c one own IndexLookup IndexLookup after-source over-shape a z
+
+    pub one-go : u ≤ length y₁ → length y₁ ≡ length y → {r : ℕ} {y₂ : List ℕ} → length y₂ ≡ length y₁ → Finishes x m hi y₁ at u r y₂
+        → Streams (Lent widths keys marks) IndexLookup x lo hi tail y at r y₂
+    unfolding after-source
+    one-go z k₁ k₂ f =
+        source-go c one own IndexLookup IndexLookup after-source over-shape a z
+        (λ schema text tables lent room rest o n h q s. over-done own o n h k₁ q s k₂ f)
+
+  module _ (two : g ≡ 2) {mid : ℕ} (st : mid ≡ start-at x m) {u : ℕ} {y₁ : List ℕ}
+      (a : Streams (Lent widths keys marks) IndexLookup x lo mid (tail + (hi - mid)) y at u y₁) where
+    pub left-refused : length y₁ < u → Streams (Lent widths keys marks) IndexLookup x lo hi tail y at u y₁
+    left-refused z = left-stop c two own st IndexLookup a IndexLookup after-sources join-shape z
+
+    module _ (k₁ : length y₁ ≡ length y) (z : u ≤ length y₁) {v : ℕ} {y₂ : List ℕ} (b : Streams (Lent widths keys marks) IndexLookup x mid m (tail + (hi - m)) y₁ u v y₂) where
+      pub right-refused : length y₂ < v → Streams (Lent widths keys marks) IndexLookup x lo hi tail y at v y₂
+      right-refused i = right-stop c two own st IndexLookup a IndexLookup after-sources join-shape k₁ z b i
+
+      pub two-go : v ≤ length y₂ → length y₂ ≡ length y₁ → {r : ℕ} {y₃ : List ℕ} → length y₃ ≡ length y₂ → Finishes x m hi y₂ at v r y₃
+          → Streams (Lent widths keys marks) IndexLookup x lo hi tail y at r y₃
+      unfolding after-sources
+      two-go i k₂ k₃ f =
+          both-go c two own st IndexLookup a IndexLookup after-sources join-shape k₁ z b i
+          (λ schema text tables lent room rest outer j l r h p s q t. join-done own st outer j l r h k₁ p s k₂ q t k₃ f)
+
+pub no-source : {x : List ℕ} {lo hi g : ℕ} → g ≡ 0 → SourceCount x lo hi g → SourceCount x lo hi 0
+no-source e c p u = sym e ∙ c p u

@@ -1,0 +1,103 @@
+-- The Filter over a lookup, and what becomes of a Scan.
+use Prim.Native.Nat.{ℕ, _+_, _≤_, _<_}
+use native.Mathlib.Omega.{arith}
+use mathlib.Core.Bool.{Bool, false}
+use mathlib.Core.Logic.{⊎-elim}
+use mathlib.Core.Option.{Option, none, some}
+use mathlib.Core.Path.{_≡_, refl, _∙_, subst}
+use mathlib.Core.List.{List, [], _++_, append-nil}
+use lib.ListN.{length, length-append}
+use Rattle.sql.specs.Schema.{Schema}
+use Rattle.sql.specs.Expression.{Expression, ands, and-vec, into-column-values}
+use Rattle.sql.specs.Plan.{scan, lookup, filter, Node, leaf, over}
+use Rattle.sql.specs.Optimizer.{Found, filtered, find-lookup, access, lookup-or-scan}
+use Rattle.cells.specs.declared.Cell.{Cell}
+use Rattle.cells.specs.Cells.{words, cell-at}
+use Rattle.cells.specs.Room.{Wrote, Seals, Copies}
+use Rattle.cells.proofs.Laws.{then, no-room, wrote-up, lt-or-ge}
+use Rattle.words.specs.Words.{cell, over-cell, expression-words, optional-words, node-words}
+use Rattle.words.specs.Place.{ExpressionHere}
+use Rattle.words.proofs.Writing.{plain}
+use Rattle.words.proofs.Sizes.{sized-long}
+use Rattle.conjuncts.specs.Conjuncts.{Appends}
+use Rattle.conjuncts.proofs.Appending.{words-long, appends-vec}
+use Rattle.first_lookup.specs.declared.FoundLookup.{FoundLookup}
+use Rattle.first_lookup.specs.declared.FoundLookup.the-variants.{At, None}
+use Rattle.first_lookup.specs.declared.Rest.{Rest}
+use Rattle.first_lookup.specs.First.{Marks, Stands, FindsFirst, Leaves}
+use Rattle.first_lookup.proofs.Leaving.{remaining-is}
+use Rattle.lookup_or_scan.specs.Scan.{Looks, Filters, LooksOrScans}
+use Rattle.lookup_or_scan.proofs.Looking.{full-grows, lookup-words}
+
+-- a Filter's words, by its source's and its predicate's
+filter-long : (e : Expression) (p : Node) → length (node-words p) ≤ length (node-words (over (filter e) p))
+unfolding node-words
+filter-long e p =
+    omega (arith, sized-long (node-words p ++ expression-words e) (cell (over-cell (filter e))), length-append (node-words p) (expression-words e))
+
+module _ {y₀ y y₁ : List ℕ} {at n end : ℕ} (p : Node) (k : length y ≡ length y₀) (k₁ : length y₁ ≡ length y) (a : Wrote y₀ at (node-words p) n y) where
+  -- nothing was written behind the node
+  unfiltered : (o : Option Expression) → Wrote y n (optional-words o) end y₁ → end ≡ n → Wrote y₀ at (node-words (filtered o p)) n y₁
+  unfiltered none b z = subst (λ (i : ℕ). Wrote y₀ at (node-words p) i y₁) z
+      (subst (λ (l : List ℕ). Wrote y₀ at l end y₁) (append-nil (node-words p)) (then k a b))
+  unfiltered (some e) b z = ⊎-elim
+      (λ (i : length y < n). full-grows (omega arith) (filter-long e p) a)
+      (λ (i : n ≤ length y). absurd (omega (arith, wrote-up b (omega arith), words-long e)))
+      (lt-or-ge (length y) n)
+
+  -- something was, or there was no room for the node itself
+  below-filter : (o : Option Expression) → Wrote y n (optional-words o) end y₁ → (end ≡ n → ⊥) → {r : ℕ} {y₂ : List ℕ} → Seals y₁ at end (plain 51) r y₂
+      → Wrote y₀ at (node-words (filtered o p)) r y₂
+  unfolding node-words cell
+  below-filter none b z {r} {y₂} s = ⊎-elim
+      (λ (i : length y < n).
+      let w = s y₀ (node-words p ++ []) (k₁ ∙ k) (then k a b) in
+      let j = sized-long (node-words p ++ []) (plain 51) in
+      let l = length-append (node-words p) [] in
+      let v : length y₀ < at + length (node-words p) = past i in
+      no-room v (w .full (omega arith)))
+      (λ (i : n ≤ length y). absurd (z (omega (arith, b .fits (omega arith) .0))))
+      (lt-or-ge (length y) n)
+    where
+      past : length y < n → length y₀ < at + length (node-words p)
+      past i = ⊎-elim (λ (j : length y₀ < at + length (node-words p)). j)
+          (λ (j : at + length (node-words p) ≤ length y₀). absurd (omega (arith, a .fits j .0)))
+          (lt-or-ge (length y₀) (at + length (node-words p)))
+  below-filter (some e) b z s = s y₀ (node-words p ++ expression-words e) (k₁ ∙ k) (then k a b)
+
+-- ---- the conjuncts that remain
+
+module _ {marks : List Bool} {w : List ℕ} {m : ℕ} {y : List ℕ} {n : ℕ} {q : Rest} {y₁ : List ℕ} (k₁ : length y₁ ≡ length y) (l : Leaves marks false w 0 m y n n q y₁) where
+  remained : (schema : Schema) (t : ℕ) → Marks schema t marks → (e : Expression) → ExpressionHere w 0 m e → (f : Found) → find-lookup schema t (ands e) ≡ some f
+      → Wrote y n (optional-words (and-vec (f .remaining))) (q .at) y₁
+  remained schema t mk e u f z =
+      appends-vec (f .remaining)
+      (subst (λ (xs : List Expression). Appends y n n xs (q .at) y₁) (remaining-is schema t marks mk (ands e) f z) (l e u .appends))
+
+  pub none-remains : {at : ℕ} → q .at ≡ n → Filters marks w m y at n n y₁
+  none-remains h schema t mk e u f z y₀ p k a = unfiltered p k k₁ a (and-vec (f .remaining)) (remained schema t mk e u f z) h
+
+  pub some-remain : {at : ℕ} → (q .at ≡ n → ⊥) → {r : ℕ} {y₂ : List ℕ} → Seals y₁ at (q .at) (plain 51) r y₂ → Filters marks w m y at n r y₂
+  some-remain h s schema t mk e u f z y₀ p k a = below-filter p k k₁ a (and-vec (f .remaining)) (remained schema t mk e u f z) h s
+
+-- ---- what becomes of the Scan
+
+module _ {x : List ℕ} {lo hi : ℕ} {y : List ℕ} {at : ℕ} {w : List ℕ} {m key : ℕ} (marks : List Bool) {found : FoundLookup} (g : FindsFirst marks w 0 m found) where
+  pub scanned : found ≡ None → {r : ℕ} {y₁ : List ℕ} → Copies x lo hi y at r y₁ → LooksOrScans x lo hi y at w m key marks r y₁
+  scanned e {r} {y₁} v schema t mk kk al q cnf u i =
+      go (find-lookup schema t (ands cnf)) (subst (λ (z : FoundLookup). Stands w z (find-lookup schema t (ands cnf))) e (g schema t mk cnf i))
+    where
+      go : (o : Option Found) → Stands w None o → Wrote y at (node-words (lookup-or-scan schema t al q o)) r y₁
+      go none s = v (node-words (leaf (scan t al (some q)))) (u .part)
+      go (some f) s = absurd s
+
+  pub looked-up : {a b c : ℕ} → found ≡ At a b c → {k : Cell} → k ≡ cell-at x hi → {n : ℕ} {y₁ : List ℕ} → length y₁ ≡ length y → Looks k key c w a b y at n y₁
+      → {r : ℕ} {y₂ : List ℕ} → Filters marks w m y₁ at n r y₂ → LooksOrScans x lo hi y at w m key marks r y₂
+  looked-up {a} {b} {c} e ke {n} {y₁} l h {r} {y₂} v schema t mk kk al q cnf u i =
+      go (find-lookup schema t (ands cnf)) refl (subst (λ (z : FoundLookup). Stands w z (find-lookup schema t (ands cnf))) e (g schema t mk cnf i))
+    where
+      go : (o : Option Found) → find-lookup schema t (ands cnf) ≡ o → Stands w (At a b c) o → Wrote y at (node-words (lookup-or-scan schema t al q o)) r y₂
+      go none z s = absurd s
+      go (some f) z s =
+          v schema t mk cnf i f z y (leaf (lookup (access schema t (f .column-number)) t al (into-column-values (f .conjunct)))) l
+          (subst (λ (b : List ℕ). Wrote y at b n y₁) (lookup-words schema t al q (into-column-values (f .conjunct)) ke kk (s .0) u) (h (f .conjunct) (s .1)))

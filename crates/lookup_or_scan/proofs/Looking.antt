@@ -1,0 +1,146 @@
+-- The lookup that takes a Scan's place: its cell, its constants, and that its column is marked.
+use Prim.Native.Nat.{ℕ, _+_, _-_, _*_, _/_, _≤_, _<_}
+use native.Mathlib.Omega.{arith}
+use borrow.Author.Tests.{eq-eqb, ne-eqb}
+use mathlib.Core.Bool.{Bool, true, false, cond}
+use mathlib.Core.Logic.{⊎-elim}
+use mathlib.Core.Option.{Option, none, some}
+use mathlib.Core.Path.{_≡_, refl, sym, ap, _∙_, subst}
+use mathlib.Core.List.{List, [], _∷_}
+use lib.Dec.{eqb}
+use lib.ListN.{length, getD, List·getD-eq-default}
+use Rattle.value.specs.Value.{Value}
+use Rattle.sql.specs.Schema.{Schema, table-of}
+use Rattle.sql.specs.Expression.{Expression, ands, is-column-lookup, into-column-values}
+use Rattle.sql.specs.Plan.{by-key, by-index, scan, lookup, leaf}
+use Rattle.sql.specs.Optimizer.{Found, has-index, with-index, found-here, find-lookup, access}
+use Rattle.sheet.specs.Content.{scan-cell}
+use Rattle.sheet.specs.Cells.{lookup-content}
+use Rattle.cells.specs.declared.Cell.{Cell}
+use Rattle.cells.specs.Cells.{words, sized, cell-at}
+use Rattle.cells.specs.Room.{Wrote, Seals}
+use Rattle.cells.proofs.Laws.{lt-or-ge, wrote-up}
+use Rattle.words.specs.Words.{cell, all-words, constant-words, node-words}
+use Rattle.words.specs.Place.{ExpressionHere, ExpressionAt, NodeHere}
+use Rattle.words.proofs.Nodes.{node-cell-is}
+use Rattle.words.proofs.Sizes.{all-single, sized-long}
+use Rattle.column_lookup.specs.Values.{Gathers}
+use Rattle.first_lookup.specs.declared.FoundLookup.{FoundLookup}
+use Rattle.first_lookup.specs.declared.FoundLookup.the-variants.{At}
+use Rattle.first_lookup.specs.First.{Stands, FindsFirst}
+use Rattle.lookup_or_scan.specs.Scan.{lookup-cell, ScanAt, Looks}
+
+-- what has no room has none when there is more of it
+pub full-grows : {d₀ : List ℕ} {from at : ℕ} {v x d d′ : List ℕ} → length d₀ < at → length v ≤ length x → Wrote d₀ from v at d → Wrote d₀ from x at d′
+full-grows h g f = record { fits = λ z. absurd (let (a, b) = f .fits (omega arith) in omega arith); full = λ z. h }
+
+-- ---- the cell
+
+pub key-cell : (k : Cell) {key c : ℕ} (n : ℕ) → c ≡ key → (record { tag = 54; flag = k .flag / 2; a = k .a; b = k .b; c = n }) ≡ lookup-cell k key c n
+key-cell k {key} {c} n h =
+    sym (ap (λ (t : Bool). cond t (record { tag = 54; flag = k .flag / 2; a = k .a; b = k .b; c = n })
+    (record { tag = 53; flag = k .flag / 2; a = k .a; b = k .b; c = c + 65536 * n })) (eq-eqb c key h))
+
+pub index-cell : (k : Cell) {key c : ℕ} (n : ℕ) → (c ≡ key → ⊥)
+    → (record { tag = 53; flag = k .flag / 2; a = k .a; b = k .b; c = c + 65536 * n }) ≡ lookup-cell k key c n
+index-cell k {key} {c} n h =
+    sym (ap (λ (t : Bool). cond t (record { tag = 54; flag = k .flag / 2; a = k .a; b = k .b; c = n })
+    (record { tag = 53; flag = k .flag / 2; a = k .a; b = k .b; c = c + 65536 * n })) (ne-eqb c key h))
+
+cell-of-lookup : (t : ℕ) (al : Option ℕ) (key c n : ℕ)
+    → lookup-cell (cell (scan-cell true t al)) key c n ≡ cell (lookup-content (cond (eqb c key) by-key (by-index c)) t al n)
+unfolding cell
+cell-of-lookup t al key c n = go al (eqb c key)
+  where
+    go : (al : Option ℕ) (b : Bool) →
+        cond b (record { tag = 54; flag = cell (scan-cell true t al) .flag / 2; a = cell (scan-cell true t al) .a; b = cell (scan-cell true t al) .b; c = n })
+        (record { tag = 53; flag = cell (scan-cell true t al) .flag / 2; a = cell (scan-cell true t al) .a; b = cell (scan-cell true t al) .b; c = c + 65536 * n })
+        ≡ cell (lookup-content (cond b by-key (by-index c)) t al n)
+    go none true = refl
+    go none false = refl
+    go (some r) true = refl
+    go (some r) false = refl
+
+-- The constants and the cell that the code writes are the lookup's words.
+pub lookup-words : (schema : Schema) (t : ℕ) (al : Option ℕ) (q : Expression) (vs : List Value) {x : List ℕ} {lo hi : ℕ} {k : Cell} {key c i : ℕ}
+    → k ≡ cell-at x hi → key ≡ table-of schema t .primary-key → i ≡ c → NodeHere x lo hi (leaf (scan t al (some q)))
+    → sized (all-words constant-words vs) (lookup-cell k key c (length vs)) ≡ node-words (leaf (lookup (access schema t i) t al vs))
+unfolding node-words
+lookup-words schema t al q vs {x} {lo} {hi} {k} {key} {c} {i} e f g u =
+    ap (sized (all-words constant-words vs))
+    (ap (λ (z : Cell). lookup-cell z key c (length vs)) (e ∙ node-cell-is (leaf (scan t al (some q))) u)
+    ∙ (cell-of-lookup t al key c (length vs)
+    ∙ (ap (λ (z : ℕ). cell (lookup-content (cond (eqb c z) by-key (by-index c)) t al (length vs))) f
+    ∙ ap (λ (z : ℕ). cell (lookup-content (access schema t z) t al (length vs))) (sym g))))
+
+-- ---- the constants, and the cell over them
+
+module _ {w : List ℕ} {a b : ℕ} {y : List ℕ} {at n : ℕ} {y₁ : List ℕ} (g : Gathers w a b y at n y₁) where
+  pub looks-full : (k : Cell) (key c : ℕ) → length y < n → Looks k key c w a b y at n y₁
+  looks-full k key c h e u =
+      full-grows h (omega (arith, sized-long (all-words constant-words (into-column-values e)) (lookup-cell k key c (length (into-column-values e))))) (g e u)
+
+  module _ (h : n ≤ length y) where
+    values-long : (e : Expression) → ExpressionHere w a b e → n ≡ at + 6 * length (into-column-values e)
+    values-long e u =
+        omega (arith, wrote-up (g e u) h, all-single constant-words (λ v. refl) (into-column-values e))
+
+    pub values-count : ExpressionAt w a b → (at ≤ n) × ((n - at) / 6 ≤ length y)
+    values-count p = let i = values-long (p .e) (p .here) in (omega arith, omega arith)
+
+    pub looks : (k : Cell) (key c : ℕ) → length y₁ ≡ length y → {q : Cell} → q ≡ lookup-cell k key c ((n - at) / 6) → {r : ℕ} {y₂ : List ℕ} → Seals y₁ at n q r y₂ → Looks k key c w a b y at r y₂
+    looks k key c l {q} e {r} {y₂} s x u =
+        let i = values-long x u in
+        let j : (n - at) / 6 ≡ length (into-column-values x) = omega arith in
+        subst (λ (z : Cell). Wrote y at (sized (all-words constant-words (into-column-values x)) z) r y₂) (e ∙ ap (lookup-cell k key c) j)
+        (s y (all-words constant-words (into-column-values x)) l (g x u))
+
+-- ---- the lookup's column is marked
+
+module _ (schema : Schema) (t : ℕ) where
+  abbrev Indexed : Option Found → Type 0
+  Indexed none = Unit {0}
+  Indexed (some f) = has-index schema t (f .column-number) ≡ true
+
+  abbrev With : Option ℕ → Type 0
+  With none = Unit {0}
+  With (some c) = has-index schema t c ≡ true
+
+  with-marked : (o : Option ℕ) → With (with-index schema t o)
+  with-marked none = tt
+  with-marked (some c) = go (has-index schema t c) refl
+    where
+      go : (b : Bool) → has-index schema t c ≡ b → With (cond b (some c) none)
+      go true z = z
+      go false z = tt
+
+  here-marked : (e : Expression) (es : List Expression) (o : Option ℕ) (later : Option Found) → With o → Indexed later → Indexed (found-here schema t e es o later)
+  here-marked e es (some c) later h k = h
+  here-marked e es none none h k = tt
+  here-marked e es none (some f) h k = k
+
+  find-marked : (es : List Expression) → Indexed (find-lookup schema t es)
+  find-marked [] = tt
+  find-marked (e ∷ es) = here-marked e es (with-index schema t (is-column-lookup e)) (find-lookup schema t es) (with-marked (is-column-lookup e)) (find-marked es)
+
+marked-inside : (marks : List Bool) (c : ℕ) → getD marks c false ≡ true → c < length marks
+marked-inside marks c h = ⊎-elim (λ (z : c < length marks). z)
+    (λ (z : length marks ≤ c). absurd (clash (sym (List·getD-eq-default marks false z) ∙ h)))
+    (lt-or-ge c (length marks))
+  where
+    clash : false ≡ true → ⊥
+    clash q = let z : _≡_ {A = ℕ} 0 1 = cc in omega arith
+
+module _ {x : List ℕ} {lo hi : ℕ} {y w : List ℕ} {m : ℕ} {marks : List Bool} (p : ScanAt x lo hi y w m marks) {r : FoundLookup} (f : FindsFirst marks w 0 m r)
+    {a b c : ℕ} (e : r ≡ At a b c) where
+  -- Where a lookup is found, its conjunct stands there, and its column is one of the marks'.
+  pub found-there : ExpressionAt w a b × (c < 256)
+  found-there =
+      go (find-lookup (p .schema) (p .table) (ands (p .cnf))) (find-marked (p .schema) (p .table) (ands (p .cnf)))
+      (subst (λ (q : FoundLookup). Stands w q (find-lookup (p .schema) (p .table) (ands (p .cnf)))) e (f (p .schema) (p .table) (p .marked) (p .cnf) (p .cnf-here)))
+    where
+      go : (o : Option Found) → Indexed (p .schema) (p .table) o → Stands w (At a b c) o → ExpressionAt w a b × (c < 256)
+      go none i s = absurd s
+      go (some h) i s =
+          let z = marked-inside marks (h .column-number) (sym (p .marked (h .column-number)) ∙ i) in
+          (record { e = h .conjunct; here = s .1 }, omega (arith, s .0, p .few))

@@ -1,0 +1,102 @@
+// optimizer.rs, index_lookup, of one Scan with a filter whose conjunctive normal form is known: the first conjunct that looks up a column with an index
+// becomes a lookup, and the others a Filter over it. Where there is none, the Scan stays as it was.
+ghost use mathlib.Core.Path.{_≡_};
+ghost use Prim.Native.Nat.{_≤_, _<_};
+ghost use lib.ListN.{length};
+ghost use Rattle.words.specs.Place.{ExpressionAt};
+ghost use Rattle.lookup_or_scan.specs.Scan.{lookup-cell, ScanAt, Looks, Filters, LooksOrScans};
+
+// The cell of a lookup of column c with n constants, in the place of a Scan's cell. key is the column of the table's primary key.
+fn lookup_cell(scan: cells::Cell, key: usize, c: usize, n: usize) -> cells::Cell
+    requires { ⌜ (c < 65536) × (n ≤ 16777216) ⌝ }
+    ensures { λ r. ⌜ r ≡ lookup-cell scan key c n ⌝ }
+{
+    let alias = scan.flag / 2;
+    if c == key {
+        return cells::Cell {
+            tag: 54,
+            flag: alias,
+            a: scan.a,
+            b: scan.b,
+            c: n,
+        };
+    }
+    cells::Cell {
+        tag: 53,
+        flag: alias,
+        a: scan.a,
+        b: scan.b,
+        c: c + 65536 * n,
+    }
+}
+
+// The lookup of column c for the constants of the conjunct that stands in w from a to b.
+fn lookup(
+    scan: cells::Cell,
+    key: usize,
+    c: usize,
+    w: &[usize],
+    a: usize,
+    b: usize,
+    y: &mut [usize],
+    at: usize,
+) -> usize
+    requires { ⌜ ExpressionAt (now w) a b ⌝ }
+    requires { ⌜ (c < 65536) × (length (now y) ≤ 16777216) ⌝ }
+    ensures { λ r. ⌜ Looks scan key c (now (w .entry)) a b (now (y .entry)) at r (now (y .exit)) ⌝ }
+{
+    let n = column_lookup::into_column_values(w, a, b, y, at);
+    if y.len() < n {
+        return n;
+    }
+    cells::put(y, at, n, lookup_cell(scan, key, c, (n - at) / 6))
+}
+
+// The conjuncts of the expression in the first m words of w but the first that looks up a marked column, if there are any, as a Filter over the node that
+// stands in y from at up to n.
+fn filtered(w: &[usize], m: usize, y: &mut [usize], at: usize, n: usize, marks: &[bool]) -> usize
+    requires { ⌜ ExpressionAt (now w) 0 m ⌝ }
+    ensures { λ r. ⌜ Filters (now (marks .entry)) (now (w .entry)) m (now (y .entry)) at n r (now (y .exit)) ⌝ }
+{
+    let rest = first_lookup::remaining(w, 0, m, y, n, n, marks, false);
+    let end = rest.at;
+    if end == n {
+        return n;
+    }
+    cells::put(
+        y,
+        at,
+        end,
+        cells::Cell {
+            tag: 51,
+            flag: 0,
+            a: 0,
+            b: 0,
+            c: 0,
+        },
+    )
+}
+
+// What becomes of the Scan from lo to hi, whose filter's conjunctive normal form is the first m words of w. Which columns of the table a lookup can go by is
+// lent as marks.
+pub fn lookup_or_scan(
+    x: &[usize],
+    lo: usize,
+    hi: usize,
+    y: &mut [usize],
+    at: usize,
+    w: &[usize],
+    m: usize,
+    key: usize,
+    marks: &[bool],
+) -> usize
+    requires { ⌜ ScanAt (now x) lo hi (now y) (now w) m (now marks) ⌝ }
+    ensures { λ r. ⌜ LooksOrScans (now (x .entry)) lo hi (now (y .entry)) at (now (w .entry)) m key (now (marks .entry)) r (now (y .exit)) ⌝ }
+{
+    let found = first_lookup::find_lookup(w, 0, m, marks);
+    let first_lookup::FoundLookup::At(a, b, c) = found else {
+        return cells::copy(x, lo, hi, y, at);
+    };
+    let n = lookup(cells::cell_at(x, hi), key, c, w, a, b, y, at);
+    filtered(w, m, y, at, n, marks)
+}

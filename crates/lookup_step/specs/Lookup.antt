@@ -1,0 +1,57 @@
+-- What is lent of a schema, and the contracts of the steps that a Scan with a filter takes.
+use Prim.Native.Nat.{ℕ, _*_, _≤_, _<_}
+use mathlib.Core.Bool.{Bool, true, false}
+use mathlib.Core.Path.{_≡_}
+use mathlib.Core.List.{List}
+use mathlib.Core.Option.{Option, some}
+use lib.ListN.{length}
+use Rattle.sql.specs.Schema.{Schema}
+use Rattle.sql.specs.Expression.{Expression, into-cnf}
+use Rattle.sql.specs.Plan.{Leaf, scan, leaf}
+use Rattle.sql.specs.Optimizer.{index-lookup}
+use Rattle.sql.specs.Room.{scan-filter, normal-forms-fit}
+use Rattle.sheet.specs.Cells.{present}
+use Rattle.sound.specs.Sound.{Sound-leaf}
+use Rattle.cells.specs.Room.{Wrote}
+use Rattle.words.specs.Words.{node-words}
+use Rattle.words.specs.Place.{ExpressionHere, NodeHere}
+use Rattle.indexes.specs.Indexes.{Indexes}
+
+abbrev pub Lent : (widths keys : List ℕ) → List Bool → Schema → Type 0
+Lent widths keys marks schema = Indexes schema widths keys marks
+
+-- Some sound Scan with a filter stands in x from lo up to hi, and its filter's conjunctive normal form in the first m words of w.
+pub record FilteredAt (x : List ℕ) (lo hi : ℕ) (y w : List ℕ) (m : ℕ) (widths keys : List ℕ) (marks : List Bool) : Type 0 where
+  pub schema : Schema
+  pub text : List ℕ
+  pub tables : ℕ
+  pub given : Indexes schema widths keys marks
+  pub table : ℕ
+  pub alias : Option ℕ
+  pub predicate : Expression
+  pub sound : Sound-leaf schema text tables (scan table alias (some predicate))
+  pub here : NodeHere x lo hi (leaf (scan table alias (some predicate)))
+  pub cnf-here : ExpressionHere w 0 m (into-cnf predicate)
+  pub short : length y ≤ 16777216
+
+-- ---- contracts
+
+-- whether the leaf from lo up to hi is a Scan with a filter
+abbrev pub HasFilter : List ℕ → (lo hi : ℕ) → Bool → Type 0
+HasFilter x lo hi r = (l : Leaf) → NodeHere x lo hi (leaf l) → r ≡ present (scan-filter l)
+
+-- The conjunctive normal form of e is the first m words of w′; or it, or the negation normal form, has no room, and m is past the end.
+pub record Normal (e : Expression) (m : ℕ) (w′ : List ℕ) : Type 0 where
+  pub fits : m ≤ length w′ → ExpressionHere w′ 0 m (into-cnf e)
+  pub room : (room : ℕ) (schema : Schema) → length w′ ≡ 6 * room → m ≤ length w′ → normal-forms-fit room schema (some e) ≡ true
+  pub full : (room : ℕ) (schema : Schema) → length w′ ≡ 6 * room → length w′ < m → normal-forms-fit room schema (some e) ≡ false
+
+abbrev pub Normalizes : List ℕ → (lo hi m : ℕ) → List ℕ → Type 0
+Normalizes x lo hi m w′ = (e : Expression) → ExpressionHere x lo hi e → Normal e m w′
+
+-- index-lookup of the Scan from lo up to hi is appended to the first `at` words of y, or has no room.
+abbrev pub LooksUp : (x : List ℕ) (lo hi : ℕ) → (y : List ℕ) (at : ℕ) → (w : List ℕ) (m : ℕ) → (widths keys : List ℕ) → List Bool → (r : ℕ) → List ℕ → Type 0
+LooksUp x lo hi y at w m widths keys marks r y′ =
+    (schema : Schema) (text : List ℕ) (tables : ℕ) → Indexes schema widths keys marks → (table : ℕ) (alias : Option ℕ) (predicate : Expression)
+    → Sound-leaf schema text tables (scan table alias (some predicate)) → NodeHere x lo hi (leaf (scan table alias (some predicate)))
+    → ExpressionHere w 0 m (into-cnf predicate) → Wrote y at (node-words (index-lookup schema (scan table alias (some predicate)))) r y′

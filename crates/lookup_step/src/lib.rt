@@ -1,0 +1,92 @@
+// optimizer.rs, index_lookup, as a step of the streamed pass (crate stream): a Scan whose filter has a conjunct that looks up a column with an index, or the
+// primary key, becomes a lookup. widths[t] is the number of columns of table t, keys[t] its primary key's column, and marks say of all columns, table by
+// table, whether a lookup can go by them.
+ghost use mathlib.Core.Path.{_≡_};
+ghost use Prim.Native.Nat.{_-_, _<_};
+ghost use lib.ListN.{length};
+ghost use Rattle.sql.specs.Room.{IndexLookup};
+ghost use Rattle.words.specs.Place.{ExpressionAt, NodeAt};
+ghost use Rattle.nodes.specs.Own.{SourceCount};
+ghost use Rattle.stream.specs.Stream.{StreamAt, Streams};
+ghost use Rattle.lookup_step.specs.Lookup.{Lent, FilteredAt, HasFilter, Normalizes, LooksUp};
+
+// Whether the leaf from lo to hi is a Scan with a filter.
+fn has_filter(x: &[usize], lo: usize, hi: usize) -> bool
+    requires { ⌜ NodeAt (now x) lo hi ⌝ }
+    ensures { λ r. ⌜ HasFilter (now (x .entry)) lo hi r ⌝ }
+{
+    let k = cells::cell_at(x, hi);
+    if k.tag == 62 {
+        return k.flag % 2 == 1;
+    }
+    false
+}
+
+// The conjunctive normal form of the expression from lo to hi, as the first words of w. What into_nnf gives stands in z, and counts for room too.
+fn into_cnf(x: &[usize], lo: usize, hi: usize, z: &mut [usize], w: &mut [usize]) -> usize
+    requires { ⌜ ExpressionAt (now x) lo hi ⌝ }
+    requires { ⌜ length (now z) ≡ length (now w) ⌝ }
+    ensures { λ r. ⌜ Normalizes (now (x .entry)) lo hi r (now (w .exit)) ⌝ }
+{
+    let n = nnf::into_nnf(x, lo, hi, z, 0);
+    if z.len() < n {
+        return n;
+    }
+    cnf::distribute(z, 0, n, w, 0)
+}
+
+// What becomes of the Scan from lo to hi, whose filter's conjunctive normal form is the first m words of w.
+fn lookup_in_table(
+    x: &[usize],
+    lo: usize,
+    hi: usize,
+    y: &mut [usize],
+    at: usize,
+    w: &[usize],
+    m: usize,
+    widths: &[usize],
+    keys: &[usize],
+    marks: &[bool],
+) -> usize
+    requires { ⌜ FilteredAt (now x) lo hi (now y) (now w) m (now widths) (now keys) (now marks) ⌝ }
+    ensures { λ r. ⌜ LooksUp (now (x .entry)) lo hi (now (y .entry)) at (now (w .entry)) m (now (widths .entry)) (now (keys .entry)) (now (marks .entry)) r (now (y .exit)) ⌝ }
+{
+    let k = cells::cell_at(x, hi);
+    let t = k.a;
+    if keys.len() <= t {
+        return cells::copy(x, lo, hi, y, at);
+    }
+    let first = labels::first_column(widths, t);
+    let end = first + widths[t];
+    lookup_or_scan::lookup_or_scan(x, lo, hi, y, at, w, m, keys[t], &marks[first..end])
+}
+
+// index_lookup of the leaf from lo to hi. z and w are used for the normal forms of its filter, and as long as y.
+pub fn index_lookup(
+    x: &[usize],
+    lo: usize,
+    hi: usize,
+    tail: usize,
+    y: &mut [usize],
+    at: usize,
+    z: &mut [usize],
+    w: &mut [usize],
+    widths: &[usize],
+    keys: &[usize],
+    marks: &[bool],
+) -> usize
+    requires { ⌜ StreamAt (Lent (now widths) (now keys) (now marks)) (now x) lo hi tail (now y) at ⌝ }
+    requires { ⌜ SourceCount (now x) lo hi 0 ⌝ }
+    requires { ⌜ (length (now z) ≡ length (now y)) × (length (now w) ≡ length (now y)) ⌝ }
+    ensures { λ r. ⌜ Streams (Lent (now (widths .entry)) (now (keys .entry)) (now (marks .entry))) IndexLookup (now (x .entry)) lo hi tail (now (y .entry)) at r (now (y .exit)) ⌝ }
+{
+    if has_filter(x, lo, hi) {
+        let m = into_cnf(x, lo, hi - 6, z, w);
+        if w.len() < m {
+            return m;
+        }
+        let n = lookup_in_table(x, lo, hi, y, at, w, m, widths, keys, marks);
+        return stream::in_room(y, n, tail);
+    }
+    cells::copy(x, lo, hi, y, at)
+}

@@ -1,0 +1,209 @@
+-- Laws on a node that can take a predicate: which it is, and what is written of it with one more.
+use Prim.Native.Nat.{ℕ, _+_, _-_, _≤_}
+use native.Mathlib.Omega.{arith}
+use mathlib.Core.Bool.{Bool, true, false}
+use mathlib.Core.Path.{_≡_, refl, sym, ap, _∙_, subst}
+use mathlib.Core.List.{List, _++_, append-assoc}
+use mathlib.Core.Option.{Option, none, some}
+use lib.ListN.{length}
+use Rattle.value.specs.Value.{null}
+use Rattle.sql.specs.Expression.{Expression, constant, and}
+use Rattle.sql.specs.Plan.{scan, lookup, nothing, values, filter, other, nested-loop, hash, Node, leaf, over, join}
+use Rattle.sql.specs.Optimizer.{and-with, push-into}
+use Rattle.sheet.specs.Content.{bit}
+use Rattle.sheet.specs.Cells.{present}
+use Rattle.cells.specs.declared.Cell.{Cell}
+use Rattle.cells.specs.Cells.{sized, cell-at, tag-at}
+use Rattle.cells.specs.Room.{Wrote, Seals, Copies}
+use Rattle.cells.proofs.Laws.{then}
+use Rattle.words.specs.Words.{cell, root, expression-words, operand-words, node-words, source-words, own-words, node-cell}
+use Rattle.words.specs.Place.{NodeHere, NodeAt}
+use Rattle.words.proofs.Expressions.{shape}
+use Rattle.words.proofs.Sizes.{sized-long}
+use Rattle.words.proofs.Writing.{plain}
+use Rattle.words.proofs.Nodes.{node-cell-is, node-tag, node-in, node-long, own-part}
+use Rattle.words.proofs.Tags.{tag-of, tagged, by-scan, by-filter, by-nested-loop}
+use Rattle.nodes.specs.Own.{OwnStart}
+use Rattle.push_into.specs.Push.{is-some, Takes, TakerAt, Pushes}
+
+-- ---- which nodes take a predicate, by their tags
+module _ {s : List ℕ} {lo hi : ℕ} where
+  tag-here : (p : Node) → NodeHere s lo hi p → tag-at s hi ≡ tag-of p
+  tag-here p u = node-tag p u ∙ tagged p
+
+  pub filter-takes : tag-at s hi ≡ 51 → Takes s lo hi true
+  filter-takes h p e u = by-filter (λ p. true ≡ is-some (push-into e p)) (λ q n. refl) p (sym (tag-here p u) ∙ h)
+
+  pub join-takes : tag-at s hi ≡ 56 → Takes s lo hi true
+  join-takes h p e u = by-nested-loop (λ p. true ≡ is-some (push-into e p)) (λ outer q l r. refl) p (sym (tag-here p u) ∙ h)
+
+  pub scan-takes : tag-at s hi ≡ 62 → Takes s lo hi true
+  scan-takes h p e u = by-scan (λ p. true ≡ is-some (push-into e p)) (λ t al q. refl) p (sym (tag-here p u) ∙ h)
+
+  pub none-takes : (tag-at s hi ≡ 51 → ⊥) → (tag-at s hi ≡ 56 → ⊥) → (tag-at s hi ≡ 62 → ⊥) → Takes s lo hi false
+  none-takes f j c (leaf (scan t al q)) e u = absurd (c (tag-here (leaf (scan t al q)) u))
+  none-takes f j c (leaf (lookup a t al vs)) e u = refl
+  none-takes f j c (leaf (nothing ls)) e u = refl
+  none-takes f j c (leaf (values rs)) e u = refl
+  none-takes f j c (over (filter q) n) e u = absurd (f (tag-here (over (filter q) n) u))
+  none-takes f j c (over (other o) n) e u = refl
+  none-takes f j c (join outer (nested-loop q) l r) e u = absurd (j (tag-here (join outer (nested-loop q) l r) u))
+  none-takes f j c (join outer (hash a b) l r) e u = refl
+
+  pub node-at-in : NodeAt s lo hi → (6 ≤ hi) × (hi ≤ length s)
+  node-at-in n = (omega (arith, node-in (n .p) (n .here) .0), node-in (n .p) (n .here) .1)
+
+  pub taker : NodeAt s lo hi → {r : Bool} → Takes s lo hi r → r ≡ true → TakerAt s lo hi
+  taker n f h = record { p = n .p; here = n .here; takes = λ e. sym (f (n .p) e (n .here)) ∙ h }
+
+  pub taker-in : TakerAt s lo hi → (lo + 6 ≤ hi) × (hi ≤ length s)
+  taker-in g = node-in (g .p) (g .here)
+
+  pub taker-at : TakerAt s lo hi → NodeAt s lo hi
+  taker-at g = record { p = g .p; here = g .here }
+
+pub no-true : {A : Type 0} → false ≡ true → A
+no-true h = let y : _≡_ {A = ℕ} 0 1 = ap bit h in absurd (omega arith)
+
+pub no-false : {A : Type 0} → true ≡ false → A
+no-false h = let y : _≡_ {A = ℕ} 1 0 = ap bit h in absurd (omega arith)
+
+no-node : {A : Type 0} (pushed : Node) → _≡_ {A = Option Node} none (some pushed) → A
+no-node pushed h = no-true (ap is-some h)
+
+-- what becomes of a node that takes the predicate
+pub record Pushed (e : Expression) (p : Node) : Type 0 where
+  pub pushed : Node
+  pub is : push-into e p ≡ some pushed
+
+pub taken : (e : Expression) (p : Node) → is-some (push-into e p) ≡ true → Pushed e p
+taken e p h = go (push-into e p) refl h
+  where
+    go : (o : Option Node) → push-into e p ≡ o → is-some o ≡ true → Pushed e p
+    go none i h = no-true h
+    go (some q) i h = record { pushed = q; is = i }
+
+pub not-taken : (e : Expression) (p : Node) → is-some (push-into e p) ≡ false → push-into e p ≡ none
+not-taken e p h = go (push-into e p) h
+  where
+    go : (o : Option Node) → is-some o ≡ false → o ≡ none
+    go none h = refl
+    go (some q) h = no-false h
+
+-- the three nodes that take one, and what they become
+module _ (e : Expression) (P : Node → Node → Type 0) where
+  pub by-taker : ((t : ℕ) (al : Option ℕ) (q : Option Expression) → P (leaf (scan t al q)) (leaf (scan t al (some (and-with e q)))))
+      → ((q : Expression) (n : Node) → P (over (filter q) n) (over (filter (and e q)) n))
+      → ((outer : Bool) (q : Option Expression) (l r : Node) → P (join outer (nested-loop q) l r) (join outer (nested-loop (some (and-with e q))) l r))
+      → (source pushed : Node) → push-into e source ≡ some pushed → P source pushed
+  by-taker f g h (leaf (scan t al q)) pushed i = let k : leaf (scan t al (some (and-with e q))) ≡ pushed = cc in subst (P (leaf (scan t al q))) k (f t al q)
+  by-taker f g h (leaf (lookup a t al vs)) pushed i = no-node pushed i
+  by-taker f g h (leaf (nothing ls)) pushed i = no-node pushed i
+  by-taker f g h (leaf (values rs)) pushed i = no-node pushed i
+  by-taker f g h (over (filter q) n) pushed i = let k : over (filter (and e q)) n ≡ pushed = cc in subst (P (over (filter q) n)) k (g q n)
+  by-taker f g h (over (other o) n) pushed i = no-node pushed i
+  by-taker f g h (join outer (nested-loop q) l r) pushed i =
+      let k : join outer (nested-loop (some (and-with e q))) l r ≡ pushed = cc in subst (P (join outer (nested-loop q) l r)) k (h outer q l r)
+  by-taker f g h (join outer (hash a b) l r) pushed i = no-node pushed i
+
+-- ---- the cell of a node that had no predicate: bit 0 of its flag is set
+
+abbrev flagged : Cell → Cell
+flagged k = record { tag = k .tag; flag = k .flag + 1; a = k .a; b = k .b; c = k .c }
+
+bit-small : (b : Bool) → bit b ≤ 1
+bit-small true = omega arith
+bit-small false = omega arith
+
+scan-flag : (t : ℕ) (al : Option ℕ) (q : Option Expression) → cell (node-cell (leaf (scan t al q))) .flag ≤ 3
+unfolding cell
+scan-flag t none q = omega (arith, bit-small (present q))
+scan-flag t (some r) q = omega (arith, bit-small (present q))
+
+join-flag : (outer : Bool) (q : Option Expression) (l r : Node) → cell (node-cell (join outer (nested-loop q) l r)) .flag ≤ 3
+unfolding cell
+join-flag outer q l r = omega (arith, bit-small (present q), bit-small outer)
+
+filter-flag : (q : Expression) (n : Node) → cell (node-cell (over (filter q) n)) .flag ≤ 3
+unfolding cell
+filter-flag q n = omega arith
+
+pub flag-small : {s : List ℕ} {lo hi : ℕ} {k : Cell} → TakerAt s lo hi → k ≡ cell-at s hi → k .flag ≤ 3
+flag-small {k = k} g i =
+    let e = constant null in
+    let t = taken e (g .p) (g .takes e) in
+    let b = by-taker e (λ source pushed. cell (node-cell source) .flag ≤ 3) scan-flag filter-flag join-flag (g .p) (t .pushed) (t .is) in
+    omega (arith, b, ap (λ (c : Cell). c .flag) (i ∙ node-cell-is (g .p) (g .here)))
+
+-- ---- the words of the node with the predicate
+
+has-words : (q : Expression) → 6 ≤ length (expression-words q)
+has-words q = omega (arith, ap length (shape q), sized-long (operand-words q) (cell (root q)))
+
+-- a node that had none
+abbrev Alone : Expression → Node → Node → Type 0
+Alone e source pushed = length (own-words source) ≡ 0 → sized (source-words source ++ expression-words e) (flagged (cell (node-cell source))) ≡ node-words pushed
+
+alone-scan : (e : Expression) (t : ℕ) (al : Option ℕ) (q : Option Expression) → Alone e (leaf (scan t al q)) (leaf (scan t al (some (and-with e q))))
+unfolding cell node-words
+alone-scan e t none none z = refl
+alone-scan e t (some r) none z = refl
+alone-scan e t al (some q) z = absurd (omega (arith, has-words q))
+
+alone-join : (e : Expression) (outer : Bool) (q : Option Expression) (l r : Node)
+    → Alone e (join outer (nested-loop q) l r) (join outer (nested-loop (some (and-with e q))) l r)
+unfolding cell node-words
+alone-join e true none l r z = simp append-assoc
+alone-join e false none l r z = simp append-assoc
+alone-join e outer (some q) l r z = absurd (omega (arith, has-words q))
+
+alone : (e : Expression) (source pushed : Node) → push-into e source ≡ some pushed → Alone e source pushed
+alone e = by-taker e (Alone e) (alone-scan e) (λ q n z. absurd (omega (arith, has-words q))) (alone-join e)
+
+-- a node that had one
+abbrev Both : Expression → Node → Node → Type 0
+Both e source pushed = (length (own-words source) ≡ 0 → ⊥)
+    → sized (source-words source ++ sized (expression-words e ++ own-words source) (plain 10)) (cell (node-cell source)) ≡ node-words pushed
+
+both-scan : (e : Expression) (t : ℕ) (al : Option ℕ) (q : Option Expression) → Both e (leaf (scan t al q)) (leaf (scan t al (some (and-with e q))))
+unfolding cell node-words expression-words
+both-scan e t al none z = absurd (z refl)
+both-scan e t al (some q) z = refl
+
+both-filter : (e q : Expression) (n : Node) → Both e (over (filter q) n) (over (filter (and e q)) n)
+unfolding cell node-words expression-words
+both-filter e q n z = refl
+
+both-join : (e : Expression) (outer : Bool) (q : Option Expression) (l r : Node)
+    → Both e (join outer (nested-loop q) l r) (join outer (nested-loop (some (and-with e q))) l r)
+unfolding cell node-words expression-words
+both-join e outer none l r z = absurd (z refl)
+both-join e outer (some q) l r z = simp append-assoc
+
+both : (e : Expression) (source pushed : Node) → push-into e source ≡ some pushed → Both e source pushed
+both e = by-taker e (Both e) (both-scan e) (both-filter e) (both-join e)
+
+-- ---- the two ways out of with_predicate
+module _ {s : List ℕ} {lo hi own : ℕ} {k : Cell} (i : k ≡ cell-at s hi) (o : OwnStart s lo hi own) where
+  pub copies-own : TakerAt s lo hi → (own ≤ hi - 6) × (hi - 6 ≤ length s)
+  copies-own g =
+      (omega (arith, o (g .p) (g .here), node-long (g .p) (g .here)), omega (arith, node-in (g .p) (g .here) .1))
+
+  pub pushes-alone : {d : List ℕ} {from mid at r : ℕ} {d′ : List ℕ} → own ≡ hi - 6 → Seals d from at (flagged k) r d′ → Pushes s lo hi d from mid at r d′
+  pushes-alone {d} {from} {mid} {at} {r} {d′} z f e source pushed u j d₀ d₁ l₁ l v w =
+      let c = i ∙ node-cell-is source u in
+      let x = f d₀ (source-words source ++ expression-words e) (l ∙ l₁) (then l₁ v w) in
+      subst (λ (b : List ℕ). Wrote d₀ from b r d′) (alone e source pushed j (omega (arith, o source u, node-long source u)))
+      (subst (λ (b : Cell). Wrote d₀ from (sized (source-words source ++ expression-words e) (flagged b)) r d′) c x)
+
+  pub pushes-both : {d : List ℕ} {from mid at m n r : ℕ} {d₂ d₃ d′ : List ℕ} → (own ≡ hi - 6 → ⊥) → length d₂ ≡ length d → length d₃ ≡ length d₂
+      → Copies s own (hi - 6) d at m d₂ → Seals d₂ mid m (plain 10) n d₃ → Seals d₃ from n k r d′ → Pushes s lo hi d from mid at r d′
+  pushes-both {d} {from} {mid} {at} {m} {n} {r} {d₂} {d₃} {d′} z l₂ l₃ f g h e source pushed u j d₀ d₁ l₁ l v w =
+      let c = i ∙ node-cell-is source u in
+      let ew = expression-words e in
+      let ow = own-words source in
+      let x = f ow (own-part source u (o source u)) in
+      let y = g d₁ (ew ++ ow) (l₂ ∙ l) (then l w x) in
+      let a = h d₀ (source-words source ++ sized (ew ++ ow) (plain 10)) (l₃ ∙ l₂ ∙ l ∙ l₁) (then l₁ v y) in
+      subst (λ (b : List ℕ). Wrote d₀ from b r d′) (both e source pushed j (λ q. z (omega (arith, o source u, node-long source u))))
+      (subst (λ (b : Cell). Wrote d₀ from (sized (source-words source ++ sized (ew ++ ow) (plain 10)) b) r d′) c a)

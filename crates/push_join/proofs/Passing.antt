@@ -1,0 +1,193 @@
+-- The split as a step of a pass, with the room for it and for the normal forms.
+use Prim.Native.Nat.{ℕ, _+_, _-_, _*_, _%_, _≤_, _<_}
+use native.Mathlib.Omega.{arith}
+use mathlib.Core.Bool.{Bool, true, false, _&&_}
+use mathlib.Core.Logic.{⊎-elim}
+use mathlib.Core.Option.{Option, none, some}
+use mathlib.Core.Path.{_≡_, refl, sym, ap, ap₂, _∙_, subst}
+use mathlib.Core.List.{List}
+use lib.Dec.{eqb, leb}
+use lib.ListN.{length}
+use borrow.Author.Tests.{le-leb, lt-leb}
+use Rattle.sql.specs.Schema.{Schema}
+use Rattle.sql.specs.Expression.{Expression, size, into-nnf, distribute, into-cnf, into-cnf-vec}
+use Rattle.sql.specs.Plan.{nested-loop, hash, Node, leaf, over, join, node-size}
+use Rattle.sql.specs.Answer.{Answer, done, _>>=_}
+use Rattle.sql.specs.Optimizer as Optimizer
+use Rattle.sql.specs.Room.{if-room, join-predicate, normal-forms-fit, step}
+use Rattle.sql.specs.Room
+use Rattle.sheet.specs.Content.{bit}
+use Rattle.sheet.specs.Cells.{present}
+use Rattle.cells.specs.declared.Cell.{Cell}
+use Rattle.cells.specs.Cells.{cell-at}
+use Rattle.cells.specs.Room.{Wrote}
+use Rattle.cells.proofs.Laws.{lt-or-ge, wrote-up}
+use Rattle.words.specs.Words.{expression-words, node-words}
+use Rattle.words.specs.Place.{ExpressionHere, ExpressionAt, Maps, NodeHere, NodeAt}
+use Rattle.words.proofs.Sizes.{expression-long}
+use Rattle.words.proofs.Tags.{by-nested-loop}
+use Rattle.nodes.specs.Own.{OwnStart}
+use Rattle.nodes.specs.Columns.{Tables, ColumnsAt}
+use Rattle.nodes.proofs.Widths.{tag-here, flag-here}
+use Rattle.sound.specs.Pushdown.{join-rule-keeps}
+use Rattle.edit.specs.Edit.{Holds, Left, Finishes}
+use Rattle.edit.proofs.Edits.{holds-here, total-cells, left-refused, edit-same, edit-step}
+use Rattle.kept.specs.Kept.{Kept, kept, sound-narrow}
+use Rattle.kept.specs.Pass.{PassAt, Passes}
+use Rattle.conjuncts.proofs.Appending.{written-part}
+use Rattle.split_join.specs.Split.{HasPredicate, Splits}
+use Rattle.split_join.proofs.Splitting.{by-split, predicate-here}
+
+-- ---- which nodes are split
+
+-- bit 0 of the flag tells of the predicate
+flag-bit : (outer : Bool) (q : Option Expression) → eqb ((bit (present q) + 2 * bit outer) % 2) 1 ≡ present q
+flag-bit false none = refl
+flag-bit true none = refl
+flag-bit false (some e) = refl
+flag-bit true (some e) = refl
+
+module _ {s : List ℕ} {lo hi : ℕ} {c : Cell} (q : c ≡ cell-at s hi) where
+  pub another : (c .tag ≡ 56 → ⊥) → HasPredicate s lo hi false
+  another h (leaf l) u = refl
+  another h (over o n) u = refl
+  another h (join outer (nested-loop e) l r) u = absurd (h (tag-here q (join outer (nested-loop e) l r) u))
+  another h (join outer (hash i j) l r) u = refl
+
+  pub nested : c .tag ≡ 56 → HasPredicate s lo hi (eqb (c .flag % 2) 1)
+  nested h p u =
+      by-nested-loop (λ p. NodeHere s lo hi p → eqb (c .flag % 2) 1 ≡ present (join-predicate p))
+      (λ outer e l r v. ap (λ (f : ℕ). eqb (f % 2) 1) (flag-here q (join outer (nested-loop e) l r) v) ∙ flag-bit outer e) p (sym (tag-here q p u) ∙ h) u
+
+-- ---- what is asked for
+
+pub pass-columns : {widths x : List ℕ} {t lo tail : ℕ} → PassAt widths x t lo tail → ColumnsAt widths x lo (t - tail)
+pass-columns g =
+    record {
+      schema = g .schema;
+      tables = g .given;
+      p = g .held .p;
+      here = holds-here (g .held .holds);
+      narrow = sound-narrow (g .schema) (g .text) (g .tables) (g .held .p) (g .held .fit .0);
+      short = omega (arith, g .held .holds .inside, g .short);
+    }
+
+-- ---- room for a normal form
+
+module _ (room : ℕ) {d : List ℕ} {n : ℕ} {d′ : List ℕ} (l : length d ≡ 6 * room) (e : Expression) (w : Wrote d 0 (expression-words e) n d′) where
+  form-over : length d < n → leb (size e) room ≡ false
+  form-over h =
+      lt-leb (size e) room
+      (⊎-elim (λ (z : room < size e). z) (λ (z : size e ≤ room). absurd (let (a, b) = w .fits (omega (arith, expression-long e)) in omega (arith, expression-long e)))
+      (lt-or-ge room (size e)))
+
+  form-fits : n ≤ length d → leb (size e) room ≡ true
+  form-fits h = le-leb (size e) room (omega (arith, wrote-up w h, expression-long e))
+
+and-false : (b : Bool) → (b && false) ≡ false
+and-false true = refl
+and-false false = refl
+
+-- ---- the answer
+
+module _ (room : ℕ) (schema : Schema) (rest : ℕ) where
+  -- no predicate
+  unchanged : (p : Node) → present (join-predicate p) ≡ false → rest + node-size p ≤ room → Room.maybe-push-join room schema rest p ≡ done p
+  unfolding Room.maybe-push-join Optimizer.maybe-push-join
+  unchanged (leaf l) h k = ap (λ (b : Bool). if-room b (leaf l)) (le-leb (rest + node-size (leaf l)) room k)
+  unchanged (over o n) h k = ap (λ (b : Bool). if-room b (over o n)) (le-leb (rest + node-size (over o n)) room k)
+  unchanged (join outer (nested-loop none) l r) h k =
+      ap (λ (b : Bool). if-room b (join outer (nested-loop none) l r)) (le-leb (rest + node-size (join outer (nested-loop none) l r)) room k)
+  unchanged (join outer (nested-loop (some e)) l r) h k = absurd (let z : _≡_ {A = ℕ} 0 1 = cc in omega arith)
+  unchanged (join outer (hash i j) l r) h k = ap (λ (b : Bool). if-room b (join outer (hash i j) l r)) (le-leb (rest + node-size (join outer (hash i j) l r)) room k)
+
+  module _ (outer : Bool) (q : Expression) (l r : Node) where
+    answered : (b : Bool) → normal-forms-fit room schema (some q) ≡ b
+        → Room.maybe-push-join room schema rest (join outer (nested-loop (some q)) l r)
+        ≡ (if-room b (join outer (nested-loop (some q)) l r) >>= λ n. step room schema rest (Optimizer.maybe-push-join schema n))
+    unfolding Room.maybe-push-join
+    answered b h = ap (λ (t : Bool). if-room t (join outer (nested-loop (some q)) l r) >>= λ n. step room schema rest (Optimizer.maybe-push-join schema n)) h
+
+-- ---- where the normal forms stand, the one in z and the other in w
+
+module _ {x : List ℕ} {lo hi m : ℕ} (own : OwnStart x lo hi m) {z z₁ : List ℕ} {k : ℕ} (lz : length z₁ ≡ length z) (nnf : Maps into-nnf x m (hi - 6) z 0 k z₁) (i : k ≤ length z₁) where
+  nnf-here : (outer : Bool) (q : Expression) (l r : Node) → NodeHere x lo hi (join outer (nested-loop (some q)) l r) → ExpressionHere z₁ 0 k (into-nnf q)
+  nnf-here outer q l r u = record { part = written-part (nnf q (predicate-here own outer q l r u)) (omega arith) }
+
+  pub nnf-at : HasPredicate x lo hi true → NodeAt x lo hi → ExpressionAt z₁ 0 k
+  nnf-at f n =
+      by-split (λ p. NodeHere x lo hi p → ExpressionAt z₁ 0 k) (λ outer q l r u. record { e = into-nnf q; here = nnf-here outer q l r u }) (n .p) (sym (f (n .p) (n .here))) (n .here)
+
+  module _ {w w₁ : List ℕ} {end : ℕ} (lw : length w₁ ≡ length w) (cnf : Maps distribute z₁ 0 k w 0 end w₁) (j : end ≤ length w₁) where
+    cnf-here : (outer : Bool) (q : Expression) (l r : Node) → NodeHere x lo hi (join outer (nested-loop (some q)) l r) → ExpressionHere w₁ 0 end (distribute (into-nnf q))
+    cnf-here outer q l r u = record { part = written-part (cnf (into-nnf q) (nnf-here outer q l r u)) (omega arith) }
+
+    pub cnf-at : HasPredicate x lo hi true → NodeAt x lo hi → ExpressionAt w₁ 0 end
+    cnf-at f n =
+        by-split (λ p. NodeHere x lo hi p → ExpressionAt w₁ 0 end) (λ outer q l r u. record { e = distribute (into-nnf q); here = cnf-here outer q l r u }) (n .p)
+        (sym (f (n .p) (n .here))) (n .here)
+
+    both-fit : (room : ℕ) (schema : Schema) → length z ≡ 6 * room → length w ≡ 6 * room → (outer : Bool) (q : Expression) (l r : Node)
+        → NodeHere x lo hi (join outer (nested-loop (some q)) l r) → normal-forms-fit room schema (some q) ≡ true
+    unfolding into-cnf
+    both-fit room schema a b outer q l r u =
+        ap₂ _&&_ (form-fits room a (into-nnf q) (nnf q (predicate-here own outer q l r u)) (omega arith))
+        (form-fits room b (distribute (into-nnf q)) (cnf (into-nnf q) (nnf-here outer q l r u)) (omega arith))
+
+-- ---- the ways out
+
+pub pass-same : {widths x : List ℕ} {t lo tail : ℕ} {b : Bool} → HasPredicate x lo (t - tail) b → b ≡ false → Passes Room.maybe-push-join widths x t lo tail t x
+pass-same f z schema text tables given =
+    edit-same (kept schema text tables) (λ room. Room.maybe-push-join room schema)
+    (λ room rest pre post p s k h. unchanged room schema rest p (sym (f p (holds-here h)) ∙ z) (omega (arith, total-cells s h, h .inside, s .all)))
+
+module _ {x : List ℕ} {t lo tail : ℕ} (f : HasPredicate x lo (t - tail) true) where
+  when-split : {pre post : List ℕ} (P : Node → Type 0)
+      → ((outer : Bool) (q : Expression) (l r : Node) → NodeHere x lo (t - tail) (join outer (nested-loop (some q)) l r) → P (join outer (nested-loop (some q)) l r))
+      → (p : Node) → Holds x t lo tail pre post p → P p
+  when-split P g p h = by-split (λ p. NodeHere x lo (t - tail) p → P p) g p (sym (f p (holds-here h))) (holds-here h)
+
+  -- a normal form that has no room
+  refuse : {widths : List ℕ} {n : ℕ} → length x < n
+      → ((room : ℕ) (schema : Schema) → length x ≡ 6 * room → (outer : Bool) (q : Expression) (l r : Node) → NodeHere x lo (t - tail) (join outer (nested-loop (some q)) l r)
+      → normal-forms-fit room schema (some q) ≡ false)
+      → Passes Room.maybe-push-join widths x t lo tail n x
+  refuse {n = n} i g schema text tables given room rest s pre post p fit h =
+      when-split (λ p. Left (Kept schema text tables p) x n pre post (Room.maybe-push-join room schema rest p))
+      (λ outer q l r u. subst (λ (a : Answer Node). Left (Kept schema text tables (join outer (nested-loop (some q)) l r)) x n pre post a)
+      (sym (answered room schema rest outer q l r false (g room schema (s .all) outer q l r u))) (left-refused i))
+      p h
+
+  module _ {m : ℕ} (own : OwnStart x lo (t - tail) m) {z z₁ : List ℕ} {k : ℕ} (az : length z ≡ length x) (lz : length z₁ ≡ length z)
+      (nnf : Maps into-nnf x m (t - tail - 6) z 0 k z₁) where
+    pub nnf-over : {widths : List ℕ} → length z₁ < k → Passes Room.maybe-push-join widths x t lo tail k x
+    nnf-over i =
+        refuse (omega arith)
+        (λ room schema a outer q l r u. ap (λ (c : Bool). c && leb (size (into-cnf q)) room)
+        (form-over room (az ∙ a) (into-nnf q) (nnf q (predicate-here own outer q l r u)) (omega arith)))
+
+    module _ (i : k ≤ length z₁) {w w₁ : List ℕ} {end : ℕ} (aw : length w ≡ length x) (lw : length w₁ ≡ length w) (cnf : Maps distribute z₁ 0 k w 0 end w₁) where
+      pub cnf-over : {widths : List ℕ} → length w₁ < end → Passes Room.maybe-push-join widths x t lo tail end x
+      unfolding into-cnf
+      cnf-over j =
+          refuse (omega arith)
+          (λ room schema a outer q l r u. ap (λ (c : Bool). leb (size (into-nnf q)) room && c)
+          (form-over room (aw ∙ a) (distribute (into-nnf q)) (cnf (into-nnf q) (nnf-here own lz nnf i outer q l r u)) (omega arith))
+          ∙ and-false (leb (size (into-nnf q)) room))
+
+      module _ (j : end ≤ length w₁) {widths y y₁ x′ : List ℕ} {n r : ℕ} (ly : length y ≡ length x) (ly₁ : length y₁ ≡ length y) (lx : length x′ ≡ length x)
+          (g : Splits widths x lo (t - tail) w₁ end y n y₁) (fin : Finishes x y₁ n t lo tail r x′) where
+        wrote : (schema : Schema) → Tables schema widths → {pre post : List ℕ} (p : Node) → Holds x t lo tail pre post p
+            → Wrote y 0 (node-words (Optimizer.maybe-push-join schema p)) n y₁
+        unfolding Optimizer.maybe-push-join into-cnf-vec into-cnf
+        wrote schema given p h =
+            when-split (λ p. Wrote y 0 (node-words (Optimizer.maybe-push-join schema p)) n y₁)
+            (λ outer q l r u. g schema given outer q l r u (distribute (into-nnf q)) (cnf-here own lz nnf i lw cnf j outer q l r u)) p h
+
+        pub pass-split : Passes Room.maybe-push-join widths x t lo tail r x′
+        pass-split schema text tables given room rest s pre post p fit h =
+            subst (λ (a : Answer Node). Left (Kept schema text tables p) x′ r pre post a)
+            (sym (when-split (λ p. Room.maybe-push-join room schema rest p ≡ step room schema rest (Optimizer.maybe-push-join schema p))
+            (λ outer q l r u. answered room schema rest outer q l r true (both-fit own lz nnf i lw cnf j room schema (az ∙ s .all) (aw ∙ s .all) outer q l r u)) p h))
+            (edit-step (kept schema text tables) (Optimizer.maybe-push-join schema) ly ly₁ lx
+            (λ room rest pre post p s fit h. wrote schema given p h) (λ p k. join-rule-keeps schema text tables p (k .0)) fin room rest s pre post p fit h)

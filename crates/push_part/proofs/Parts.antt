@@ -1,0 +1,170 @@
+-- What each function has written, from what its calls have.
+use Prim.Native.Nat.{ℕ, _+_, _≤_, _<_}
+use native.Mathlib.Omega.{arith}
+use mathlib.Core.Bool.{Bool, true, false}
+use mathlib.Core.Option.{Option, none, some}
+use mathlib.Core.Path.{_≡_, refl, sym, ap, _∙_, subst}
+use mathlib.Core.List.{List, [], _∷_, _++_, append-assoc, append-nil}
+use lib.ListN.{length, length-append}
+use Rattle.sql.specs.Expression.{Expression, ands, and-vec}
+use Rattle.sql.specs.Plan.{scan, lookup, nothing, values, filter, other, nested-loop, hash, Node, leaf, over, join}
+use Rattle.sql.specs.Optimizer.{for-left, for-right, push-into, pushed-or-back, push-part}
+use Rattle.cells.specs.Cells.{words, Part}
+use Rattle.cells.specs.Room.{Wrote, Copies}
+use Rattle.cells.proofs.Laws.{part-right, then, wrote-up, full-already}
+use Rattle.words.specs.Words.{cell, expression-words, optional-words, node-words, source-words, own-words, node-cell}
+use Rattle.words.specs.Place.{ExpressionHere, ExpressionAt, NodeHere, NodeAt}
+use Rattle.words.proofs.Nodes.{node-shape, node-in, node-long, source-part}
+use Rattle.words.proofs.Sizes
+use Rattle.nodes.specs.Own.{OwnStart}
+use Rattle.conjuncts.specs.Conjuncts.{Appends, Joins, OptionalHere, OptionalAt}
+use Rattle.conjuncts.proofs.Appending.{words-long, join-full, appends-none, appends-one}
+use Rattle.copied_lookups.specs.declared.Source.{Source}
+use Rattle.copied_lookups.specs.declared.Source.the-variants as Source
+use Rattle.copied_lookups.specs.Copies.{PushesLeft, PushesRight}
+use Rattle.push_into.specs.Push.{is-some, Takes, Pushes}
+use Rattle.push_into.proofs.Taking.{taken, not-taken}
+use Rattle.push_part.specs.Part.{part-for, WritesPart, Closes, PushesPart, ComesBack}
+
+-- ---- the part for a source
+
+pub gathered-at : {s : List ℕ} {end : ℕ} {g : List ℕ} {m : ℕ} (f : Expression → Option Expression)
+    → ((e : Expression) → ExpressionHere s 0 end e → OptionalHere g 0 m (f e)) → ExpressionAt s 0 end → OptionalAt g 0 m
+gathered-at f h t = record { o = f (t .e); here = h (t .e) (t .here) }
+
+module _ {into : Source} (n shift : ℕ) {s : List ℕ} {end : ℕ} {g : List ℕ} {m : ℕ} {d : List ℕ} {at r : ℕ} {d′ : List ℕ} where
+  pub part-left : into ≡ Source.Left → ((e : Expression) → ExpressionHere s 0 end e → OptionalHere g 0 m (and-vec (for-right n (ands e))))
+      → PushesLeft n s 0 end g 0 m d at r d′ → WritesPart into n shift s end d at r d′
+  part-left q h f e u = subst (λ (i : Source). Wrote d at (optional-words (part-for i n shift (ands e))) r d′) (sym q) (f e u (h e u))
+
+  pub part-right-side : into ≡ Source.Right → ((e : Expression) → ExpressionHere s 0 end e → OptionalHere g 0 m (and-vec (for-left n (ands e))))
+      → PushesRight n shift s 0 end g 0 m d at r d′ → WritesPart into n shift s end d at r d′
+  part-right-side q h f e u = subst (λ (i : Source). Wrote d at (optional-words (part-for i n shift (ands e))) r d′) (sym q) (f e u (h e u))
+
+-- ---- where a node's own words start
+
+pub own-in : {s : List ℕ} {lo hi m : ℕ} → NodeAt s lo hi → OwnStart s lo hi m → (lo ≤ m) × ((m ≤ hi) × (hi ≤ length s))
+own-in t own =
+    let e = own (t .p) (t .here) in
+    let l = node-long (t .p) (t .here) in
+    let (i, j) = node-in (t .p) (t .here) in
+    (omega arith, (omega arith, j))
+
+-- ---- a node with a part in its predicate
+
+pushed-is : (e : Expression) (p q : Node) → push-into e p ≡ some q → push-part (some e) p .0 ≡ q
+pushed-is e p q h = ap (λ (o : Option Node). pushed-or-back e p o .0) h
+
+-- It is no shorter than its sources and the part.
+merged-long : (e : Expression) (p : Node) → is-some (push-into e p) ≡ true → length (source-words p) + length (expression-words e) ≤ length (node-words (push-part (some e) p .0))
+merged-long e (leaf (scan t al none)) h = omega (arith, Sizes.words-long (leaf (scan t al (some e))), Sizes.expression-long e)
+merged-long e (leaf (scan t al (some q))) h = omega (arith, Sizes.words-long (push-part (some e) (leaf (scan t al (some q))) .0), Sizes.expression-long e)
+merged-long e (leaf (lookup a t al vs)) h = absurd (let z : _≡_ {A = ℕ} 0 1 = cc in omega arith)
+merged-long e (leaf (nothing ls)) h = absurd (let z : _≡_ {A = ℕ} 0 1 = cc in omega arith)
+merged-long e (leaf (values rs)) h = absurd (let z : _≡_ {A = ℕ} 0 1 = cc in omega arith)
+merged-long e (over (filter q) n) h = omega (arith, Sizes.words-long (push-part (some e) (over (filter q) n) .0), Sizes.words-long n, Sizes.expression-long e)
+merged-long e (over (other o) n) h = absurd (let z : _≡_ {A = ℕ} 0 1 = cc in omega arith)
+merged-long e (join outer (nested-loop none) l r) h =
+    omega (arith, Sizes.words-long (join outer (nested-loop (some e)) l r), length-append (node-words l) (node-words r), Sizes.words-long l, Sizes.words-long r, Sizes.expression-long e)
+merged-long e (join outer (nested-loop (some q)) l r) h =
+    omega (arith, Sizes.words-long (push-part (some e) (join outer (nested-loop (some q)) l r) .0), length-append (node-words l) (node-words r), Sizes.words-long l, Sizes.words-long r, Sizes.expression-long e)
+merged-long e (join outer (hash i j) l r) h = absurd (let z : _≡_ {A = ℕ} 0 1 = cc in omega arith)
+
+-- the words of a node behind its sources
+rest : Node → List ℕ
+rest p = own-words p ++ words (cell (node-cell p)) (length (source-words p ++ own-words p) + 6)
+
+rest-is : (p : Node) → node-words p ≡ source-words p ++ rest p
+unfolding rest
+rest-is p = node-shape p ∙ append-assoc (source-words p) (own-words p) (words (cell (node-cell p)) (length (source-words p ++ own-words p) + 6))
+
+rest-part : {s : List ℕ} {lo hi m : ℕ} (p : Node) → NodeHere s lo hi p → m ≡ lo + length (source-words p) → Part s m hi (rest p)
+rest-part {s} {lo} {hi} p u f = rw f (part-right (source-words p) (rest p) (subst (λ (w : List ℕ). Part s lo hi w) (rest-is p) (u .part)))
+
+closed-long : (o : Option Expression) (p : Node) → ((e : Expression) → is-some (push-into e p) ≡ true)
+    → length (source-words p) + length (optional-words o) ≤ length (node-words (push-part o p .0))
+closed-long none p h = omega (arith, ap length (rest-is p), length-append (source-words p) (rest p))
+closed-long (some e) p h = merged-long e p (h e)
+
+module _ {s : List ℕ} {lo hi : ℕ} {d : List ℕ} {from mid at : ℕ} where
+  pub close-full : length d < at → Closes s lo hi d from mid at at d
+  close-full z p u h o d₀ d₁ l₁ l₂ v w =
+      let f = then l₁ v w in
+      let k = closed-long o p h in
+      let j = length-append (source-words p) (optional-words o) in
+      record { fits = λ i. absurd (let (a, b) = f .fits (omega arith) in omega arith); full = λ i. omega arith }
+
+  module _ (z : at ≤ length d) where
+    pub close-none : at ≡ mid → {m : ℕ} → OwnStart s lo hi m → {r : ℕ} {d′ : List ℕ} → Copies s m hi d at r d′ → Closes s lo hi d from mid at r d′
+    close-none i own {r} {d′} f p u h none d₀ d₁ l₁ l₂ v w =
+        rw (rest-is p) (then l₁ v (then l₂ w (f (rest p) (rest-part p u (own p u)))))
+    close-none i own f p u h (some e) d₀ d₁ l₁ l₂ v w = absurd (omega (arith, wrote-up w (omega arith), words-long e))
+
+    pub close-some : (at ≡ mid → ⊥) → {r : ℕ} {d′ : List ℕ} → Pushes s lo hi d from mid at r d′ → Closes s lo hi d from mid at r d′
+    close-some i f p u h none d₀ d₁ l₁ l₂ v w = absurd (i (omega (arith, wrote-up w (omega arith))))
+    close-some i {r} {d′} f p u h (some e) d₀ d₁ l₁ l₂ v w =
+        let t = taken e p (h e) in
+        subst (λ (q : Node). Wrote d₀ from (node-words q) r d′) (sym (pushed-is e p (t .pushed) (t .is))) (f e p (t .pushed) u (t .is) d₀ d₁ l₁ l₂ v w)
+
+-- ---- a source with its part of the predicate
+
+refused-is : (o : Option Expression) (p : Node) → ((e : Expression) → is-some (push-into e p) ≡ false) → push-part o p .0 ≡ p
+refused-is none p h = refl
+refused-is (some e) p h = ap (λ (q : Option Node). pushed-or-back e p q .0) (not-taken e p (h e))
+
+module _ (into : Source) (n shift : ℕ) {s : List ℕ} {lo hi : ℕ} {cnf : List ℕ} {end : ℕ} {b : Bool} (f : Takes s lo hi b) where
+  pub push-taken : b ≡ true → {m : ℕ} → OwnStart s lo hi m → {d : List ℕ} {at a c r : ℕ} {d₁ d₂ d₃ : List ℕ} → length d₁ ≡ length d → length d₂ ≡ length d₁
+      → Copies s lo m d at a d₁ → WritesPart into n shift cnf end d₁ a c d₂ → Closes s lo hi d₂ at a c r d₃ → PushesPart into n shift s lo hi cnf end d at r d₃
+  push-taken z own {d} {d₁ = d₁} k₁ k₂ g w cl p u e v =
+      cl p u (λ x. sym (f p x u) ∙ z) (part-for into n shift (ands e)) d d₁ k₁ k₂ (g (source-words p) (source-part p u (own p u))) (w e v)
+
+  pub push-refused : b ≡ false → {d : List ℕ} {at r : ℕ} {d′ : List ℕ} → Copies s lo hi d at r d′ → PushesPart into n shift s lo hi cnf end d at r d′
+  push-refused z g p u e v = rw (refused-is (part-for into n shift (ands e)) p (λ x. sym (f p x u) ∙ z)) (g (node-words p) (u .part))
+
+-- ---- what comes back
+
+abbrev optional-list : Option Expression → List Expression
+optional-list none = []
+optional-list (some e) = e ∷ []
+
+back-none : (o : Option Expression) (p : Node) → ((e : Expression) → is-some (push-into e p) ≡ true) → push-part o p .1 ≡ []
+back-none none p h = refl
+back-none (some e) p h = ap (λ (q : Option Node). pushed-or-back e p q .1) (taken e p (h e) .is)
+
+pub back-is : (o : Option Expression) (p : Node) → ((e : Expression) → is-some (push-into e p) ≡ false) → push-part o p .1 ≡ optional-list o
+back-is none p h = refl
+back-is (some e) p h = ap (λ (q : Option Node). pushed-or-back e p q .1) (not-taken e p (h e))
+
+module _ (into : Source) (n : ℕ) {s : List ℕ} {lo hi : ℕ} {cnf : List ℕ} {end : ℕ} {b : Bool} (f : Takes s lo hi b) {d : List ℕ} {from at : ℕ} where
+  pub back-taken : b ≡ true → ComesBack into n s lo hi cnf end d from at at d
+  back-taken z p u e v = rw (back-none (part-for into n 0 (ands e)) p (λ x. sym (f p x u) ∙ z)) appends-none
+
+  module _ (z : b ≡ false) where
+    by-part : {r : ℕ} {d′ : List ℕ} → ((e : Expression) → ExpressionHere cnf 0 end e → Appends d from at (optional-list (part-for into n 0 (ands e))) r d′)
+        → ComesBack into n s lo hi cnf end d from at r d′
+    by-part {r} {d′} g p u e v =
+        subst (λ (xs : List Expression). Appends d from at xs r d′) (sym (back-is (part-for into n 0 (ands e)) p (λ x. sym (f p x u) ∙ z))) (g e v)
+
+    pub back-full : length d < at → ComesBack into n s lo hi cnf end d from at at d
+    back-full h = by-part (λ e v. go (part-for into n 0 (ands e)))
+      where
+        go : (o : Option Expression) → Appends d from at (optional-list o) at d
+        go none = appends-none
+        go (some x) = λ d₀ acc l w. join-full h d₀ d acc x l refl w (full-already h)
+
+    module _ (h : at ≤ length d) {m : ℕ} {d₁ : List ℕ} (k : length d₁ ≡ length d) (w : WritesPart into n 0 cnf end d at m d₁) where
+      pub back-nothing : m ≡ at → ComesBack into n s lo hi cnf end d from at at d₁
+      back-nothing i = by-part (λ e v. go (part-for into n 0 (ands e)) (w e v))
+        where
+          go : (o : Option Expression) → Wrote d at (optional-words o) m d₁ → Appends d from at (optional-list o) at d₁
+          go none g = λ d₀ acc l v.
+              subst (λ (j : ℕ). Wrote d₀ from (optional-words acc) j d₁) i
+              (subst (λ (x : List ℕ). Wrote d₀ from x m d₁) (append-nil (optional-words acc)) (then l v g))
+          go (some x) g = absurd (omega (arith, wrote-up g (omega arith), words-long x))
+
+      pub back-one : (m ≡ at → ⊥) → {r : ℕ} {d₂ : List ℕ} → Joins d₁ from at m r d₂ → ComesBack into n s lo hi cnf end d from at r d₂
+      back-one i {r} {d₂} j = by-part (λ e v. go (part-for into n 0 (ands e)) (w e v))
+        where
+          go : (o : Option Expression) → Wrote d at (optional-words o) m d₁ → Appends d from at (optional-list o) r d₂
+          go none g = absurd (i (let (a, b) = g .fits (omega arith) in omega arith))
+          go (some x) g = appends-one k x g j

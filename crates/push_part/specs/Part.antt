@@ -1,0 +1,44 @@
+-- The part of a join's predicate for one of its sources, in slices of words: Optimizer.push-part.
+use Prim.Native.Nat.{ℕ}
+use mathlib.Core.Bool.{true}
+use mathlib.Core.Path.{_≡_}
+use mathlib.Core.List.{List}
+use mathlib.Core.Option.{Option}
+use lib.ListN.{length}
+use Rattle.sql.specs.Expression.{Expression, ands, and-vec, shift-column-down}
+use Rattle.sql.specs.Plan.{Node}
+use Rattle.sql.specs.Optimizer.{push-left, push-right, map-optional, push-into, push-part}
+use Rattle.cells.specs.Room.{Wrote}
+use Rattle.words.specs.Words.{optional-words, node-words, source-words}
+use Rattle.words.specs.Place.{ExpressionHere, NodeHere}
+use Rattle.conjuncts.specs.Conjuncts.{Appends}
+use Rattle.push_into.specs.Push.{is-some}
+use Rattle.copied_lookups.specs.declared.Source.{Source}
+use Rattle.copied_lookups.specs.declared.Source.the-variants as Source
+
+-- The part of the predicate with these conjuncts that is for a source, if the left source has n columns. The right source's columns are `shift` lower: n, to
+-- push it, or 0.
+abbrev pub part-for : Source → ℕ → ℕ → List Expression → Option Expression
+part-for Source.Left n shift cnf = and-vec (push-left n cnf)
+part-for Source.Right n shift cnf = map-optional (shift-column-down shift) (and-vec (push-right n cnf))
+
+-- ---- contracts; the predicate's normal form stands in `cnf` up to `end`
+
+abbrev pub WritesPart : Source → ℕ → ℕ → List ℕ → ℕ → List ℕ → ℕ → ℕ → List ℕ → Type 0
+WritesPart into n shift cnf end d at r d′ =
+    (e : Expression) → ExpressionHere cnf 0 end e → Wrote d at (optional-words (part-for into n shift (ands e))) r d′
+
+-- What stands behind the sources of the node that is there, from mid up to at, is in its predicate; the node takes any predicate.
+abbrev pub Closes : List ℕ → ℕ → ℕ → List ℕ → ℕ → ℕ → ℕ → ℕ → List ℕ → Type 0
+Closes s lo hi d from mid at r d′ = (p : Node) → NodeHere s lo hi p → ((e : Expression) → is-some (push-into e p) ≡ true) → (o : Option Expression) (d₀ d₁ : List ℕ)
+    → length d₁ ≡ length d₀ → length d ≡ length d₁ → Wrote d₀ from (source-words p) mid d₁ → Wrote d₁ mid (optional-words o) at d → Wrote d₀ from (node-words (push-part o p .0)) r d′
+
+-- The source with its part of the predicate is appended, or has no room.
+abbrev pub PushesPart : Source → ℕ → ℕ → List ℕ → ℕ → ℕ → List ℕ → ℕ → List ℕ → ℕ → ℕ → List ℕ → Type 0
+PushesPart into n shift s lo hi cnf end d at r d′ = (p : Node) → NodeHere s lo hi p → (e : Expression) → ExpressionHere cnf 0 end e
+    → Wrote d at (node-words (push-part (part-for into n shift (ands e)) p .0)) r d′
+
+-- What the source doesn't take is one more conjunct.
+abbrev pub ComesBack : Source → ℕ → List ℕ → ℕ → ℕ → List ℕ → ℕ → List ℕ → ℕ → ℕ → ℕ → List ℕ → Type 0
+ComesBack into n s lo hi cnf end d from at r d′ = (p : Node) → NodeHere s lo hi p → (e : Expression) → ExpressionHere cnf 0 end e
+    → Appends d from at (push-part (part-for into n 0 (ands e)) p .1) r d′

@@ -1,0 +1,4 @@
+pub mod Standing
+pub mod Predicates
+pub mod Items
+pub mod Nodes

@@ -1,0 +1,156 @@
+// optimizer.rs, the first part of short_circuit: what is always true, or changes nothing, is removed from a node. The node stands in y from lo to hi, and
+// what becomes of it stands there from lo to the number that is handed back.
+ghost use mathlib.Core.Bool.{_&&_};
+ghost use mathlib.Core.Path.{_≡_};
+ghost use Rattle.cells.specs.Cells.{tag-at};
+ghost use Rattle.words.specs.Place.{NodeAt};
+ghost use Rattle.nodes.specs.Columns.{ColumnsAt};
+ghost use Rattle.labels.specs.Labels.{ExpressionEnds, ItemEnds};
+ghost use Rattle.remove_useless.specs.RemoveUseless.{AlwaysTrue, OptionalAt, OptionalTrue, ItemPasses, ItemsAt, PassesThrough, Rewrites, Stays, Projects, Removes};
+
+// Whether the expression that ends before hi is the constant true.
+fn is_always(s: &[usize], hi: usize) -> bool
+    requires { ⌜ ExpressionEnds (now s) hi ⌝ }
+    ensures { λ r. ⌜ AlwaysTrue (now (s .entry)) hi r ⌝ }
+{
+    let c = cells::cell_at(s, hi);
+    if c.tag == 2 {
+        return c.a == 1;
+    }
+    false
+}
+
+// The same of a predicate from lo to hi, which may be absent.
+fn optional_is_always(s: &[usize], lo: usize, hi: usize) -> bool
+    requires { ⌜ OptionalAt (now s) lo hi ⌝ }
+    ensures { λ r. ⌜ OptionalTrue (now (s .entry)) lo hi r ⌝ }
+{
+    if lo == hi {
+        return false;
+    }
+    is_always(s, hi)
+}
+
+// A Scan, without a predicate that is always true.
+fn scan_without_true(y: &mut [usize], lo: usize, hi: usize) -> usize
+    requires { ⌜ NodeAt (now y) lo hi ⌝ }
+    requires { ⌜ tag-at (now y) hi ≡ 62 ⌝ }
+    ensures { λ r. ⌜ Rewrites (now (y .entry)) lo hi r (now (y .exit)) ⌝ }
+{
+    if optional_is_always(y, lo, hi - 6) {
+        let c = cells::cell_at(y, hi);
+        let k = cells::Cell {
+            tag: 62,
+            flag: c.flag - 1,
+            a: c.a,
+            b: c.b,
+            c: 0,
+        };
+        return cells::put(y, lo, lo, k);
+    }
+    hi
+}
+
+// A NestedLoopJoin, without a predicate that is always true.
+fn join_without_true(y: &mut [usize], lo: usize, hi: usize) -> usize
+    requires { ⌜ NodeAt (now y) lo hi ⌝ }
+    requires { ⌜ tag-at (now y) hi ≡ 56 ⌝ }
+    ensures { λ r. ⌜ Rewrites (now (y .entry)) lo hi r (now (y .exit)) ⌝ }
+{
+    let m = nodes::own_start(y, lo, hi);
+    if optional_is_always(y, m, hi - 6) {
+        let c = cells::cell_at(y, hi);
+        let k = cells::Cell {
+            tag: 56,
+            flag: c.flag - 1,
+            a: 0,
+            b: 0,
+            c: 0,
+        };
+        return cells::put(y, lo, m, k);
+    }
+    hi
+}
+
+// A Filter, or its source alone if the predicate is always true.
+fn filter_or_source(y: &[usize], lo: usize, hi: usize) -> usize
+    requires { ⌜ NodeAt (now y) lo hi ⌝ }
+    requires { ⌜ tag-at (now y) hi ≡ 51 ⌝ }
+    ensures { λ r. ⌜ Stays (now (y .entry)) lo hi r ⌝ }
+{
+    if is_always(y, hi - 6) {
+        return nodes::own_start(y, lo, hi);
+    }
+    hi
+}
+
+// Whether the Item that ends before hi is column i without a label.
+fn item_passes(s: &[usize], hi: usize, i: usize) -> bool
+    requires { ⌜ ItemEnds (now s) hi ⌝ }
+    ensures { λ r. ⌜ ItemPasses (now (s .entry)) hi i r ⌝ }
+{
+    let c = cells::cell_at(s, hi);
+    if 0 < c.flag {
+        return false;
+    }
+    let e = cells::cell_at(s, hi - 6);
+    if e.tag == 6 {
+        return e.a == i;
+    }
+    false
+}
+
+// Whether the n Items from lo to hi are columns 0, 1, .., without labels. The Items are met from the last to the first.
+fn pass_through(s: &[usize], lo: usize, hi: usize, n: usize) -> bool
+    requires { ⌜ ItemsAt (now s) lo hi n ⌝ }
+    ensures { λ r. ⌜ PassesThrough (now (s .entry)) lo hi n r ⌝ }
+{
+    let mut end = hi;
+    let mut i = n;
+    while 0 < i {
+        i -= 1;
+        if item_passes(s, end, i) {
+            end -= 12;
+            continue;
+        }
+        return false;
+    }
+    true
+}
+
+// A Projection, or its source alone if it passes the source's columns through. These are counted only for one that passes its first columns through.
+fn projection_or_source(y: &[usize], lo: usize, hi: usize, widths: &[usize]) -> usize
+    requires { ⌜ ColumnsAt (now widths) (now y) lo hi ⌝ }
+    requires { ⌜ tag-at (now y) hi ≡ 60 ⌝ }
+    ensures { λ r. ⌜ Projects (now (widths .entry)) (now (y .entry)) lo hi r ⌝ }
+{
+    let m = nodes::own_start(y, lo, hi);
+    let c = cells::cell_at(y, hi);
+    if pass_through(y, m, hi - 6, c.a) {
+        let n = nodes::columns(y, lo, m, widths);
+        if n == c.a {
+            return m;
+        }
+    }
+    hi
+}
+
+pub fn remove_useless(y: &mut [usize], lo: usize, hi: usize, widths: &[usize]) -> usize
+    requires { ⌜ ColumnsAt (now widths) (now y) lo hi ⌝ }
+    ensures { λ r. ⌜ Removes (now (widths .entry)) (now (y .entry)) lo hi r (now (y .exit)) ⌝ }
+{
+    let t = cells::tag_at(y, hi);
+    if t == 62 {
+        return scan_without_true(y, lo, hi);
+    }
+    if t == 56 {
+        return join_without_true(y, lo, hi);
+    }
+    if t == 51 {
+        return filter_or_source(y, lo, hi);
+    }
+    if t == 60 {
+        return projection_or_source(y, lo, hi, widths);
+    }
+    hi
+}

@@ -1,0 +1,177 @@
+-- Laws on short_circuit of one node.
+use Prim.Native.Nat.{ℕ, _+_, _*_, _≤_, _<_}
+use native.Mathlib.Omega.{arith}
+use mathlib.Core.Bool.{Bool, true, false, cond}
+use mathlib.Core.Path.{_≡_, refl, sym, ap, _∙_, subst}
+use mathlib.Core.List.{List, _++_}
+use mathlib.Core.Option.{Option, none}
+use lib.ListN.{length, take, length-map}
+use lib.Seq.{take-take, take-at, length-take-le}
+use Rattle.sql.specs.Schema.{Schema}
+use Rattle.sql.specs.Expression.{Expression}
+use Rattle.sql.specs.Plan.{scan, lookup, nothing, values, limit, offset, order, projection, remap, aggregate, filter, other, nested-loop, hash, Node, leaf, over, join, up-to, columns, column-label, column-labels, optional-size, node-size}
+use Rattle.sql.specs.Optimizer.{verdict, optional-verdict, is-always, remove-true, is-noop, remove-useless, empty-or-node}
+use Rattle.sheet.specs.Content.{nothing-cell}
+use Rattle.sheet_laws.specs.Layout.{length-up-to}
+use Rattle.cells.specs.Cells.{sized, Part}
+use Rattle.cells.specs.Room.{Wrote, Seals, Copies}
+use Rattle.words.specs.Words.{cell, all-words, label-words, node-words}
+use Rattle.words.specs.Place.{NodeHere}
+use Rattle.words.proofs.Nodes.{node-in}
+use Rattle.words.proofs.Sizes.{words-long, all-single, sized-long}
+use Rattle.nodes.specs.Columns.{Tables, Narrow, ColumnsAt, ColumnCount}
+use Rattle.nodes.proofs.Widths.{few-columns}
+use Rattle.labels.specs.Names.{Names, NamesAt}
+use Rattle.column_labels.specs.ColumnLabels.{WritesLabels}
+use Rattle.remove_useless.specs.RemoveUseless.{Removes}
+use Rattle.remove_useless.proofs.Standing.{wrote-part, wrote-here}
+use Rattle.is_empty.specs.IsEmpty.{IsEmpty}
+use Rattle.short_circuit.specs.ShortCircuit.{Fitted, Empties, CircuitsNode}
+
+-- ---- what is written, with room behind it
+
+pub wrote-fitted : {y : List ℕ} {at : ℕ} {w : List ℕ} {tail n : ℕ} {y′ : List ℕ} → at + length w + tail ≤ length y → Wrote y at w n y′ → Fitted y at w tail n y′
+wrote-fitted h a = record { fits = λ i. a .fits (omega arith); full = λ i. absurd (omega arith) }
+
+-- what was written before `at` stays
+wrote-before : {y : List ℕ} {at : ℕ} {w : List ℕ} {n : ℕ} {y′ : List ℕ} → at + length w ≤ length y → Wrote y at w n y′ → take at y′ ≡ take at y
+wrote-before {y} {at} {w} {n} {y′} h a =
+    let (e, t) = a .fits h in
+    sym (take-take at n y′ (omega arith)) ∙ ap (take at) t ∙ take-at (take at y) w at (length-take-le at y (omega arith))
+
+pub fitted-over : {y y₁ : List ℕ} {at : ℕ} {w : List ℕ} {tail n : ℕ} {y₂ : List ℕ} → length y₁ ≡ length y → take at y₁ ≡ take at y → Fitted y₁ at w tail n y₂
+    → Fitted y at w tail n y₂
+fitted-over {w = w} k e a =
+    record {
+      fits = λ i. let (f, t) = a .fits (omega arith) in (f, t ∙ ap (λ (l : List ℕ). l ++ w) e);
+      full = λ i. let z = a .full (omega arith) in omega arith;
+    }
+
+-- ---- a Nothing in the node's place
+
+labels-count : (schema : Schema) (p : Node) → length (column-labels schema p) ≡ columns schema p
+labels-count schema p = length-map (up-to 0 (columns schema p)) (column-label schema p) ∙ length-up-to 0 (columns schema p)
+
+labels-long : (schema : Schema) (p : Node) → length (all-words label-words (column-labels schema p)) ≡ 6 * columns schema p
+labels-long schema p = all-single label-words (λ l. refl) (column-labels schema p) ∙ ap (λ (n : ℕ). 6 * n) (labels-count schema p)
+
+nothing-long : (schema : Schema) (p : Node) → length (node-words (leaf (nothing (column-labels schema p)))) ≡ 6 * columns schema p + 6
+unfolding node-words
+nothing-long schema p =
+    sized-long (all-words label-words (column-labels schema p)) (cell (nothing-cell (length (column-labels schema p)))) ∙ ap (λ (n : ℕ). n + 6) (labels-long schema p)
+
+module _ {widths y : List ℕ} {lo hi n : ℕ} (c : ColumnCount widths y lo hi n) where
+  pub no-room : {names columns′ : List ℕ} {tail r : ℕ} {y′ : List ℕ} → length y < lo + (6 * n + 6) + tail → length y < r → Empties widths names columns′ y lo hi tail r y′
+  no-room h k schema p g u =
+      let e = c schema p (g .tables) u in
+      let l = nothing-long schema p in
+      record { fits = λ i. absurd (omega arith); full = λ i. k }
+
+  pub count-few : ColumnsAt widths y lo hi → n ≤ 4294967296
+  count-few t = omega (arith, few-columns t, c (t .schema) (t .p) (t .tables) (t .here))
+
+  module _ {names columns′ z : List ℕ} {end : ℕ} {z₁ : List ℕ} (k₁ : length z₁ ≡ length z) (f : WritesLabels widths names columns′ y lo hi z 0 end z₁) (h : 6 * n ≤ length z) where
+    labels-part : (schema : Schema) (p : Node) → Names schema widths names columns′ → NodeHere y lo hi p → Part z₁ 0 end (all-words label-words (column-labels schema p))
+    labels-part schema p g u = wrote-part k₁ (omega (arith, c schema p (g .tables) u, labels-long schema p)) (f schema p g u)
+
+    pub labels-end : NamesAt widths names columns′ → ColumnsAt widths y lo hi → end ≤ length z₁
+    labels-end g t =
+        let p = labels-part (g .schema) (t .p) (g .given) (t .here) in
+        omega (arith, k₁, h, p .high, labels-long (g .schema) (t .p), c (g .schema) (t .p) (g .given .tables) (t .here))
+
+    pub emptied : {tail : ℕ} → lo + (6 * n + 6) + tail ≤ length y → {at r : ℕ} {y₁ y₂ : List ℕ} → length y₁ ≡ length y → Copies z₁ 0 end y lo at y₁
+        → Seals y₁ lo at (record { tag = 57; flag = 0; a = n; b = 0; c = 0 }) r y₂ → Empties widths names columns′ y lo hi tail r y₂
+    unfolding cell node-words
+    emptied {tail} i {at} {r} {y₁} {y₂} k₂ a s schema p g u =
+        let w = all-words label-words (column-labels schema p) in
+        let e : n ≡ length (column-labels schema p) = c schema p (g .tables) u ∙ sym (labels-count schema p) in
+        wrote-fitted (omega (arith, nothing-long schema p, c schema p (g .tables) u))
+        (subst (λ (m : ℕ). Wrote y lo (sized w (record { tag = 57; flag = 0; a = m; b = 0; c = 0 })) r y₂) e
+        (s y w k₂ (a w (labels-part schema p g u))))
+
+-- ---- without what is useless
+
+module _ (schema : Schema) where
+  true-size : (q : Option Expression) → optional-size (remove-true q) ≤ optional-size q
+  true-size q = go (is-always (optional-verdict q))
+    where
+      go : (b : Bool) → optional-size (cond b none q) ≤ optional-size q
+      go true = omega arith
+      go false = omega arith
+
+  chosen-size : (b : Bool) (n m : Node) → node-size n ≤ node-size m → node-size (cond b n m) ≤ node-size m
+  chosen-size true n m h = h
+  chosen-size false n m h = omega arith
+
+  useless-size : (p : Node) → node-size (remove-useless schema p) ≤ node-size p
+  useless-size (leaf (scan t al q)) = omega (arith, true-size q)
+  useless-size (leaf (lookup a t al vs)) = omega arith
+  useless-size (leaf (nothing ls)) = omega arith
+  useless-size (leaf (values rs)) = omega arith
+  useless-size (over (filter e) n) = chosen-size (is-always (verdict e)) n (over (filter e) n) (omega arith)
+  useless-size (over (other (limit a)) n) = omega arith
+  useless-size (over (other (offset a)) n) = omega arith
+  useless-size (over (other (order ks)) n) = omega arith
+  useless-size (over (other (projection is)) n) = chosen-size (is-noop schema is n) n (over (other (projection is)) n) (omega arith)
+  useless-size (over (other (remap ts)) n) = omega arith
+  useless-size (over (other (aggregate es gs)) n) = omega arith
+  useless-size (join outer (nested-loop q) l r) = omega (arith, true-size q)
+  useless-size (join outer (hash i j) l r) = omega arith
+
+  chosen-narrow : (b : Bool) (n m : Node) → Narrow n → Narrow m → Narrow (cond b n m)
+  chosen-narrow true n m h k = h
+  chosen-narrow false n m h k = k
+
+  useless-narrow : (p : Node) → Narrow p → Narrow (remove-useless schema p)
+  useless-narrow (leaf (scan t al q)) k = k
+  useless-narrow (leaf (lookup a t al vs)) k = k
+  useless-narrow (leaf (nothing ls)) k = k
+  useless-narrow (leaf (values rs)) k = k
+  useless-narrow (over (filter e) n) k = chosen-narrow (is-always (verdict e)) n (over (filter e) n) (k .1) k
+  useless-narrow (over (other (limit a)) n) k = k
+  useless-narrow (over (other (offset a)) n) k = k
+  useless-narrow (over (other (order ks)) n) k = k
+  useless-narrow (over (other (projection is)) n) k = chosen-narrow (is-noop schema is n) n (over (other (projection is)) n) (k .1) k
+  useless-narrow (over (other (remap ts)) n) k = k
+  useless-narrow (over (other (aggregate es gs)) n) k = k
+  useless-narrow (join outer (nested-loop q) l r) k = k
+  useless-narrow (join outer (hash i j) l r) k = k
+
+module _ {widths y : List ℕ} {lo hi end : ℕ} {y₁ : List ℕ} (k₁ : length y₁ ≡ length y) (f : Removes widths y lo hi end y₁) where
+  removed-fits : (schema : Schema) (p : Node) → NodeHere y lo hi p → lo + length (node-words (remove-useless schema p)) ≤ hi
+  removed-fits schema p u = omega (arith, useless-size schema p, words-long (remove-useless schema p), words-long p, u .part .high)
+
+  removed-here : (schema : Schema) (p : Node) → Tables schema widths → NodeHere y lo hi p → NodeHere y₁ lo end (remove-useless schema p)
+  removed-here schema p g u =
+      let (a, b) = node-in p u in
+      wrote-here (remove-useless schema p) k₁ (omega (arith, removed-fits schema p u)) (f schema p g u)
+
+  pub removed-in : ColumnsAt widths y lo hi → end ≤ hi
+  removed-in t = omega (arith, removed-here (t .schema) (t .p) (t .tables) (t .here) .part .high, removed-fits (t .schema) (t .p) (t .here))
+
+  pub removed-at : ColumnsAt widths y lo hi → ColumnsAt widths y₁ lo end
+  removed-at t =
+      record {
+        schema = t .schema;
+        tables = t .tables;
+        p = remove-useless (t .schema) (t .p);
+        here = removed-here (t .schema) (t .p) (t .tables) (t .here);
+        narrow = useless-narrow (t .schema) (t .p) (t .narrow);
+        short = omega (arith, removed-in t, t .short);
+      }
+
+  before-same : (schema : Schema) (p : Node) → Tables schema widths → NodeHere y lo hi p → take lo y₁ ≡ take lo y
+  before-same schema p g u = wrote-before (omega (arith, removed-fits schema p u, node-in p u .1)) (f schema p g u)
+
+  module _ {names columns′ : List ℕ} {tail : ℕ} (h : hi + tail ≤ length y) {b : Bool} (e : IsEmpty y₁ lo end b) where
+    pub circuit-stays : b ≡ false → CircuitsNode widths names columns′ y lo hi tail end y₁
+    circuit-stays i schema p g u =
+        subst (λ (t : Bool). Fitted y lo (node-words (empty-or-node schema t (remove-useless schema p))) tail end y₁)
+        (sym i ∙ e (remove-useless schema p) (removed-here schema p (g .tables) u))
+        (wrote-fitted (omega (arith, removed-fits schema p u)) (f schema p (g .tables) u))
+
+    pub circuit-empties : b ≡ true → {n : ℕ} {y₂ : List ℕ} → Empties widths names columns′ y₁ lo end tail n y₂ → CircuitsNode widths names columns′ y lo hi tail n y₂
+    circuit-empties i {n} {y₂} a schema p g u =
+        subst (λ (t : Bool). Fitted y lo (node-words (empty-or-node schema t (remove-useless schema p))) tail n y₂)
+        (sym i ∙ e (remove-useless schema p) (removed-here schema p (g .tables) u))
+        (fitted-over k₁ (before-same schema p (g .tables) u) (a schema (remove-useless schema p) g (removed-here schema p (g .tables) u)))

@@ -1,0 +1,43 @@
+-- Contracts of pass 5. The labels that an emptied node keeps name tables and columns, so what is handed out can be written again only if the schema's
+-- names lie inside the text: beside what a streamed pass is lent of the schema (crate stream), this pass is told so.
+use Prim.Native.Nat.{ℕ, _+_, _≤_, _<_}
+use mathlib.Core.Path.{_≡_}
+use mathlib.Core.List.{List, _++_}
+use lib.ListN.{length, take}
+use Rattle.sql.specs.Schema.{Schema}
+use Rattle.sql.specs.Plan.{nothing, Node, leaf, column-labels}
+use Rattle.sql.specs.Optimizer.{short-circuit}
+use Rattle.sql.specs.Room.{ShortCircuit}
+use Rattle.sound.specs.Sound.{Named}
+use Rattle.words.specs.Words.{node-words}
+use Rattle.words.specs.Place.{NodeHere}
+use Rattle.labels.specs.Names.{Names}
+use Rattle.kept.specs.Kept.{Kept}
+use Rattle.stream.specs.Stream.{Reading, StreamAt, Streamed}
+
+-- w is appended to the first `at` words of y, which makes n words, and tail words have room behind it; or there is no room, and n is past the end.
+pub record Fitted (y : List ℕ) (at : ℕ) (w : List ℕ) (tail n : ℕ) (y′ : List ℕ) : Type 0 where
+  pub fits : at + length w + tail ≤ length y → (n ≡ at + length w) × (take n y′ ≡ take at y ++ w)
+  pub full : length y < at + length w + tail → length y < n
+
+-- The node from lo up to hi becomes a Nothing with its labels.
+abbrev pub Empties : (widths names columns y : List ℕ) (lo hi tail n : ℕ) → List ℕ → Type 0
+Empties widths names columns y lo hi tail n y′ =
+    (schema : Schema) (p : Node) → Names schema widths names columns → NodeHere y lo hi p
+    → Fitted y lo (node-words (leaf (nothing (column-labels schema p)))) tail n y′
+
+-- short_circuit takes the node's place.
+abbrev pub CircuitsNode : (widths names columns y : List ℕ) (lo hi tail n : ℕ) → List ℕ → Type 0
+CircuitsNode widths names columns y lo hi tail n y′ =
+    (schema : Schema) (p : Node) → Names schema widths names columns → NodeHere y lo hi p → Fitted y lo (node-words (short-circuit schema p)) tail n y′
+
+-- What the pass asks for.
+pub record CircuitAt (widths names columns x : List ℕ) (lo hi tail : ℕ) (y : List ℕ) (at : ℕ) : Type 0 where
+  pub stream : StreamAt (λ schema. Names schema widths names columns) x lo hi tail y at
+  pub named : Named (stream .schema) (length (stream .text))
+
+-- y′ with n words is y with `at` words after the pass.
+abbrev pub Circuits : (widths names columns x : List ℕ) (lo hi tail : ℕ) (y : List ℕ) (at n : ℕ) → List ℕ → Type 0
+Circuits widths names columns x lo hi tail y at n y′ =
+    (schema : Schema) (text : List ℕ) (tables : ℕ) → Names schema widths names columns → Named schema (length text) → (room rest : ℕ) (p : Node)
+    → Reading schema text tables x lo hi tail y at room rest p → Streamed (Kept schema text tables p) y at tail n y′ (ShortCircuit room schema rest p)

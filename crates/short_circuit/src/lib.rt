@@ -1,0 +1,118 @@
+// optimizer.rs, pass 5: ShortCircuit. The plan is read in x, and what becomes of it is written to y, sources before the node (crate stream). z is a
+// scratch for labels. widths, names and columns are what is lent of the schema (crate labels).
+ghost use mathlib.Core.Path.{_≡_};
+ghost use Prim.Native.Nat.{_+_, _≤_};
+ghost use lib.ListN.{length};
+ghost use Rattle.nodes.specs.Columns.{ColumnsAt};
+ghost use Rattle.labels.specs.Names.{NamesAt};
+ghost use Rattle.short_circuit.specs.ShortCircuit.{Empties, CircuitsNode, CircuitAt, Circuits};
+
+// The node from lo to hi, which can't produce anything, becomes a Nothing that keeps its labels. Room for these is asked for before they are written.
+fn into_nothing(
+    y: &mut [usize],
+    lo: usize,
+    hi: usize,
+    tail: usize,
+    z: &mut [usize],
+    widths: &[usize],
+    names: &[usize],
+    columns: &[usize],
+) -> usize
+    requires { ⌜ ColumnsAt (now widths) (now y) lo hi ⌝ }
+    requires { ⌜ NamesAt (now widths) (now names) (now columns) ⌝ }
+    requires { ⌜ (length (now z) ≡ length (now y)) × ((hi + tail ≤ length (now y)) × (length (now y) ≤ 16777216)) ⌝ }
+    ensures { λ r. ⌜ Empties (now (widths .entry)) (now (names .entry)) (now (columns .entry)) (now (y .entry)) lo hi tail r (now (y .exit)) ⌝ }
+{
+    let n = nodes::columns(y, lo, hi, widths);
+    if y.len() - tail - lo < 6 * n + 6 {
+        return cells::FULL;
+    }
+    let end = column_labels::write_labels(y, lo, hi, z, 0, widths, names, columns);
+    let at = cells::copy(z, 0, end, y, lo);
+    let k = cells::Cell {
+        tag: 57,
+        flag: 0,
+        a: n,
+        b: 0,
+        c: 0,
+    };
+    cells::put(y, lo, at, k)
+}
+
+// short_circuit of the node that stands in y from lo to hi, with room for tail words behind it.
+fn short_circuit_node(
+    y: &mut [usize],
+    lo: usize,
+    hi: usize,
+    tail: usize,
+    z: &mut [usize],
+    widths: &[usize],
+    names: &[usize],
+    columns: &[usize],
+) -> usize
+    requires { ⌜ ColumnsAt (now widths) (now y) lo hi ⌝ }
+    requires { ⌜ NamesAt (now widths) (now names) (now columns) ⌝ }
+    requires { ⌜ (length (now z) ≡ length (now y)) × ((hi + tail ≤ length (now y)) × (length (now y) ≤ 16777216)) ⌝ }
+    ensures { λ r. ⌜ CircuitsNode (now (widths .entry)) (now (names .entry)) (now (columns .entry)) (now (y .entry)) lo hi tail r (now (y .exit)) ⌝ }
+{
+    let end = remove_useless::remove_useless(y, lo, hi, widths);
+    if is_empty::is_empty(y, lo, end) {
+        return into_nothing(y, lo, end, tail, z, widths, names, columns);
+    }
+    end
+}
+
+// The pass on the node from lo to hi of x, with tail words of the plan left to read behind it, and `at` words written to y before it.
+pub fn short_circuit(
+    x: &[usize],
+    lo: usize,
+    hi: usize,
+    tail: usize,
+    y: &mut [usize],
+    at: usize,
+    z: &mut [usize],
+    widths: &[usize],
+    names: &[usize],
+    columns: &[usize],
+) -> usize
+    requires { ⌜ CircuitAt (now widths) (now names) (now columns) (now x) lo hi tail (now y) at ⌝ }
+    requires { ⌜ length (now z) ≡ length (now y) ⌝ }
+    ensures { λ r. ⌜ Circuits (now (widths .entry)) (now (names .entry)) (now (columns .entry)) (now (x .entry)) lo hi tail (now (y .entry)) at r (now (y .exit)) ⌝ }
+{
+    let n = nodes::source_count(x, lo, hi);
+    if n == 0 {
+        let end = cells::copy(x, lo, hi, y, at);
+        return short_circuit_node(y, at, end, tail, z, widths, names, columns);
+    }
+    let m = nodes::own_start(x, lo, hi);
+    if n == 1 {
+        let u = short_circuit(x, lo, m, tail + (hi - m), y, at, z, widths, names, columns);
+        if y.len() < u {
+            return u;
+        }
+        let end = stream::finish(x, m, hi, y, at, u);
+        return short_circuit_node(y, at, end, tail, z, widths, names, columns);
+    }
+    let mid = cells::start(x, m);
+    let u = short_circuit(
+        x,
+        lo,
+        mid,
+        tail + (hi - mid),
+        y,
+        at,
+        z,
+        widths,
+        names,
+        columns,
+    );
+    if y.len() < u {
+        return u;
+    }
+    let v = short_circuit(x, mid, m, tail + (hi - m), y, u, z, widths, names, columns);
+    if y.len() < v {
+        return v;
+    }
+    let end = stream::finish(x, m, hi, y, at, v);
+    short_circuit_node(y, at, end, tail, z, widths, names, columns)
+}

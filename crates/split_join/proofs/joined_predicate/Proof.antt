@@ -1,0 +1,33 @@
+use Rattle.split_join.proofs.Splitting.{joined}
+use mathlib.Core.Path.{_∙_}
+use Rattle.split_join.proofs.joined_predicate.Statement.{statement}
+use Rattle.split_join.proofs.joined_predicate.Tie as tie
+
+for-both-requires : tie.Need-for-both-requires
+for-both-requires c κs = c .before .before .before .before .before .pre .1 .1 .0
+
+come-back-requires : tie.Need-come-back-requires
+come-back-requires c κs = (c .before .before .before .before .before .before .before .before .before .before .pre .0, (c .before .before .before .before .before .before .before .before .before .before .pre .1 .1 .0, c .before .before .before .before .before .before .before .before .before .before .pre .1 .1 .1))
+
+come-back-requires-2 : tie.Need-come-back-requires-2
+come-back-requires-2 c κs = (c .before .before .before .before .before .before .before .before .before .before .before .before .before .before .before .before .before .pre .1 .0, (c .before .before .before .before .before .before .before .before .before .before .before .before .before .before .before .before .before .pre .1 .1 .0, c .before .before .before .before .before .before .come-back .kept .1 .1 .1 .1 .1 .0 ∙ c .before .before .before .before .before .before .before .before .before .before .before .before .before .before .before .before .before .pre .1 .1 .1))
+
+same-length : tie.Need-same-length
+same-length c = c .before .before .before .before .come-back2 .kept .1 .1 .1 .1 .1 .0 ∙ c .before .before .before .before .before .before .before .before .before .before .before .come-back .kept .1 .1 .1 .1 .1 .0
+
+same-length-2 : tie.Need-same-length-2
+same-length-2 c = c .before .before .before .before .come-back2 .kept .1 .1 .1 .1 .1 .1 .0 ∙ (c .before .before .before .before .before .before .before .before .before .before .before .come-back .kept .1 .1 .1 .1 .1 .1 .0 ∙ c .before .before .before .before .before .before .before .before .before .before .before .before .before .before .before .before .for-both .kept .1 .1 .1 .0)
+
+returns : tie.Need-returns
+returns c = joined (c .before .before .before .before .before .before .before .before .before .before .before .before .before .before .before .before .before .before .before .before .before .before .args .n) (c .before .before .before .before .before .before .before .before .before .before .before .before .before .before .before .before .for-both .kept .1 .1 .1 .0) (c .before .before .before .before .before .before .before .before .before .before .before .come-back .kept .1 .1 .1 .1 .1 .1 .0) (c .before .before .before .before .before .before .before .before .before .before .before .before .before .before .before .before .for-both .ensures) (c .before .before .before .before .before .before .before .before .before .before .before .come-back .ensures) (c .before .before .before .before .come-back2 .ensures)
+
+pub joined-predicate-spec : {M : Type 1} → statement M
+joined-predicate-spec =
+    tie.close
+    (tie.spec
+    for-both-requires
+    come-back-requires
+    come-back-requires-2
+    same-length
+    same-length-2
+    returns)
