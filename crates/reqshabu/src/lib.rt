@@ -1,13 +1,32 @@
-// The library's public face: the operations, exported to C. include/reqshabu.h declares them.
+// The library's public face: the operations, exported to C. include/reqshabu.h declares them. Nothing is required of the caller: every byte string, every pass
+// number and every output gets the answer of the definition, and the output then holds what the definition says, byte by byte.
 use checker::Answer;
 ghost use mathlib.Core.Path.{_≡_};
 ghost use Rattle.sheet.specs.Check.{check};
+ghost use Rattle.sheet.specs.Operations.{one-pass, all-five};
 ghost use Rattle.checker.specs.Checker.{numbers};
+ghost use Rattle.hand_out.specs.HandOut.{outcome};
 
-// Checks a sheet: every byte string gets the answer of the definition `check`, and nothing is required of the caller.
+// Checks a sheet.
 #[no_mangle]
 pub extern "C" fn plan_check(sheet: &[u8]) -> Answer
     ensures { λ r. ⌜ numbers r ≡ check (now (sheet .entry)) ⌝ }
 {
     checker::check(sheet)
+}
+
+// One pass of the optimizer, 1 to 5, on a sheet.
+#[no_mangle]
+pub extern "C" fn plan_pass(sheet: &[u8], pass: usize, output: &mut [u8]) -> Answer
+    ensures { λ r. ⌜ outcome r (now (output .exit)) ≡ one-pass (now (sheet .entry)) pass (now (output .entry)) ⌝ }
+{
+    operations::pass(sheet, pass, output)
+}
+
+// All five passes in turn.
+#[no_mangle]
+pub extern "C" fn plan_optimize(sheet: &[u8], output: &mut [u8]) -> Answer
+    ensures { λ r. ⌜ outcome r (now (output .exit)) ≡ all-five (now (sheet .entry)) (now (output .entry)) ⌝ }
+{
+    operations::optimize(sheet, output)
 }

@@ -1,29 +1,66 @@
-//! The example sheets, through the wrapper.
+//! The example sheets, through the wrapper: what each gets from check, from each pass and from all five.
+mod common;
+
+use common::{examples, listing, output};
 use std::fs;
-use std::path::Path;
 
 #[test]
-fn examples() {
-    let folder = Path::new(env!("CARGO_MANIFEST_DIR")).join("../../examples");
-    let mut seen = 0;
-    for entry in fs::read_dir(folder).unwrap() {
-        let path = entry.unwrap().path();
-        if path.extension().is_none_or(|e| e != "sheet") {
-            continue;
-        }
+fn checked() {
+    let sheets = examples();
+    assert!(sheets.len() >= 35, "only {} examples", sheets.len());
+    for path in sheets {
         let line = match reqshabu::check(&fs::read(&path).unwrap()) {
             Ok(a) => format!("accepted cells {} columns {}\n", a.cells, a.columns),
             Err(r) => format!("refused {} place {}\n", r.number, r.place),
         };
         assert_eq!(line, fs::read_to_string(path.with_extension("check")).unwrap(), "{}", path.display());
-        seen += 1;
     }
-    assert!(seen >= 20, "only {seen} examples");
+}
+
+#[test]
+fn optimized() {
+    for path in examples() {
+        let mut output = output();
+        let answer = reqshabu::optimize(&fs::read(&path).unwrap(), &mut output);
+        let expected = fs::read_to_string(path.with_extension("list")).unwrap();
+        assert_eq!(listing(answer, &output), expected, "{}", path.display());
+    }
+}
+
+#[test]
+fn each_pass() {
+    for path in examples() {
+        let sheet = fs::read(&path).unwrap();
+        let one = |pass| {
+            let mut output = output();
+            let answer = reqshabu::pass(&sheet, pass, &mut output);
+            format!("pass {pass}\n{}", listing(answer, &output))
+        };
+        let text: String = (1..=5).map(one).collect();
+        assert_eq!(text, fs::read_to_string(path.with_extension("passes")).unwrap(), "{}", path.display());
+    }
+}
+
+#[test]
+fn every_refusal_has_an_example() {
+    // Check gives 2 to 10, the passes 11 to 14; 1 and 15 come from the call.
+    let mut seen = [false; 16];
+    for path in examples() {
+        if let Err(r) = reqshabu::optimize(&fs::read(&path).unwrap(), &mut output()) {
+            seen[r.number as usize] = true;
+        }
+    }
+    assert_eq!(seen, std::array::from_fn(|number| (2..=14).contains(&number)));
 }
 
 #[test]
 fn short_inputs() {
     for n in 0..40 {
-        assert_eq!(reqshabu::check(&vec![0; n]).unwrap_err().number, 2);
+        let sheet = vec![0; n];
+        assert_eq!(reqshabu::check(&sheet).unwrap_err().number, 2);
+        assert_eq!(reqshabu::optimize(&sheet, &mut []).unwrap_err().number, 2);
+        for pass in 1..=5 {
+            assert_eq!(reqshabu::pass(&sheet, pass, &mut []).unwrap_err().number, 2);
+        }
     }
 }

@@ -1,43 +1,70 @@
 //! The boundaries of document 01's "Run only", and the deepest and widest sheets on a thread with a stack of 1 MiB.
-use reqshabu::{check, Accepted, Refusal};
+mod common;
 
-fn cell(tag: u8, flag: u8, a: u32, b: u32, c: u32) -> [u8; 16] {
-    let mut bytes = [0; 16];
-    (bytes[0], bytes[1]) = (tag, flag);
-    for (i, n) in [a, b, c].into_iter().enumerate() {
-        bytes[4 + 4 * i..8 + 4 * i].copy_from_slice(&n.to_le_bytes());
-    }
-    bytes
+use common::{cell, on_ordinary_stack, on_small_stack, output, over_table, sheet, sheet_with, LARGEST};
+use reqshabu::{check, optimize, pass, Accepted, Refusal, Written};
+
+type Cell = [u8; 16];
+
+const NOTHING: Cell = [57, 0, 0, 0, 0, 0, 0, 0, 0, 0, 0, 0, 0, 0, 0, 0];
+
+/// A cell whose fields are all 0.
+fn plain(tag: u8) -> Cell {
+    cell(tag, 0, 0, 0, 0)
 }
 
-fn sheet_with(text: &[u8], tables: &[u8], columns: &[u8], cells: &[[u8; 16]]) -> Vec<u8> {
-    let mut s = [text, tables, columns].concat();
-    let starts = [text.len(), text.len() + tables.len(), s.len()];
-    s.extend(cells.iter().flatten());
-    let total = s.len() + 20;
-    for n in starts.into_iter().chain([1, total]) {
-        s.extend((n as u32).to_le_bytes());
-    }
-    s
+fn column(i: u32) -> Cell {
+    cell(6, 0, i, 0, 0)
 }
 
-fn sheet(cells: &[[u8; 16]]) -> Vec<u8> {
-    sheet_with(&[], &[], &[], cells)
-}
-
-const NOTHING: [u8; 16] = [57, 0, 0, 0, 0, 0, 0, 0, 0, 0, 0, 0, 0, 0, 0, 0];
+const SCAN: Cell = [62, 0, 0, 0, 0, 0, 0, 0, 0, 0, 0, 0, 0, 0, 0, 0];
+const TRUE: Cell = [2, 0, 0, 0, 1, 0, 0, 0, 0, 0, 0, 0, 0, 0, 0, 0];
+const FILTER: Cell = [51, 0, 0, 0, 0, 0, 0, 0, 0, 0, 0, 0, 0, 0, 0, 0];
+const JOIN: Cell = [56, 0, 0, 0, 0, 0, 0, 0, 0, 0, 0, 0, 0, 0, 0, 0];
+const AND: u8 = 10;
+const OR: u8 = 11;
+const EQUAL: u8 = 12;
+const NOT: u8 = 30;
+const LIMIT_0: Cell = [55, 0, 0, 0, 0, 0, 0, 0, 0, 0, 0, 0, 0, 0, 0, 0];
 
 /// n cells: a Nothing under n - 1 Offsets.
-fn offsets(n: usize) -> Vec<[u8; 16]> {
+fn offsets(n: usize) -> Vec<Cell> {
     let mut cells = vec![NOTHING];
     cells.resize(n, cell(58, 0, 1, 0, 0));
     cells
 }
 
+/// The passes by number, and all five as 6.
+fn operate(number: usize, sheet: &[u8], output: &mut [u8]) -> Result<Written, Refusal> {
+    match number {
+        6 => optimize(sheet, output),
+        _ => pass(sheet, number, output),
+    }
+}
+
+/// All operations refuse the sheet as check does.
+fn refused(sheet: &[u8], number: u64, place: u64) {
+    assert_eq!(check(sheet), Err(Refusal { number, place }));
+    for operation in 1..=6 {
+        assert_eq!(operate(operation, sheet, &mut output()), Err(Refusal { number, place }));
+    }
+}
+
+/// What each pass and, last, all five answer: the number of cells, or the refusal's number.
+fn answers(sheet: &[u8]) -> [Result<u64, u64>; 6] {
+    std::array::from_fn(|i| {
+        let answer = operate(i + 1, sheet, &mut output());
+        answer.map(|written| written.cells).map_err(|refusal| refusal.number)
+    })
+}
+
 #[test]
 fn cells() {
-    assert_eq!(check(&sheet(&offsets(2048))), Ok(Accepted { cells: 2048, columns: 0 }));
-    assert_eq!(check(&sheet(&offsets(2049))), Err(Refusal { number: 4, place: 0 }));
+    let full = sheet(&offsets(2048));
+    assert_eq!(check(&full), Ok(Accepted { cells: 2048, columns: 0 }));
+    // Offsets over a Nothing are Nothing.
+    assert_eq!(answers(&full), [Ok(2048), Ok(2048), Ok(2048), Ok(2048), Ok(1), Ok(1)]);
+    refused(&sheet(&offsets(2049)), 4, 0);
 }
 
 #[test]
@@ -47,70 +74,203 @@ fn bytes() {
     let tables: Vec<u8> = (0..16).flat_map(table).collect();
     let columns = vec![0; 256 * 16];
     let text = vec![b'x'; 8192];
-    let full = sheet_with(&text, &tables, &columns, &offsets(2048));
-    assert_eq!(full.len(), 45_332);
-    assert_eq!(check(&full), Ok(Accepted { cells: 2048, columns: 0 }));
-    let over = sheet_with(&[text, vec![b'x']].concat(), &tables, &columns, &offsets(2048));
-    assert_eq!(over.len(), 45_333);
-    assert_eq!(check(&over), Err(Refusal { number: 2, place: 0 }));
+    let mut cells = vec![SCAN];
+    cells.resize(2048, cell(55, 0, 1, 0, 0));
+    let full = sheet_with(&text, &tables, &columns, &cells);
+    assert_eq!(full.len(), LARGEST);
+    assert_eq!(check(&full), Ok(Accepted { cells: 2048, columns: 16 }));
+    // Limits over a Scan stay, so the output is as large.
+    for number in 1..=6 {
+        let mut output = output();
+        let needed = Refusal { number: 15, place: LARGEST as u64 };
+        assert_eq!(operate(number, &full, &mut output[..LARGEST - 1]), Err(needed));
+        let written = Written { length: LARGEST as u64, cells: 2048, columns: 16 };
+        assert_eq!(operate(number, &full, &mut output), Ok(written));
+        assert!(output == full, "{number}");
+    }
+    let over = sheet_with(&[text, vec![b'x']].concat(), &tables, &columns, &cells);
+    assert_eq!(over.len(), LARGEST + 1);
+    refused(&over, 2, 0);
 }
 
 #[test]
 fn columns() {
     // A Filter over Values with n columns, on column n - 1 and on column n.
     for n in [1, 2, 255, 1000] {
-        let mut cells = vec![cell(1, 0, 0, 0, 0); n];
-        cells.extend([cell(45, 0, n as u32, 0, 0), cell(63, 0, 1, 0, 0), cell(6, 0, n as u32 - 1, 0, 0), cell(51, 0, 0, 0, 0)]);
+        let mut cells = vec![plain(1); n];
+        cells.extend([cell(45, 0, n as u32, 0, 0), cell(63, 0, 1, 0, 0), column(n as u32 - 1), FILTER]);
         assert_eq!(check(&sheet(&cells)), Ok(Accepted { cells: n as u64 + 4, columns: n as u64 }));
-        cells[n + 2] = cell(6, 0, n as u32, 0, 0);
-        assert_eq!(check(&sheet(&cells)), Err(Refusal { number: 9, place: n as u64 + 2 }));
+        assert_eq!(answers(&sheet(&cells)), [Ok(n as u64 + 4); 6]);
+        cells[n + 2] = column(n as u32);
+        refused(&sheet(&cells), 9, n as u64 + 2);
     }
 }
 
-/// The widest plan: 1,024 Scans of 256 columns, joined to the left or to the right.
-fn widest(left: bool) -> Vec<u8> {
-    let tables = [0, 0, 256, 0].map(u32::to_le_bytes).concat();
-    let scan = cell(62, 0, 0, 0, 0);
-    let join = cell(56, 0, 0, 0, 0);
-    let mut cells = vec![scan];
+/// `count` Scans, joined to the left or to the right.
+fn joins(count: usize, left: bool) -> Vec<Cell> {
+    let mut cells = vec![SCAN];
     if left {
-        cells.extend((1..1024).flat_map(|_| [scan, join]));
+        cells.extend((1..count).flat_map(|_| [SCAN, JOIN]));
     } else {
-        cells.extend([scan; 1023]);
-        cells.extend([join; 1023]);
+        cells.resize(count, SCAN);
+        cells.resize(2 * count - 1, JOIN);
     }
-    sheet_with(&[], &tables, &[0; 4096], &cells)
+    cells
+}
+
+/// `count` copies of an expression under an operator, nested to the left or to the right.
+fn nested(count: usize, expression: &[Cell], operator: u8, left: bool) -> Vec<Cell> {
+    let mut cells = expression.to_vec();
+    if left {
+        (1..count).for_each(|_| cells.extend([expression, &[plain(operator)]].concat()));
+    } else {
+        (1..count).for_each(|_| cells.extend(expression));
+        cells.extend(vec![plain(operator); count - 1]);
+    }
+    cells
+}
+
+/// `#i = n`, a lookup.
+fn lookup(i: u32, n: u32) -> Vec<Cell> {
+    vec![column(i), cell(3, 0, n, 0, 0), plain(EQUAL)]
+}
+
+/// A source under a Filter with this predicate.
+fn filtered(source: &[Cell], predicate: &[Cell]) -> Vec<Cell> {
+    [source, predicate, &[FILTER]].concat()
+}
+
+/// A Scan with this filter.
+fn scan_with(filter: &[Cell]) -> Vec<Cell> {
+    [filter, &[cell(62, 1, 0, 0, 0)]].concat()
+}
+
+/// A source under `count` times these cells.
+fn under(source: Cell, cells: &[Cell], count: usize) -> Vec<Cell> {
+    std::iter::once(source).chain((0..count).flat_map(|_| cells.iter().copied())).collect()
 }
 
 #[test]
 fn deep_and_wide() {
-    let deep = std::thread::Builder::new().stack_size(1 << 20).spawn(|| {
+    on_small_stack(|| {
+        // The widest plan: 1,024 Scans of 256 columns, joined to the left or to the right.
         for left in [true, false] {
-            assert_eq!(check(&widest(left)), Ok(Accepted { cells: 2047, columns: 262_144 }));
+            assert_eq!(check(&over_table(256, &joins(1024, left))), Ok(Accepted { cells: 2047, columns: 262_144 }));
         }
         // The deepest Filter chain, the deepest Not, the deepest And to the left and to the right, one Row of 2,046 constants.
-        let mut filters = vec![NOTHING];
-        filters.extend((0..1023).flat_map(|_| [cell(2, 0, 1, 0, 0), cell(51, 0, 0, 0, 0)]));
+        let filters = under(NOTHING, &[TRUE, FILTER], 1023);
         assert_eq!(check(&sheet(&filters)), Ok(Accepted { cells: 2047, columns: 0 }));
-        let mut nots = vec![NOTHING, cell(2, 0, 1, 0, 0)];
-        nots.extend([cell(30, 0, 0, 0, 0); 2045]);
-        nots.push(cell(51, 0, 0, 0, 0));
+        let nots = filtered(&[NOTHING], &under(TRUE, &[plain(NOT)], 2045));
         assert_eq!(check(&sheet(&nots)), Ok(Accepted { cells: 2048, columns: 0 }));
-        let mut left = vec![NOTHING, cell(2, 0, 1, 0, 0)];
-        left.extend((0..1022).flat_map(|_| [cell(2, 0, 1, 0, 0), cell(10, 0, 0, 0, 0)]));
-        left.push(cell(51, 0, 0, 0, 0));
-        assert_eq!(check(&sheet(&left)), Ok(Accepted { cells: 2047, columns: 0 }));
-        let mut right = vec![NOTHING];
-        right.extend([cell(2, 0, 1, 0, 0); 1023]);
-        right.extend([cell(10, 0, 0, 0, 0); 1022]);
-        right.push(cell(51, 0, 0, 0, 0));
-        assert_eq!(check(&sheet(&right)), Ok(Accepted { cells: 2047, columns: 0 }));
-        let mut row = vec![cell(1, 0, 0, 0, 0); 2046];
+        for left in [true, false] {
+            let ands = filtered(&[NOTHING], &nested(1023, &[TRUE], AND, left));
+            assert_eq!(check(&sheet(&ands)), Ok(Accepted { cells: 2047, columns: 0 }));
+        }
+        let mut row = vec![plain(1); 2046];
         row.extend([cell(45, 0, 2046, 0, 0), cell(63, 0, 1, 0, 0)]);
         assert_eq!(check(&sheet(&row)), Ok(Accepted { cells: 2048, columns: 2046 }));
         // A Row that asks for more children than there are cells in the world.
         row[2046] = cell(45, 0, u32::MAX, 0, 0);
         assert_eq!(check(&sheet(&row)), Err(Refusal { number: 8, place: 2046 }));
     });
-    deep.unwrap().join().unwrap();
+}
+
+/// The same answer from the passes but for those named; 6 is all five.
+fn but(all: u64, others: &[(usize, Result<u64, u64>)]) -> [Result<u64, u64>; 6] {
+    let mut answers = [Ok(all); 6];
+    others.iter().for_each(|(number, answer)| answers[number - 1] = *answer);
+    answers
+}
+
+/// The deepest plans of the optimizer: what is expected is counted from document 01. They take up to 1.5 MiB (docs/ROADMAP.md).
+#[test]
+fn deep_optimizer() {
+    on_ordinary_stack(|| {
+        deep_filters();
+        deep_expressions();
+        deep_joins();
+        deep_sources();
+    });
+}
+
+fn deep_filters() {
+    // 1,023 Filters of true over a Nothing: merged into one, each Filter but one becomes an And; pass 5 empties either.
+    assert_eq!(answers(&sheet(&under(NOTHING, &[TRUE, FILTER], 1023))), but(2047, &[(5, Ok(1)), (6, Ok(1))]));
+    // 511 Filters of a lookup over a Scan: all five give a Filter with 510 of them over a KeyLookup with one constant.
+    let filters = under(SCAN, &[&lookup(0, 1)[..], &[FILTER]].concat(), 511);
+    assert_eq!(answers(&over_table(1, &filters)), but(2045, &[(2, Ok(2044)), (6, Ok(510 * 3 + 509 + 3))]));
+    // 1,022 Filters over a join: each merge splits it again, and all conjuncts go to the left Scan.
+    let mut filters = vec![SCAN, SCAN, JOIN];
+    (0..1022).for_each(|_| filters.extend([column(0), FILTER]));
+    assert_eq!(answers(&over_table(1, &filters)), but(2047, &[(2, Ok(3 + 1022 + 1021)), (6, Ok(3 + 1022 + 1021))]));
+}
+
+fn deep_expressions() {
+    // 2,045 Nots of true are false.
+    let mut row = under(TRUE, &[plain(NOT)], 2045);
+    row.extend([cell(45, 0, 1, 0, 0), cell(63, 0, 1, 0, 0)]);
+    assert_eq!(answers(&sheet(&row)), but(2048, &[(1, Ok(3)), (6, Ok(3))]));
+    // 2,045 Nots of a column go into the Scan as they are: only a lookup is taken out of the normal form.
+    let nots = under(column(0), &[plain(NOT)], 2045);
+    assert_eq!(answers(&over_table(1, &filtered(&[SCAN], &nots))), but(2048, &[(2, Ok(2047)), (6, Ok(2047))]));
+    assert_eq!(answers(&over_table(1, &scan_with(&nots))), but(2047, &[]));
+    for left in [true, false] {
+        let columns = |operator| over_table(1, &filtered(&[SCAN], &nested(1023, &[column(0)], operator, left)));
+        for operator in [AND, OR, EQUAL] {
+            assert_eq!(answers(&columns(operator)), but(2047, &[(2, Ok(2046)), (6, Ok(2046))]));
+        }
+        // 511 lookups, Ored: a KeyLookup of 511 constants. Anded: the first is taken, the others stay.
+        let lookups = |operator| over_table(1, &scan_with(&nested(511, &lookup(0, 7), operator, left)));
+        assert_eq!(answers(&lookups(OR)), but(2044, &[(3, Ok(512)), (6, Ok(512))]));
+        let rest = Ok(510 * 3 + 509 + 3);
+        assert_eq!(answers(&lookups(AND)), but(2044, &[(3, rest), (6, rest)]));
+        // A Not over n Ands: its normal form has a Not for each of the n + 1 columns, 3 n + 2 cells.
+        let not = |n: usize| over_table(1, &scan_with(&[nested(n + 1, &[column(0)], AND, left), vec![plain(NOT)]].concat()));
+        assert_eq!(answers(&not(682)), but(2 * 682 + 3, &[]));
+        assert_eq!(answers(&not(683)), but(2 * 683 + 3, &[(3, Err(14)), (6, Err(14))]));
+    }
+}
+
+fn deep_joins() {
+    for left in [true, false] {
+        // 1,024 Scans stay. Under a Limit 0 they are Nothing with a Label for each column, if there is room.
+        assert_eq!(answers(&over_table(1, &joins(1024, left))), but(2047, &[]));
+        let empty = [joins(1024, left), vec![LIMIT_0]].concat();
+        assert_eq!(answers(&over_table(1, &empty)), but(2048, &[(5, Ok(1025)), (6, Ok(1025))]));
+        assert_eq!(answers(&over_table(2, &empty)), but(2048, &[(5, Err(14)), (6, Err(14))]));
+        assert_eq!(answers(&over_table(256, &empty)), but(2048, &[(5, Err(14)), (6, Err(14))]));
+        // A lookup goes down 999 joins to the Scan at the end, and makes it a KeyLookup.
+        let far = filtered(&joins(1000, left), &lookup(if left { 0 } else { 999 }, 1));
+        assert_eq!(answers(&over_table(1, &far)), but(2003, &[(2, Ok(2002)), (6, Ok(2000))]));
+    }
+    // n joins on an equality with the right side's first column are n HashJoins.
+    let equalities = |n: usize| {
+        let mut cells = vec![SCAN; n + 1];
+        (0..n).for_each(|_| cells.extend([column(0), column(1), plain(EQUAL), cell(56, 1, 0, 0, 0)]));
+        cells
+    };
+    let joined = over_table(1, &equalities(408));
+    assert_eq!(answers(&joined), but(2041, &[(4, Ok(817)), (6, Ok(817))]));
+    // A lookup above them is copied to every Scan: four cells for each Scan and each join, while there is room.
+    let copied = |n: usize| over_table(1, &filtered(&equalities(n), &lookup(0, 7)));
+    assert_eq!(answers(&copied(255)), but(1280, &[(2, Ok(2044)), (4, Ok(515)), (6, Ok(767))]));
+    assert_eq!(answers(&copied(256)), but(1285, &[(2, Err(14)), (4, Ok(517)), (6, Err(14))]));
+}
+
+fn deep_sources() {
+    // Projections that hand on their source's one column are dropped.
+    let item = [column(0), plain(41), cell(60, 0, 1, 0, 0)];
+    assert_eq!(answers(&over_table(1, &under(SCAN, &item, 682))), but(2047, &[(5, Ok(1)), (6, Ok(1))]));
+    // Orders over no rows are Nothing.
+    let key = [TRUE, plain(42), cell(59, 0, 1, 0, 0)];
+    assert_eq!(answers(&sheet(&under(plain(63), &key, 682))), but(2047, &[(5, Ok(1)), (6, Ok(1))]));
+    // Remaps and Aggregates stay; the label of their one column is found through all of them.
+    let remap = [cell(43, 1, 0, 0, 0), cell(61, 0, 1, 0, 0)];
+    let aggregate = [column(0), cell(50, 0, 1, 0, 0)];
+    for node in [remap, aggregate] {
+        let mut cells = under(SCAN, &node, 1023);
+        assert_eq!(answers(&over_table(1, &cells)), but(2047, &[]));
+        cells.push(LIMIT_0);
+        assert_eq!(answers(&over_table(1, &cells)), but(2048, &[(5, Ok(2)), (6, Ok(2))]));
+    }
 }

@@ -1,0 +1,167 @@
+// optimizer.rs, OPTIMIZERS: one pass by its number, and the five in turn, on plans in their working form (crate passes).
+use fold_operator::Folded;
+ghost use mathlib.Core.Path.{_≡_};
+ghost use Prim.Native.Nat.{_≤_};
+ghost use lib.ListN.{length};
+ghost use Rattle.sql.specs.Optimizer.{in-turn};
+ghost use Rattle.sql.specs.Room;
+ghost use Rattle.passes.specs.Passes.{PlanAt, Alike, Runs, For-labels, For-lent, For-all};
+ghost use Rattle.optimizer.specs.Choices.{Choice, chosen};
+ghost use Rattle.optimizer.specs.Settled.{from-pushdown, from-lookup, from-hash};
+
+// One pass by its number, 1 to 5. The plan that it gives is in y.
+pub fn pass(
+    k: usize,
+    text: &[u8],
+    x: &mut [usize],
+    y: &mut [usize],
+    z: &mut [usize],
+    w: &mut [usize],
+    t: usize,
+    widths: &[usize],
+    names: &[usize],
+    columns: &[usize],
+    keys: &[usize],
+    marks: &[bool],
+) -> Folded
+    requires { ⌜ (1 ≤ k) × (k ≤ 5) ⌝ }
+    requires { ⌜ PlanAt (For-all (now text) (now widths) (now names) (now columns) (now keys) (now marks)) (now x) t ⌝ }
+    requires { ⌜ Alike (now x) (now y) (now z) (now w) ⌝ }
+    ensures { λ r. ⌜ Runs (For-all (now (text .entry)) (now (widths .entry)) (now (names .entry)) (now (columns .entry)) (now (keys .entry)) (now (marks .entry))) (λ room schema p. Room.pass room schema k p) (now (x .entry)) t (now (y .exit)) r ⌝ }
+{
+    if k == 1 {
+        return passes::fold(text, x, y, z, t);
+    }
+    if k == 2 {
+        return passes::push_down(x, y, z, w, t, widths);
+    }
+    if k == 3 {
+        return passes::look_up(x, y, z, w, t, widths, keys, marks);
+    }
+    if k == 4 {
+        return passes::hash_join(x, y, t, widths);
+    }
+    passes::short_circuit(x, y, z, t, widths, names, columns)
+}
+
+// The passes from the fourth on. The plan that they give is in x.
+fn from_hash(
+    x: &mut [usize],
+    y: &mut [usize],
+    z: &mut [usize],
+    t: usize,
+    widths: &[usize],
+    names: &[usize],
+    columns: &[usize],
+) -> Folded
+    requires { ⌜ PlanAt (For-labels (now widths) (now names) (now columns)) (now x) t ⌝ }
+    requires { ⌜ (length (now y) ≡ length (now x)) × (length (now z) ≡ length (now x)) ⌝ }
+    ensures { λ r. ⌜ Runs (For-labels (now (widths .entry)) (now (names .entry)) (now (columns .entry))) (λ room schema p. in-turn (from-hash room schema) p) (now (x .entry)) t (now (x .exit)) r ⌝ }
+{
+    match passes::hash_join(x, y, t, widths) {
+        Folded::Done(n) => passes::short_circuit(y, x, z, n, widths, names, columns),
+        Folded::Refused(number, place) => Folded::Refused(number, place),
+    }
+}
+
+// The passes from the third on. The plan that they give is in y.
+fn from_lookup(
+    x: &mut [usize],
+    y: &mut [usize],
+    z: &mut [usize],
+    w: &mut [usize],
+    t: usize,
+    widths: &[usize],
+    names: &[usize],
+    columns: &[usize],
+    keys: &[usize],
+    marks: &[bool],
+) -> Folded
+    requires { ⌜ PlanAt (For-lent (now widths) (now names) (now columns) (now keys) (now marks)) (now x) t ⌝ }
+    requires { ⌜ Alike (now x) (now y) (now z) (now w) ⌝ }
+    ensures { λ r. ⌜ Runs (For-lent (now (widths .entry)) (now (names .entry)) (now (columns .entry)) (now (keys .entry)) (now (marks .entry))) (λ room schema p. in-turn (from-lookup room schema) p) (now (x .entry)) t (now (y .exit)) r ⌝ }
+{
+    match passes::look_up(x, y, z, w, t, widths, keys, marks) {
+        Folded::Done(n) => from_hash(y, x, z, n, widths, names, columns),
+        Folded::Refused(number, place) => Folded::Refused(number, place),
+    }
+}
+
+// The passes from the second on. The plan that they give is in x.
+fn from_pushdown(
+    x: &mut [usize],
+    y: &mut [usize],
+    z: &mut [usize],
+    w: &mut [usize],
+    t: usize,
+    widths: &[usize],
+    names: &[usize],
+    columns: &[usize],
+    keys: &[usize],
+    marks: &[bool],
+) -> Folded
+    requires { ⌜ PlanAt (For-lent (now widths) (now names) (now columns) (now keys) (now marks)) (now x) t ⌝ }
+    requires { ⌜ Alike (now x) (now y) (now z) (now w) ⌝ }
+    ensures { λ r. ⌜ Runs (For-lent (now (widths .entry)) (now (names .entry)) (now (columns .entry)) (now (keys .entry)) (now (marks .entry))) (λ room schema p. in-turn (from-pushdown room schema) p) (now (x .entry)) t (now (x .exit)) r ⌝ }
+{
+    match passes::push_down(x, y, z, w, t, widths) {
+        Folded::Done(n) => from_lookup(y, x, z, w, n, widths, names, columns, keys, marks),
+        Folded::Refused(number, place) => Folded::Refused(number, place),
+    }
+}
+
+// All five in turn. The plan that they give is in y.
+pub fn optimize(
+    text: &[u8],
+    x: &mut [usize],
+    y: &mut [usize],
+    z: &mut [usize],
+    w: &mut [usize],
+    t: usize,
+    widths: &[usize],
+    names: &[usize],
+    columns: &[usize],
+    keys: &[usize],
+    marks: &[bool],
+) -> Folded
+    requires { ⌜ PlanAt (For-all (now text) (now widths) (now names) (now columns) (now keys) (now marks)) (now x) t ⌝ }
+    requires { ⌜ Alike (now x) (now y) (now z) (now w) ⌝ }
+    ensures { λ r. ⌜ Runs (For-all (now (text .entry)) (now (widths .entry)) (now (names .entry)) (now (columns .entry)) (now (keys .entry)) (now (marks .entry))) (λ room schema p. Room.optimize room schema p) (now (x .entry)) t (now (y .exit)) r ⌝ }
+{
+    match passes::fold(text, x, y, z, t) {
+        Folded::Done(n) => from_pushdown(y, x, z, w, n, widths, names, columns, keys, marks),
+        Folded::Refused(number, place) => Folded::Refused(number, place),
+    }
+}
+
+// Which passes: one by its number, or all five.
+pub enum Chosen {
+    One(usize),
+    All,
+}
+
+// The chosen passes. The plan that they give is in y.
+pub fn run(
+    c: Chosen,
+    text: &[u8],
+    x: &mut [usize],
+    y: &mut [usize],
+    z: &mut [usize],
+    w: &mut [usize],
+    t: usize,
+    widths: &[usize],
+    names: &[usize],
+    columns: &[usize],
+    keys: &[usize],
+    marks: &[bool],
+) -> Folded
+    requires { ⌜ Choice c ⌝ }
+    requires { ⌜ PlanAt (For-all (now text) (now widths) (now names) (now columns) (now keys) (now marks)) (now x) t ⌝ }
+    requires { ⌜ Alike (now x) (now y) (now z) (now w) ⌝ }
+    ensures { λ r. ⌜ Runs (For-all (now (text .entry)) (now (widths .entry)) (now (names .entry)) (now (columns .entry)) (now (keys .entry)) (now (marks .entry))) (chosen c) (now (x .entry)) t (now (y .exit)) r ⌝ }
+{
+    match c {
+        Chosen::One(k) => pass(k, text, x, y, z, w, t, widths, names, columns, keys, marks),
+        Chosen::All => optimize(text, x, y, z, w, t, widths, names, columns, keys, marks),
+    }
+}

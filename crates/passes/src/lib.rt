@@ -1,0 +1,96 @@
+// The five optimizers of optimizer.rs on plans in their working form, under one contract: the plan is the first t words of x, and what becomes of it is left in
+// the first words of y, or refused. x, y, z and w have the same length, six words for each cell that there is room for. What the schema says is lent in slices
+// (crate schema).
+use fold_operator::Folded;
+ghost use mathlib.Core.Path.{_≡_};
+ghost use lib.ListN.{length};
+ghost use Rattle.sql.specs.Answer.{done};
+ghost use Rattle.sql.specs.Optimizer as Optimizer;
+ghost use Rattle.sql.specs.Room;
+ghost use Rattle.passes.specs.Passes.{PlanAt, Alike, Runs, Ends, For-folding, For-tables, For-lookups, For-labels};
+
+// What stands in the first n words of d, or refusal 14 where n is past its end.
+fn in_room(d: &[usize], n: usize) -> Folded
+    ensures { λ r. ⌜ Ends (now (d .entry)) n r ⌝ }
+{
+    if d.len() < n {
+        return Folded::Refused(14, 0);
+    }
+    Folded::Done(n)
+}
+
+// Pass 1, from x to y.
+pub fn fold(text: &[u8], x: &[usize], y: &mut [usize], z: &mut [usize], t: usize) -> Folded
+    requires { ⌜ PlanAt (For-folding (now text)) (now x) t ⌝ }
+    requires { ⌜ (length (now y) ≡ length (now x)) × (length (now z) ≡ length (now x)) ⌝ }
+    ensures { λ r. ⌜ Runs (For-folding (now (text .entry))) (λ room schema p. Optimizer.ConstantFolding 0 p) (now (x .entry)) t (now (y .exit)) r ⌝ }
+{
+    constant_folding::constant_folding(text, x, t, y, z)
+}
+
+// Pass 2, in x, and then copied to y.
+pub fn push_down(
+    x: &mut [usize],
+    y: &mut [usize],
+    z: &mut [usize],
+    w: &mut [usize],
+    t: usize,
+    widths: &[usize],
+) -> Folded
+    requires { ⌜ PlanAt (For-tables (now widths)) (now x) t ⌝ }
+    requires { ⌜ Alike (now x) (now y) (now z) (now w) ⌝ }
+    ensures { λ r. ⌜ Runs (For-tables (now (widths .entry))) (λ room schema p. Room.FilterPushdown room schema 0 p) (now (x .entry)) t (now (y .exit)) r ⌝ }
+{
+    let n = filter_pushdown::filter_pushdown(x, y, z, w, t, widths);
+    if x.len() < n {
+        return Folded::Refused(14, 0);
+    }
+    Folded::Done(cells::copy(x, 0, n, y, 0))
+}
+
+// Pass 3, from x to y.
+pub fn look_up(
+    x: &[usize],
+    y: &mut [usize],
+    z: &mut [usize],
+    w: &mut [usize],
+    t: usize,
+    widths: &[usize],
+    keys: &[usize],
+    marks: &[bool],
+) -> Folded
+    requires { ⌜ PlanAt (For-lookups (now widths) (now keys) (now marks)) (now x) t ⌝ }
+    requires { ⌜ Alike (now x) (now y) (now z) (now w) ⌝ }
+    ensures { λ r. ⌜ Runs (For-lookups (now (widths .entry)) (now (keys .entry)) (now (marks .entry))) (λ room schema p. Room.IndexLookup room schema 0 p) (now (x .entry)) t (now (y .exit)) r ⌝ }
+{
+    let n = index_lookup::transform(x, 0, t, 0, y, 0, z, w, widths, keys, marks);
+    in_room(y, n)
+}
+
+// Pass 4, from x to y.
+pub fn hash_join(x: &[usize], y: &mut [usize], t: usize, widths: &[usize]) -> Folded
+    requires { ⌜ PlanAt (For-tables (now widths)) (now x) t ⌝ }
+    requires { ⌜ length (now y) ≡ length (now x) ⌝ }
+    ensures { λ r. ⌜ Runs (For-tables (now (widths .entry))) (λ room schema p. done (Optimizer.HashJoin schema p)) (now (x .entry)) t (now (y .exit)) r ⌝ }
+{
+    let n = hash_join::optimize(x, t, y, widths);
+    in_room(y, n)
+}
+
+// Pass 5, from x to y.
+pub fn short_circuit(
+    x: &[usize],
+    y: &mut [usize],
+    z: &mut [usize],
+    t: usize,
+    widths: &[usize],
+    names: &[usize],
+    columns: &[usize],
+) -> Folded
+    requires { ⌜ PlanAt (For-labels (now widths) (now names) (now columns)) (now x) t ⌝ }
+    requires { ⌜ (length (now y) ≡ length (now x)) × (length (now z) ≡ length (now x)) ⌝ }
+    ensures { λ r. ⌜ Runs (For-labels (now (widths .entry)) (now (names .entry)) (now (columns .entry))) (λ room schema p. Room.ShortCircuit room schema 0 p) (now (x .entry)) t (now (y .exit)) r ⌝ }
+{
+    let n = short_circuit::short_circuit(x, 0, t, 0, y, 0, z, widths, names, columns);
+    in_room(y, n)
+}

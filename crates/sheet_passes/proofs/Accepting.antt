@@ -1,0 +1,122 @@
+-- What holds of the plan of a sheet that is accepted, and what is lent of its schema.
+use Prim.Native.Nat.{ℕ, _+_, _*_, _≤_, _<_}
+use native.Mathlib.Omega.{arith}
+use mathlib.Core.Path.{_≡_, refl, sym, ap, _∙_, subst}
+use mathlib.Core.Bool.{Bool}
+use mathlib.Core.List.{List, _++_, map}
+use lib.ListN.{length, take}
+use Rattle.sql.specs.Schema.{Table}
+use Rattle.sql.specs.Plan.{Node, columns, node-size}
+use Rattle.sql.specs.Answer.{Answer, done}
+use Rattle.sheet.specs.Parts.{table-count, column-count}
+use Rattle.sheet.specs.Check.{text, schema, plan}
+use Rattle.sheet_laws.specs.Accepted.{accepted}
+use Rattle.sheet_laws.specs.Plan.{Bytes, parts-of, text-length, plan-fits, plan-size}
+use Rattle.sheet_laws.specs.Layout.{tables-good}
+use Rattle.sound.specs.Sound.{Named, Sound}
+use Rattle.sound.specs.Checks.{passes-sound}
+use Rattle.layout.specs.Layout.{Whole}
+use Rattle.cells.specs.Room.{Wrote}
+use Rattle.words.specs.Words.{node-words}
+use Rattle.words.proofs.Sizes.{words-long}
+use Rattle.kept.specs.Kept.{Kept}
+use Rattle.labels.specs.Names.{column-names}
+use Rattle.indexes.specs.Indexes.{lookup-marks}
+use Rattle.schema.specs.Schema.{Recorded, Filled}
+use Rattle.schema.proofs.Laws.{recorded}
+use Rattle.schema.proofs.Lent.{names-lent, indexes-lent}
+use Rattle.decode.specs.Decode.{Acceptable, Decodes}
+use Rattle.fold_operator.specs.declared.Folded.{Folded}
+use Rattle.checker.specs.declared.Answer as Code
+use Rattle.hand_out.specs.HandOut.{Fit, AnsweredAt, HandsOut}
+use Rattle.optimizer.specs.Choices.{chosen}
+use Rattle.optimizer.specs.declared.Chosen.{Chosen}
+use Rattle.passes.specs.Passes.{Lent, Plan-in, PlanAt, Alike, Leaves, Runs, For-all}
+use Rattle.sheet_passes.specs.SheetPasses.{RunAt, Lends, RunsOn}
+
+module _ (s : List ℕ) (b : Bytes s) (n : Node) (h : plan s ≡ done n) where
+  fit : Kept (schema s) (text s) (table-count s) n n
+  fit =
+      let a = accepted s n h in
+      (passes-sound (schema s) (text s) (table-count s) n 0 (plan-fits s b n h) (a .scope-is) (a .targets-are), refl)
+
+  names-inside : Named (schema s) (length (text s))
+  names-inside =
+      let a = accepted s n h in
+      subst (Named (schema s)) (sym (text-length s (parts-of a)))
+      (λ t c. let g = tables-good s (parts-of a) (a .records-are) t in (g .named, g .columns-named c))
+
+  text-short : length (text s) < 65536
+  text-short = let p = parts-of (accepted s n h) in omega (arith, text-length s p)
+
+  lent : {widths names columns keys : List ℕ} {marks : List Bool} → Lends s widths names columns keys marks → Lent (schema s) (text s) widths names columns keys marks
+  lent l =
+      record {
+        named = names-lent s (recorded s n h) (l .widths-are) (l .names-are) (l .columns-are);
+        inside = names-inside;
+        indexed = indexes-lent s (recorded s n h) (l .widths-are) (l .keys-are) (l .marks-are);
+      }
+
+  -- decoded, the plan is in x
+  decoded : (x : List ℕ) (t : ℕ) (x′ : List ℕ) (room : ℕ) → Decodes s x t x′ → length x′ ≡ length x → length x ≡ 6 * room → node-size n ≤ room
+      → Plan-in (schema s) (text s) (table-count s) x′ t room n
+  decoded x t x′ room d same all fits =
+      let long = words-long n in
+      let (e, w) = d n h .fits (omega (arith, long, all, fits)) in
+      record { fit = fit; words-are = w; inside = omega (arith, e, long, same, all, fits); all = same ∙ all }
+
+  pub whole-recorded : Recorded s
+  whole-recorded = recorded s n h
+
+  pub few-tables : table-count s ≤ 16
+  few-tables = parts-of (accepted s n h) .tables-few
+
+  pub few-columns : column-count s ≤ 256
+  few-columns = parts-of (accepted s n h) .columns-few
+
+  given : (t : List ℕ) → t ≡ text s → {widths names columns keys : List ℕ} {marks : List Bool} → Lends s widths names columns keys marks
+      → For-all t widths names columns keys marks (schema s) (text s)
+  given t e l = ((sym e, omega (arith, ap length e, text-short)), lent l)
+
+-- What the passes ask for, and what is answered.
+module _ (s : List ℕ) (b : Bytes s) {x y z w : List ℕ} (at : RunAt s x y z w) (t : ℕ) (x′ : List ℕ) (d : Decodes s x t x′) (same : length x′ ≡ length x)
+    (text′ : List ℕ) (e : text′ ≡ text s) {widths names columns keys : List ℕ} {marks : List Bool} (l : Lends s widths names columns keys marks) where
+  pub ready : PlanAt (For-all text′ widths names columns keys marks) x′ t
+  ready =
+      record {
+        schema = schema s;
+        text = text s;
+        tables = table-count s;
+        room = at .room;
+        p = at .node;
+        given = given s b (at .node) (at .is) text′ e l;
+        plan = decoded s b (at .node) (at .is) x t x′ (at .room) d same (at .all) (at .fits);
+        short = omega (arith, at .short, same);
+      }
+
+  pub still-alike : Alike x′ y z w
+  still-alike =
+      let a = at .alike in
+      record { second = omega (arith, a .second, same); third = omega (arith, a .third, same); fourth = omega (arith, a .fourth, same) }
+
+  module _ (c : Chosen) (y′ : List ℕ) (long : length y′ ≡ length y) (r : Folded) (run : Runs (For-all text′ widths names columns keys marks) (chosen c) x′ t y′ r) where
+    left : (node : Node) (room : ℕ) → plan s ≡ done node → node-size node ≤ room → length x ≡ 6 * room
+        → Leaves (Fit s node) y′ (chosen c room (schema s) node) r
+    left node room is fits all =
+        run (schema s) (text s) (table-count s) room node (given s b node is text′ e l) (decoded s b node is x t x′ room d same all fits)
+
+    pub answered : AnsweredAt s y′ r
+    answered =
+        record {
+          node = at .node;
+          is = at .is;
+          answer = chosen c (at .room) (schema s) (at .node);
+          leaves = left (at .node) (at .room) (at .is) (at .fits) (at .all);
+          short = omega (arith, at .short, at .alike .second, long);
+        }
+
+    pub runs-on : (count : ℕ) (out : List ℕ) (a : Code.Answer) (out′ : List ℕ) → HandsOut s y′ r count out a out′ → RunsOn s c count x out a out′
+    runs-on count out a out′ h node room is fits all k = h node (chosen c room (schema s) node) is (left node room is fits all) k
+
+pub acceptable : {s x y z w : List ℕ} → RunAt s x y z w → Acceptable s
+acceptable at = record { node = at .node; is = at .is }

@@ -1,0 +1,43 @@
+-- The chosen passes on a sheet that is accepted, in buffers that are lent.
+use Prim.Native.Nat.{ℕ, _*_, _≤_}
+use mathlib.Core.Path.{_≡_}
+use mathlib.Core.Bool.{Bool}
+use mathlib.Core.List.{List, map}
+use lib.ListN.{length}
+use Rattle.sql.specs.Schema.{Table}
+use Rattle.sql.specs.Plan.{Node, columns, node-size}
+use Rattle.sql.specs.Answer.{done}
+use Rattle.sheet.specs.Check.{schema, plan}
+use Rattle.sheet.specs.Operations.{hand-out}
+use Rattle.checker.specs.declared.Answer as Code
+use Rattle.labels.specs.Names.{column-names}
+use Rattle.indexes.specs.Indexes.{lookup-marks}
+use Rattle.passes.specs.Passes.{Alike}
+use Rattle.optimizer.specs.Choices.{chosen}
+use Rattle.optimizer.specs.declared.Chosen.{Chosen}
+use Rattle.hand_out.specs.HandOut.{outcome}
+
+-- s stands for a plan that fits into x. Each buffer has six words for each cell that there is room for.
+pub record RunAt (s x y z w : List ℕ) : Type 0 where
+  pub node : Node
+  pub is : plan s ≡ done node
+  pub room : ℕ
+  pub all : length x ≡ 6 * room
+  pub fits : node-size node ≤ room
+  pub alike : Alike x y z w
+  pub short : length x ≤ 16777216
+
+-- The slices hold what the schema of s says: its tables' numbers of columns, their names, the names of all columns, the primary keys, and which columns a
+-- lookup can go by.
+pub record Lends (s widths names columns keys : List ℕ) (marks : List Bool) : Type 0 where
+  pub widths-are : widths ≡ map (λ (t : Table). length (t .columns)) (schema s)
+  pub names-are : names ≡ map (λ (t : Table). t .name) (schema s)
+  pub columns-are : columns ≡ column-names (schema s)
+  pub keys-are : keys ≡ map (λ (t : Table). t .primary-key) (schema s)
+  pub marks-are : marks ≡ lookup-marks (schema s)
+
+-- What is answered and put out is that of the definition, with the buffers' room. `count` is the number of columns of the plan handed in.
+abbrev pub RunsOn : (s : List ℕ) → Chosen → (count : ℕ) (x out : List ℕ) → Code.Answer → List ℕ → Type 0
+RunsOn s c count x out a out′ =
+    (node : Node) (room : ℕ) → plan s ≡ done node → node-size node ≤ room → length x ≡ 6 * room → count ≡ columns (schema s) node
+    → outcome a out′ ≡ hand-out s out (chosen c room (schema s) node)

@@ -1,0 +1,93 @@
+//! What the tests share: sheets built from cells, the examples, and the listing.
+#![allow(dead_code)] // Each test uses a part.
+use std::fs;
+use std::path::{Path, PathBuf};
+
+use reqshabu::{Refusal, Written};
+
+/// The bytes of the largest sheet.
+pub const LARGEST: usize = 45_332;
+
+/// What outputs are filled with before a call.
+pub const FILLER: u8 = 0xA5;
+
+pub fn cell(tag: u8, flag: u8, a: u32, b: u32, c: u32) -> [u8; 16] {
+    let mut bytes = [0; 16];
+    (bytes[0], bytes[1]) = (tag, flag);
+    for (i, n) in [a, b, c].into_iter().enumerate() {
+        bytes[4 + 4 * i..8 + 4 * i].copy_from_slice(&n.to_le_bytes());
+    }
+    bytes
+}
+
+pub fn sheet_with(text: &[u8], tables: &[u8], columns: &[u8], cells: &[[u8; 16]]) -> Vec<u8> {
+    let mut s = [text, tables, columns].concat();
+    let starts = [text.len(), text.len() + tables.len(), s.len()];
+    s.extend(cells.iter().flatten());
+    let total = s.len() + 20;
+    for n in starts.into_iter().chain([1, total]) {
+        s.extend((n as u32).to_le_bytes());
+    }
+    s
+}
+
+pub fn sheet(cells: &[[u8; 16]]) -> Vec<u8> {
+    sheet_with(&[], &[], &[], cells)
+}
+
+/// A sheet with one table of this many Boolean columns, none of them with an index, the first its key.
+pub fn over_table(columns: u32, cells: &[[u8; 16]]) -> Vec<u8> {
+    let table = [0, 0, columns, 0].map(u32::to_le_bytes).concat();
+    sheet_with(&[], &table, &vec![0; 16 * columns as usize], cells)
+}
+
+/// An output as long as the largest sheet, filled.
+pub fn output() -> Vec<u8> {
+    vec![FILLER; LARGEST]
+}
+
+/// Whether no byte has changed since it was filled.
+pub fn untouched(bytes: &[u8]) -> bool {
+    bytes.iter().all(|&b| b == FILLER)
+}
+
+/// The example sheets, by their paths.
+pub fn examples() -> Vec<PathBuf> {
+    let folder = Path::new(env!("CARGO_MANIFEST_DIR")).join("../../examples");
+    let paths = fs::read_dir(folder).unwrap().map(|entry| entry.unwrap().path());
+    let mut sheets: Vec<PathBuf> = paths.filter(|path| path.extension().is_some_and(|e| e == "sheet")).collect();
+    sheets.sort();
+    sheets
+}
+
+/// One example sheet.
+pub fn example(name: &str) -> Vec<u8> {
+    fs::read(Path::new(env!("CARGO_MANIFEST_DIR")).join("../../examples").join(name).with_extension("sheet")).unwrap()
+}
+
+/// What the listing program prints: a header and a line for each cell of the sheet written, or the refusal.
+pub fn listing(answer: Result<Written, Refusal>, output: &[u8]) -> String {
+    let written = match answer {
+        Ok(written) => written,
+        Err(r) => return format!("refused {} place {}\n", r.number, r.place),
+    };
+    let bytes = &output[..written.length as usize];
+    let word = |at: usize| u32::from_le_bytes(bytes[at..at + 4].try_into().unwrap());
+    let mut text = format!("cells {} bytes {} columns {}\n", written.cells, written.length, written.columns);
+    let start = word(bytes.len() - 12) as usize;
+    for i in 0..written.cells as usize {
+        let at = start + 16 * i;
+        text += &format!("{i} {} {} {} {} {}\n", bytes[at], bytes[at + 1], word(at + 4), word(at + 8), word(at + 12));
+    }
+    text
+}
+
+/// Work on a thread with a stack of 1 MiB.
+pub fn on_small_stack(work: impl FnOnce() + Send + 'static) {
+    std::thread::Builder::new().stack_size(1 << 20).spawn(work).unwrap().join().unwrap();
+}
+
+/// Work on a thread with a stack of 2 MiB, the size that Rust gives a thread.
+pub fn on_ordinary_stack(work: impl FnOnce() + Send + 'static) {
+    std::thread::Builder::new().stack_size(2 << 20).spawn(work).unwrap().join().unwrap();
+}
