@@ -206,7 +206,7 @@ pub fn value(v: Val, text: &[u8]) -> Value {
 }
 
 /// toyDB's message for a refusal 11 to 13.
-fn message(stop: &Stop, text: &[u8]) -> String {
+pub fn message(stop: &Stop, text: &[u8]) -> String {
     let Stop::Fold { fault, op, values, .. } = stop else { unreachable!("a fold") };
     match fault {
         Fault::Overflow { .. } => return "integer overflow".to_string(),

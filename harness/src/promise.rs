@@ -46,6 +46,18 @@ pub fn case(
     function: u64,
 ) -> Case {
     let Ok(plans) = six(sheet, DOCUMENT_01) else { return Case::Refused };
+    read_six(sheet, &plans, tables, texts, rule, function)
+}
+
+/// Reads these six plans of a sheet over tables.
+pub fn read_six(
+    sheet: &Sheet,
+    plans: &[Node],
+    tables: Vec<Vec<Row>>,
+    texts: &Interner,
+    rule: u64,
+    function: u64,
+) -> Case {
     let world = World {
         text: &sheet.text,
         records: &sheet.tables,

@@ -3,11 +3,24 @@
 //!     subject damaged N SEED    plan_check and the second checker on N damaged sheets: number, place and counts
 //!     subject accepted N SEED   the same on N random accepted sheets
 //!     subject bench             nanoseconds per sheet and per cell, small, middle and full sheets, both in one run
+//!
+//! The operations that hand out sheets (operations.rs, bench.rs):
+//!
+//!     subject operations N SEED        seven answers on each of N accepted sheets, beside the model
+//!     subject operations N SEED rust   the same, and the model beside the compiled Rust
+//!     subject capacities N SEED        outputs of awkward lengths, and passes that there aren't
+//!     subject rubbish N SEED           damaged sheets through all three operations
+//!     subject limits [KIB]             sheets at the limits, on a thread with so much stack (1024)
+//!     subject rows N SEED              the six plans that the library hands out, read over random tables
+//!     subject bench-all                all five passes beside the compiled Rust's `optimize`
+mod bench;
+mod operations;
+
 use std::collections::BTreeMap;
 use std::hint::black_box;
 use std::time::Instant;
 
-use harness::{check, damage, extremes, generate, rng::Rng};
+use harness::{check, damage, extremes, generate, original, rng::Rng};
 
 type Numbers = (u64, u64, u64, u64);
 
@@ -84,6 +97,7 @@ fn bench() {
 }
 
 fn main() {
+    original::silence_panics();
     let words: Vec<String> = std::env::args().skip(1).collect();
     let number = |i: usize| words.get(i).and_then(|w| w.parse().ok()).unwrap_or(1);
     let ok = match words.first().map(String::as_str) {
@@ -97,8 +111,14 @@ fn main() {
             bench();
             true
         }
+        Some("operations") => operations::accepted(number(1), number(2), words.get(3).is_some_and(|w| w == "rust")),
+        Some("capacities") => operations::capacities(number(1), number(2)),
+        Some("rubbish") => operations::damaged(number(1), number(2)),
+        Some("limits") => operations::at_limits(words.get(1).map_or(1024, |_| number(1))),
+        Some("rows") => operations::rows(number(1), number(2)),
+        Some("bench-all") => original::on_deep_stack(bench::bench),
         _ => {
-            eprintln!("subject damaged N SEED | accepted N SEED | bench");
+            eprintln!("subject damaged | accepted | operations | capacities | rubbish | rows N SEED, or bench | bench-all | limits");
             false
         }
     };

@@ -1,0 +1,175 @@
+//! All five passes, bytes to bytes, beside the compiled Rust's `optimize` on the same plans, in one run.
+use std::collections::HashMap;
+use std::hint::black_box;
+use std::rc::Rc;
+use std::time::{Duration, Instant};
+
+use harness::rng::Rng;
+use harness::sheet::{self, Texts};
+use harness::sql::planner::{Node as Theirs, Plan};
+use harness::tree::{self, Column, Expr, Label, Node, Sheet, Table, Val, col, con, tag, two};
+use harness::{extremes, generate, model};
+
+fn scan(table: u32) -> Node {
+    Node::Scan { table, alias: None, filter: None }
+}
+
+fn filter(source: Node, predicate: Rc<Expr>) -> Node {
+    Node::Filter { source: Box::new(source), predicate }
+}
+
+fn join(left: Node, right: Node, predicate: Option<Rc<Expr>>) -> Node {
+    Node::NestedLoopJoin { left: Box::new(left), right: Box::new(right), predicate, outer: false }
+}
+
+fn equal(a: Rc<Expr>, b: Rc<Expr>) -> Rc<Expr> {
+    two(tag::EQUAL, a, b)
+}
+
+fn int(n: i64) -> Rc<Expr> {
+    con(Val::Int(n))
+}
+
+/// Tables of three Integer columns, each with a name, the first the key, the second with an index.
+fn over(root: Node) -> Sheet {
+    let text = b"modemstiersfilesidmactier".to_vec();
+    let name = |from: u32, to: u32| from + ((to - from) << 16);
+    let names = [name(0, 6), name(6, 11), name(11, 16)];
+    let columns = [name(16, 18), name(18, 21), name(21, 25)];
+    let tables = (0..3).map(|t| Table { name: names[t as usize], first: 3 * t, count: 3, key: 0 }).collect();
+    let columns = (0..9).map(|i| Column { name: columns[i % 3], kind: 1, index: i % 3 == 1 }).collect();
+    Sheet { text, tables, columns, root }
+}
+
+/// n joins of three-column tables, left-deep, each on its right source's key.
+fn joins(n: u32, on: bool) -> Node {
+    (0..n).fold(scan(0), |left, i| join(left, scan((i + 1) % 3), on.then(|| equal(col(3 * i + 1), col(3 * i + 3)))))
+}
+
+fn filters(n: usize, source: Node, predicate: impl Fn(usize) -> Rc<Expr>) -> Node {
+    (0..n).fold(source, |node, i| filter(node, predicate(i)))
+}
+
+fn projection(n: usize, source: Node) -> Node {
+    let items = (0..n).map(|i| (two(tag::ADD, col((i % 3) as u32), two(tag::ADD, int(1), int(i as i64))), Label::None)).collect();
+    Node::Projection { source: Box::new(source), items }
+}
+
+fn shapes() -> Vec<(String, Sheet)> {
+    let mut out: Vec<(String, Sheet)> = Vec::new();
+    let mut add = |name: &str, root: Node| out.push((name.into(), over(root)));
+    add("Scan by key", filter(scan(0), equal(col(0), int(7))));
+    add("two tables joined, key given", filter(join(scan(0), scan(1), Some(equal(col(2), col(3)))), equal(col(0), int(7))));
+    add("three tables joined, two filters", filters(2, joins(2, true), |i| equal(col(3 * i as u32), int(7))));
+    for n in [10, 50, 100] {
+        add(&format!("{n} Filters over a join"), filters(n, join(scan(0), scan(1), None), |i| equal(col((i % 6) as u32), int(i as i64))));
+    }
+    for n in [10, 100, 340] {
+        add(&format!("Projection of {n} Items to fold"), projection(n, scan(0)));
+    }
+    for n in [4, 40, 400] {
+        add(&format!("{n} joins"), joins(n, true));
+    }
+    add("filter over 100 joins", filter(joins(100, true), equal(col(0), int(7))));
+    add("1000 Filters of a column over a Scan", filters(1000, scan(0), |_| col(0)));
+    add("1000 Filters of a column over a join", filters(1000, join(scan(0), scan(1), None), |_| col(0)));
+    for n in [10, 100, 400] {
+        add(&format!("{n} joins, emptied"), Node::Limit { source: Box::new(joins(n, false)), limit: 0 });
+        add(&format!("{n} joins, one side nothing"), {
+            let never = Node::Scan { table: 0, alias: None, filter: Some(con(Val::Bool(false))) };
+            (0..n).fold(never, |left, i| join(left, scan((i + 1) % 3), None))
+        });
+    }
+    out
+}
+
+/// The best of several rounds of `work`, in nanoseconds a call. `ready` makes what a call uses up, off the clock.
+fn best<T, R>(mut ready: impl FnMut() -> T, mut work: impl FnMut(T) -> R) -> f64 {
+    let mut round = |calls: usize| -> Duration {
+        let inputs: Vec<T> = (0..calls).map(|_| ready()).collect();
+        let mut outputs = Vec::with_capacity(calls);
+        let start = Instant::now();
+        for input in inputs {
+            outputs.push(black_box(work(black_box(input))));
+        }
+        start.elapsed()
+    };
+    let mut calls = 1;
+    while calls < 4096 && round(calls) < Duration::from_millis(2) {
+        calls *= 2;
+    }
+    (0..7).map(|_| round(calls).as_nanos() as f64 / calls as f64).fold(f64::INFINITY, f64::min)
+}
+
+fn optimized(node: Theirs) -> Option<Theirs> {
+    match Plan::Select(node).optimize() {
+        Ok(Plan::Select(node)) => Some(node),
+        _ => None,
+    }
+}
+
+/// One row of the table; false if the library is slower than the Rust's `optimize` alone.
+fn row(name: &str, bytes: &[u8], rust: bool) -> (f64, Option<f64>) {
+    let mut output = vec![0; 45_332];
+    let ours = best(|| (), |()| reqshabu::optimize(bytes, &mut output));
+    let answer = model::all_five(bytes, 45_332).0;
+    let cells = model::check(bytes).cells;
+    let Some(node) = sheet::decode(bytes, Texts::Bare).filter(|_| rust) else {
+        println!("| {name} | {} | {cells} | {ours:.0} | {:.1} | - | - | - | - |", answer.number, ours / cells.max(1) as f64);
+        return (ours, None);
+    };
+    let alone = best(|| node.clone(), optimized);
+    let numbers: HashMap<String, u32> = HashMap::new();
+    let whole = best(
+        || (),
+        |()| {
+            let node = sheet::decode(bytes, Texts::Bare).expect("text");
+            let cells = optimized(node).and_then(|n| sheet::encode(&n, &|t| Some(numbers.get(t).copied().unwrap_or(0))));
+            cells.map(|cells| sheet::with_cells(bytes, &cells))
+        },
+    );
+    println!(
+        "| {name} | {} | {cells} | {ours:.0} | {:.1} | {alone:.0} | {:.2} | {whole:.0} | {:.2} |",
+        answer.number,
+        ours / cells.max(1) as f64,
+        ours / alone,
+        ours / whole
+    );
+    (ours, Some(alone))
+}
+
+/// `bench-all`: the table, and which sheets are slower than the Rust.
+pub fn bench() -> bool {
+    println!("| plan | answer | cells | all five, ns | ns a cell | Rust's optimize, ns | ratio | with decode and encode, ns | ratio |");
+    println!("|---|---|---|---|---|---|---|---|---|");
+    let mut slower = Vec::new();
+    let mut worst: (f64, String) = (0.0, String::new());
+    let mut see = |name: &str, bytes: &[u8], rust: bool| {
+        let (ours, theirs) = row(name, bytes, rust);
+        if theirs.is_some_and(|t| ours > t) {
+            slower.push(name.to_string());
+        }
+        if ours > worst.0 {
+            worst = (ours, name.to_string());
+        }
+    };
+    for (name, sheet) in shapes() {
+        // Emptying 400 joins takes the Rust long: cubic.
+        see(&name, &tree::encode(&sheet), !name.starts_with("400 joins, "));
+    }
+    for size in [8, 30, 100, 300, 1000, 2000] {
+        let near = (0..4000).map(|i| generate::bytes(&mut Rng::case(7, i))).filter(|s| model::all_five(s, 45_332).0.number == 0);
+        if let Some(sheet) = near.min_by_key(|s| model::check(s).cells.abs_diff(size)) {
+            see(&format!("random, about {size} cells"), &sheet, true);
+        }
+    }
+    for (name, bytes) in extremes::list() {
+        if model::check(&bytes).number == 0 {
+            // How long the Rust takes on sheets at the limits is another table's matter: some take it minutes.
+            see(&name, &bytes, false);
+        }
+    }
+    println!();
+    println!("the slowest: {} ({:.2} ms); slower than the Rust: {slower:?}", worst.1, worst.0 / 1e6);
+    slower.is_empty() && worst.0 < 50e6
+}

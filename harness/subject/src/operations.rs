@@ -1,0 +1,248 @@
+//! The three operations beside the model and the compiled Rust.
+use std::collections::BTreeMap;
+
+use harness::check::Answer;
+use harness::compare::{self, Settled};
+use harness::rng::Rng;
+use harness::rows::{self, Interner};
+use harness::{damage, extremes, generate, model, original, promise, tree};
+
+/// An operation: 0 is check, 1 to 5 are the passes, 6 is all five, and n from 100 on asks for pass n - 100.
+pub type Operation = u32;
+
+/// What is in an output before it is written.
+const BEFORE: u8 = 0xA5;
+
+/// The proved library's answer, and what the output holds then.
+pub fn proved(sheet: &[u8], operation: Operation, capacity: usize) -> (Answer, Vec<u8>) {
+    let mut output = vec![BEFORE; capacity];
+    let answer = |r: Result<reqshabu::Written, reqshabu::Refusal>| match r {
+        Ok(w) => Answer { number: 0, place: 0, length: w.length, cells: w.cells, columns: w.columns },
+        Err(r) => Answer::refusal(r.number, r.place),
+    };
+    let said = match operation {
+        0 => match reqshabu::check(sheet) {
+            Ok(a) => Answer { number: 0, place: 0, length: 0, cells: a.cells, columns: a.columns },
+            Err(r) => Answer::refusal(r.number, r.place),
+        },
+        model::ALL => answer(reqshabu::optimize(sheet, &mut output)),
+        100.. => answer(reqshabu::pass(sheet, operation as usize - 100, &mut output)),
+        k => answer(reqshabu::pass(sheet, k as usize, &mut output)),
+    };
+    (said, output)
+}
+
+/// The model's, likewise.
+pub fn modelled(sheet: &[u8], operation: Operation, capacity: usize) -> (Answer, Vec<u8>) {
+    let (said, written) = match operation {
+        0 => (model::check(sheet), Vec::new()),
+        model::ALL => model::all_five(sheet, capacity),
+        100.. => model::one_pass(sheet, operation - 100, capacity),
+        k => model::one_pass(sheet, k, capacity),
+    };
+    let mut output = vec![BEFORE; capacity];
+    output[..written.len()].copy_from_slice(&written);
+    (said, output)
+}
+
+/// Compares one answer: number, place, counts and every byte of the output, those after the sheet too.
+fn same(sheet: &[u8], operation: Operation, capacity: usize) -> Result<u64, String> {
+    let (ours, theirs) = (proved(sheet, operation, capacity), modelled(sheet, operation, capacity));
+    match ours == theirs {
+        true => Ok(theirs.0.number),
+        false => Err(format!("operation {operation}, capacity {capacity}: {:?}, expected {:?}; output {}", ours.0, theirs.0,
+            if ours.1 == theirs.1 { "the same" } else { "differs" })),
+    }
+}
+
+/// Counts what was met, and prints the first differences.
+#[derive(Default)]
+struct Tally {
+    numbers: BTreeMap<(Operation, u64), u64>,
+    settled: BTreeMap<Settled, u64>,
+    different: u64,
+}
+
+impl Tally {
+    fn add(&mut self, case: &str, operation: Operation, result: Result<u64, String>) {
+        match result {
+            Ok(number) => *self.numbers.entry((operation, number)).or_default() += 1,
+            Err(said) => self.report(case, &said),
+        }
+    }
+
+    fn report(&mut self, case: &str, said: &str) {
+        self.different += 1;
+        if self.different <= 20 {
+            println!("{case}: {said}");
+        }
+    }
+
+    fn merge(&mut self, other: Tally) {
+        other.numbers.into_iter().for_each(|(k, v)| *self.numbers.entry(k).or_default() += v);
+        other.settled.into_iter().for_each(|(k, v)| *self.settled.entry(k).or_default() += v);
+        self.different += other.different;
+    }
+
+    fn print(&self, what: &str) -> bool {
+        println!("{what}: {} answers, {} different", self.numbers.values().sum::<u64>(), self.different);
+        let operations: std::collections::BTreeSet<_> = self.numbers.keys().map(|k| k.0).collect();
+        for operation in operations {
+            let list: Vec<String> =
+                self.numbers.iter().filter(|(k, _)| k.0 == operation).map(|(k, v)| format!("{}: {v}", k.1)).collect();
+            println!("  {} by number {}", name(operation), list.join(", "));
+        }
+        if !self.settled.is_empty() {
+            let list: Vec<String> = self.settled.iter().map(|(k, v)| format!("{k:?} {v}")).collect();
+            println!("  against the compiled Rust: {}", list.join(", "));
+        }
+        self.different == 0
+    }
+}
+
+fn name(operation: Operation) -> String {
+    match operation {
+        0 => "check".into(),
+        model::ALL => "all five".into(),
+        k => format!("pass {k}"),
+    }
+}
+
+/// Cases 0 to n, in two threads of which each has room for the model's recursion.
+fn in_two(n: u64, work: impl Fn(u64, &mut Tally) + Sync) -> Tally {
+    let part = |odd: u64| {
+        let mut tally = Tally::default();
+        (0..n).filter(|i| i % 2 == odd).for_each(|i| work(i, &mut tally));
+        tally
+    };
+    let part = &part;
+    std::thread::scope(|scope| {
+        let run = |odd| {
+            std::thread::Builder::new().stack_size(1 << 30).spawn_scoped(scope, move || part(odd)).expect("a thread")
+        };
+        let (a, b) = (run(0), run(1));
+        let mut tally = a.join().expect("the first half");
+        tally.merge(b.join().expect("the second half"));
+        tally
+    })
+}
+
+/// `accepted`: seven answers on each of n random accepted sheets; with `rust` each pass is set beside the compiled Rust too.
+pub fn accepted(n: u64, seed: u64, rust: bool) -> bool {
+    let tally = in_two(n, |i, tally| {
+        let bytes = generate::bytes(&mut Rng::case(seed, i));
+        let case = format!("sheet {i}");
+        let sheet = tree::decode(&bytes);
+        for operation in 0..=model::ALL {
+            tally.add(&case, operation, same(&bytes, operation, 45_332));
+            if rust && operation > 0 {
+                match compare::compare(&bytes, &sheet, operation) {
+                    Ok((settled, _)) => *tally.settled.entry(settled).or_default() += 1,
+                    Err(said) => tally.report(&case, &said),
+                }
+            }
+        }
+    });
+    tally.print(&format!("{n} accepted sheets"))
+}
+
+/// `capacities`: outputs of every awkward length on n random accepted sheets: none, one short, exact, one more.
+pub fn capacities(n: u64, seed: u64) -> bool {
+    let tally = in_two(n, |i, tally| {
+        let bytes = generate::bytes(&mut Rng::case(seed ^ 0xCA9A, i));
+        for operation in 1..=model::ALL {
+            let needed = modelled(&bytes, operation, 45_332).0.length as usize;
+            for capacity in [0, 1, needed.saturating_sub(1), needed, needed + 1, needed + 100] {
+                tally.add(&format!("sheet {i}"), operation, same(&bytes, operation, capacity));
+            }
+        }
+        for wrong in [100, 106, 107, 1_000, u32::MAX] {
+            tally.add(&format!("sheet {i}"), wrong, same(&bytes, wrong, 100));
+        }
+    });
+    tally.print(&format!("{n} accepted sheets, outputs of awkward lengths"))
+}
+
+/// `damaged`: n damaged sheets through all three operations.
+pub fn damaged(n: u64, seed: u64) -> bool {
+    let tally = in_two(n, |i, tally| {
+        let mut rng = Rng::case(seed, i);
+        let sheet = generate::bytes(&mut rng);
+        let bytes = damage::damage(&mut rng, &sheet);
+        let capacity = [45_332, 64, 0, 1_000][i as usize % 4];
+        for operation in [0, 1 + i as u32 % 5, model::ALL] {
+            tally.add(&format!("sheet {i}"), operation, same(&bytes, operation, capacity));
+        }
+    });
+    tally.print(&format!("{n} damaged sheets"))
+}
+
+/// `limits`: sheets at the limits, the library on a thread with so many KiB of stack.
+pub fn at_limits(kib: u64) -> bool {
+    let mut tally = Tally::default();
+    let list = extremes::list();
+    let expected: Vec<Vec<_>> = original::on_deep_stack(|| {
+        list.iter().map(|(_, bytes)| (0..=model::ALL).map(|operation| modelled(bytes, operation, 45_332)).collect()).collect()
+    });
+    let ours: Vec<Vec<_>> = std::thread::scope(|scope| {
+        let work = || list.iter().map(|(_, bytes)| (0..=model::ALL).map(|operation| proved(bytes, operation, 45_332)).collect()).collect();
+        std::thread::Builder::new().stack_size(kib as usize * 1024).spawn_scoped(scope, work).expect("a thread").join().expect("the library")
+    });
+    for (i, (name, _)) in list.iter().enumerate() {
+        for operation in 0..=model::ALL {
+            let (a, b) = (&ours[i][operation as usize], &expected[i][operation as usize]);
+            let result = if a == b { Ok(b.0.number) } else { Err(format!("operation {operation}: {:?}, expected {:?}", a.0, b.0)) };
+            tally.add(name, operation, result);
+        }
+    }
+    tally.print(&format!("{} sheets at the limits, on {kib} KiB of stack", list.len()))
+}
+
+/// `rows`: the six plans that the library hands out, one pass after the other, read over random tables. Those of all five at once are the sixth.
+pub fn rows(n: u64, seed: u64) -> bool {
+    let (mut kept, mut with_rows, mut refused, mut outside, mut broken) = (0, 0, 0, 0, 0);
+    original::on_deep_stack(|| {
+        for i in 0..n {
+            let mut rng = Rng::case(seed ^ 0x2035, i);
+            let mood = generate::tame(&mut rng);
+            let sheet = generate::sheet(&mut rng, mood);
+            let texts = Interner::default();
+            let tables = rows::random_tables(&mut rng, &sheet, &texts);
+            let (rule, function) = (rng.next(), rng.next());
+            let Some(plans) = six(&tree::encode(&sheet)) else {
+                refused += 1;
+                continue;
+            };
+            match promise::read_six(&sheet, &plans, tables, &texts, rule, function) {
+                promise::Case::Kept { rows, .. } => {
+                    kept += 1;
+                    with_rows += u64::from(rows > 0);
+                }
+                promise::Case::Broken(said) => {
+                    broken += 1;
+                    println!("sheet {i}: {said}");
+                }
+                _ => outside += 1,
+            }
+        }
+    });
+    println!("{n} sheets: {kept} within the premises ({with_rows} of them with rows), {broken} broken; {outside} outside, {refused} with a step refused");
+    broken == 0
+}
+
+/// The plans handed in and after each pass in turn; None if one is refused or all five at once give another sheet.
+fn six(bytes: &[u8]) -> Option<Vec<tree::Node>> {
+    let (mut at, mut plans) = (bytes.to_vec(), vec![tree::decode(bytes).root]);
+    for pass in 1..=5 {
+        let (answer, mut output) = proved(&at, pass, 45_332);
+        if answer.number != 0 {
+            return None;
+        }
+        output.truncate(answer.length as usize);
+        plans.push(tree::decode(&output).root);
+        at = output;
+    }
+    let (answer, output) = proved(bytes, model::ALL, 45_332);
+    assert_eq!((answer.number, &output[..answer.length as usize]), (0, &at[..]), "all five at once");
+    Some(plans)
+}
