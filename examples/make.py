@@ -1,10 +1,12 @@
 #!/usr/bin/env python3
-"""Writes the example sheets: document 01's worked plans P1 to P10, and a sheet for each refusal 2 to 10.
+"""Writes the example sheets: document 01's worked plans P1 to P10, plans of a gateway, and a sheet for each refusal
+that a sheet can cause, 2 to 14 (1 and 15 come from the call: tests/c/optimize.c shows them).
 
     python3 examples/make.py [FOLDER]
 
 Beside each NAME.sheet stands NAME.check, the line that the program sheet_check prints for it. The lines are
-written here from document 01, not taken from the program.
+written here from document 01, not taken from the program. NAME.list, what the program sheet_list prints, is not
+made here: it comes from the harness, whose model is compared with the compiled Rust (README.md beside this file).
 """
 import os
 import sys
@@ -24,6 +26,113 @@ def folding(expression):
 
 
 MAX = 2**63 - 1
+MIN = -(2**63)
+
+# A gateway's tables: each modem has a tier, and a tier its boot file.
+modems = Table(
+    "modems",
+    key=0,
+    columns=[Column("mac", STRING), Column("tier", INTEGER, index=True), Column("signal", FLOAT)],
+)
+tiers = Table("tiers", key=0, columns=[Column("id", INTEGER), Column("name", STRING), Column("file", STRING)])
+
+
+def joined():
+    """modems m JOIN tiers t ON m.tier = t.id: mac 0, tier 1, signal 2, id 3, name 4, file 5."""
+    return NestedLoopJoin(Scan(modems, alias="m"), Scan(tiers, alias="t"), Equal(column(1), column(3)))
+
+
+# SELECT m.mac, t.file AS boot FROM modems m JOIN tiers t ON m.tier = t.id WHERE m.mac = '00:1b:d7:00:00:2a' AND 1 < 2:
+# the modem by its key, then its tier by a hash join.
+boot_file = Projection(
+    Filter(joined(), And(Equal(column(0), string("00:1b:d7:00:00:2a")), LessThan(integer(1), integer(2)))),
+    Item(column(0), ("m", "mac")),
+    Item(column(5), "boot"),
+)
+
+# SELECT m.mac, t.file .. WHERE m.tier = 3 OR m.tier = 4 ORDER BY m.signal DESC LIMIT 10: the tiers are looked up on both
+# sides, left by the index and right, where the condition is copied to, by the key.
+two_tiers = Projection(
+    Limit(
+        Order(
+            Filter(joined(), Or(Equal(column(1), integer(3)), Equal(integer(4), column(1)))),
+            Key(column(2), descending=True),
+        ),
+        10,
+    ),
+    Item(column(0)),
+    Item(column(5)),
+)
+
+# .. WHERE NOT (m.signal < -10.0 OR t.name = 'closed'): a condition for each side, neither of them a lookup.
+open_tiers = Projection(
+    Filter(joined(), Not(Or(LessThan(column(2), float64(-10.0)), Equal(column(4), string("closed"))))),
+    Item(column(0)),
+    Item(column(5)),
+)
+
+# .. WHERE m.mac = NULL, true for no row: Nothing, with the labels.
+no_modem = Projection(Filter(joined(), Equal(column(0), null())), Item(column(0)), Item(column(5), "boot"))
+
+# Every tag that is carried over, once at least.
+every_tag = NestedLoopJoin(
+    Remap(
+        HashJoin(
+            Aggregate(
+                Offset(Limit(IndexLookup(modems, 1, [integer(3), null(), float64(1.5)], alias="m"), 2**32), 1),
+                [column(0), Identity(Negate(column(2)))],
+                [Agg(f, column(1)) for f in range(5)],
+            ),
+            0,
+            Order(
+                Projection(
+                    KeyLookup(tiers, [integer(MIN), float64(float("nan")), boolean(True), string("3")]),
+                    Item(column(0)),
+                    Item(IsNull(column(1)), "unnamed"),
+                    Item(column(2), ("tiers", "file")),
+                ),
+                Key(Not(column(1))),
+                Key(column(2), descending=True),
+            ),
+            0,
+        ),
+        *(Target(9 - i) for i in range(9)),
+        Target(),
+    ),
+    NestedLoopJoin(
+        NestedLoopJoin(
+            Filter(
+                Scan(modems, GreaterThan(column(2), float64(0.0))),
+                IsNaN(Add(column(2), Divide(column(1), integer(2)))),
+            ),
+            Values(Row(null(), string("")), Row(boolean(False), string("gold"))),
+            outer=True,
+        ),
+        Remap(Nothing(Label(), Label("id"), Label(("t", "name"))), Target(1), Target(), Target(0)),
+    ),
+    Or(LessThan(column(0), column(1)), And(column(3), Equal(column(2), null()))),
+)
+
+
+def times(count, plan, step):
+    """The step done so many times, starting from the plan."""
+    for _ in range(count):
+        plan = step(plan)
+    return plan
+
+
+def filters(count):
+    """Filters of true over a join of two Values."""
+    row = Values(Row(integer(1)))
+    return times(count, NestedLoopJoin(row, row), lambda source: Filter(source, boolean(True)))
+
+
+def ors(count):
+    """Ands of Columns, Ored: `into_cnf` doubles with each."""
+    return times(count - 1, And(A, A), lambda e: Or(And(A, A), e))
+
+
+wide = Table("t", key=0, columns=[Column("a", INTEGER)] * 256)
 
 # name: (sheet, what check answers)
 examples = {
@@ -51,6 +160,17 @@ examples = {
         sheet(NestedLoopJoin(Values(Row(integer(1), integer(2))), Values(Row(integer(1), integer(2))), Equal(A, B))),
         "accepted cells 12 columns 4",
     ),
+    "boot-file": (sheet(boot_file, [modems, tiers]), "accepted cells 19 columns 2"),
+    "two-tiers": (sheet(two_tiers, [modems, tiers]), "accepted cells 23 columns 2"),
+    "open-tiers": (sheet(open_tiers, [modems, tiers]), "accepted cells 20 columns 2"),
+    "no-modem": (sheet(no_modem, [modems, tiers]), "accepted cells 15 columns 2"),
+    "every-tag": (sheet(every_tag, [modems, tiers]), "accepted cells 90 columns 17"),
+    # As P5 and P6, over a join, where the normal forms are seen.
+    "p5-join": (sheet(NestedLoopJoin(four, four, Not(Not(Not(And(A, B)))))), "accepted cells 19 columns 8"),
+    "p6-join": (sheet(NestedLoopJoin(four, four, Or(Or(And(A, B), C), D))), "accepted cells 20 columns 8"),
+    # Fewer Filters than in refused-14 below, and one And fewer than in refused-14-cnf.
+    "room": (sheet(filters(2)), "accepted cells 11 columns 2"),
+    "room-cnf": (sheet(Scan(one, ors(8)), [one]), "accepted cells 32 columns 1"),
     # Refusals. The last word says 69 bytes, and there are 68.
     "refused-2": (pack([cell(3), cell(45, a=1), cell(63, a=1)], length=69), "refused 2 place 0"),
     "refused-3": (pack([cell(3), cell(45, a=1), cell(63, a=1)], edition=2), "refused 3 place 0"),
@@ -70,6 +190,26 @@ examples = {
     "refused-9": (sheet(Filter(Values(Row(integer(1))), column(1))), "refused 9 place 3"),
     # Two Targets are 0.
     "refused-10": (sheet(Remap(Values(Row(integer(1), integer(2))), Target(0), Target(0))), "refused 10 place 5"),
+    # Refusals of the passes: the checker accepts these sheets. The smallest Integer negated.
+    "refused-11": (sheet(Projection(Scan(one), Item(Negate(integer(MIN)))), [one]), "accepted cells 5 columns 1"),
+    # The smallest Integer divided by -1; in a Filter, which is visited before the Values below with their own 1 / 0.
+    "refused-11-divide": (
+        sheet(Filter(Values(Row(Divide(integer(1), integer(0)))), IsNull(Divide(integer(MIN), integer(-1))))),
+        "accepted cells 10 columns 1",
+    ),
+    "refused-12": (sheet(Scan(one, Equal(A, Divide(integer(10), integer(0)))), [one]), "accepted cells 6 columns 1"),
+    # A String and an Integer don't add up.
+    "refused-13": (sheet(Order(Scan(one), Key(Add(string("a"), integer(1)))), [one]), "accepted cells 6 columns 1"),
+    # A conjunct without a Column goes to both sides of a join, and stays where a side takes none, so that the predicate
+    # doubles with each Filter merged.
+    "refused-14": (sheet(filters(7)), "accepted cells 21 columns 2"),
+    # The conjunctive normal form of a Scan's filter has more than 2,048 cells.
+    "refused-14-cnf": (sheet(Scan(one, ors(9)), [one]), "accepted cells 36 columns 1"),
+    # Limit 0 makes a Nothing with a Label for each of 2,048 columns.
+    "refused-14-labels": (
+        sheet(Limit(times(7, Scan(wide), lambda left: NestedLoopJoin(left, Scan(wide))), 0), [wide]),
+        "accepted cells 16 columns 2048",
+    ),
 }
 
 if __name__ == "__main__":

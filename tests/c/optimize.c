@@ -1,0 +1,166 @@
+/* The three operations through the C header, on the sheet on standard input.
+ *
+ *     optimize check      prints the line that sheet_check prints
+ *     optimize pass N     one pass, by its number: the listing, or the refusal
+ *     optimize passes     each of the five on the sheet handed in, under a line with its number
+ *     optimize all        all five: what sheet_list prints
+ *     optimize promises   prints nothing; exits with 1 and a line if one of the header's promises is not kept
+ */
+#include "reqshabu.h"
+#include <inttypes.h>
+#include <stdio.h>
+#include <stdlib.h>
+#include <string.h>
+
+enum { LARGEST = 45332, ALL = -1, FILLER = 0xA5 };
+
+/* One byte more than a sheet can have, so that a longer input is refused and not cut. */
+static uint8_t sheet[LARGEST + 1];
+static size_t length;
+
+/* ---- what the programs print */
+
+static uint32_t word(const uint8_t *at) {
+    return at[0] | (uint32_t)at[1] << 8 | (uint32_t)at[2] << 16 | (uint32_t)at[3] << 24;
+}
+
+static void refused(reqshabu_answer a) {
+    printf("refused %" PRIu64 " place %" PRIu64 "\n", a.number, a.place);
+}
+
+/* The cells of the sheet that an operation wrote: number, tag, flag, a, b, c. */
+static void list(reqshabu_answer a, const uint8_t *written) {
+    if (a.number != 0) {
+        refused(a);
+        return;
+    }
+    printf("cells %" PRIu64 " bytes %" PRIu64 " columns %" PRIu64 "\n", a.cells, a.length, a.columns);
+    const uint8_t *cell = written + word(written + a.length - 12);
+    for (uint64_t i = 0; i < a.cells; i++, cell += 16)
+        printf("%" PRIu64 " %u %u %" PRIu32 " %" PRIu32 " %" PRIu32 "\n", i, cell[0], cell[1], word(cell + 4), word(cell + 8), word(cell + 12));
+}
+
+/* ---- what the header promises */
+
+static reqshabu_answer run(long pass, const uint8_t *from, size_t n, uint8_t *output, size_t capacity) {
+    return pass == ALL ? plan_optimize(from, n, output, capacity) : plan_pass(from, n, (size_t)pass, output, capacity);
+}
+
+static void hold(int kept, long pass, const char *what) {
+    if (kept)
+        return;
+    if (pass == ALL)
+        fprintf(stderr, "all five: %s\n", what);
+    else
+        fprintf(stderr, "pass %ld: %s\n", pass, what);
+    exit(1);
+}
+
+static int same(reqshabu_answer a, reqshabu_answer b) {
+    return a.number == b.number && a.place == b.place && a.length == b.length && a.cells == b.cells && a.columns == b.columns;
+}
+
+static int is_refusal(reqshabu_answer a, uint64_t number, uint64_t place) {
+    return same(a, (reqshabu_answer){number, place, 0, 0, 0});
+}
+
+/* Whether these bytes are as `fill` left them. */
+static int untouched(const uint8_t *bytes, size_t n) {
+    for (size_t i = 0; i < n; i++)
+        if (bytes[i] != FILLER)
+            return 0;
+    return 1;
+}
+
+static uint8_t output[LARGEST + 100], other[LARGEST + 100];
+
+static void fill(uint8_t *bytes) {
+    memset(bytes, FILLER, sizeof output);
+}
+
+static void promises_of(long pass) {
+    fill(output);
+    reqshabu_answer a = run(pass, sheet, length, output, sizeof output);
+    if (a.number != 0) {
+        hold(is_refusal(a, a.number, a.place), pass, "a refusal with counts");
+        hold(a.number != 1 && a.number != 15, pass, "a refusal that the call gives no cause for");
+        hold(untouched(output, sizeof output), pass, "a refusal that changes the output");
+        hold(same(run(pass, sheet, length, NULL, 0), a), pass, "another answer without an output");
+        return;
+    }
+    /* Bytes after the sheet stay, and what is written is accepted with the counts that were answered. */
+    hold(a.place == 0 && a.length <= LARGEST && untouched(output + a.length, sizeof output - a.length), pass, "bytes after the sheet changed");
+    hold(same(plan_check(output, a.length), (reqshabu_answer){0, 0, 0, a.cells, a.columns}), pass, "a sheet that is not accepted");
+    /* The sheet's length is enough for the output. */
+    fill(other);
+    hold(same(run(pass, sheet, length, other, a.length), a), pass, "another answer in an output of just the sheet's length");
+    hold(memcmp(output, other, sizeof output) == 0, pass, "another sheet in an output of just its length");
+    /* One byte less is refused, with the length that is needed. */
+    fill(other);
+    hold(is_refusal(run(pass, sheet, length, other, a.length - 1), 15, a.length), pass, "an output one byte short is not refusal 15");
+    hold(untouched(other, sizeof other), pass, "an output one byte short changed");
+    /* No output at all: the way to ask how long it has to be. */
+    hold(is_refusal(run(pass, sheet, length, NULL, 0), 15, a.length), pass, "no output is not refusal 15");
+}
+
+/* The five passes one after the other hand out what all five do. */
+static void promise_of_all(void) {
+    static uint8_t from[LARGEST + 1];
+    size_t n = length;
+    memcpy(from, sheet, n);
+    fill(output);
+    reqshabu_answer all = plan_optimize(sheet, length, output, sizeof output), a = {0, 0, 0, 0, 0};
+    for (size_t pass = 1; pass <= 5 && a.number == 0; pass++) {
+        a = plan_pass(from, n, pass, other, sizeof other);
+        n = a.length;
+        memcpy(from, other, n);
+    }
+    hold(same(a, all), ALL, "another answer than pass after pass");
+    hold(memcmp(from, output, all.length) == 0, ALL, "another sheet than pass after pass");
+}
+
+static void promises(void) {
+    for (long pass = 1; pass <= 5; pass++)
+        promises_of(pass);
+    promises_of(ALL);
+    promise_of_all();
+    /* A pass that isn't there is refusal 1, whatever the sheet. */
+    const size_t none[] = {0, 6, SIZE_MAX};
+    for (size_t i = 0; i < sizeof none / sizeof *none; i++) {
+        fill(output);
+        hold(is_refusal(plan_pass(sheet, length, none[i], output, sizeof output), 1, 0), (long)none[i], "not refusal 1");
+        hold(untouched(output, sizeof output), (long)none[i], "refusal 1 changed the output");
+        hold(is_refusal(plan_pass(NULL, 0, none[i], NULL, 0), 1, 0), (long)none[i], "not refusal 1 without a sheet");
+    }
+    /* No sheet at all. */
+    hold(is_refusal(plan_check(NULL, 0), 2, 0), 0, "check: no sheet is not refusal 2");
+    hold(is_refusal(plan_pass(NULL, 0, 1, NULL, 0), 2, 0), 1, "no sheet is not refusal 2");
+    hold(is_refusal(plan_optimize(NULL, 0, NULL, 0), 2, 0), ALL, "no sheet is not refusal 2");
+}
+
+int main(int count, char **words) {
+    const char *operation = count > 1 ? words[1] : "";
+    length = fread(sheet, 1, sizeof sheet, stdin);
+    if (strcmp(operation, "check") == 0) {
+        reqshabu_answer a = plan_check(sheet, length);
+        if (a.number != 0)
+            refused(a);
+        else
+            printf("accepted cells %" PRIu64 " columns %" PRIu64 "\n", a.cells, a.columns);
+    } else if (strcmp(operation, "pass") == 0 && count > 2) {
+        list(plan_pass(sheet, length, strtoul(words[2], NULL, 10), output, sizeof output), output);
+    } else if (strcmp(operation, "passes") == 0) {
+        for (size_t pass = 1; pass <= 5; pass++) {
+            printf("pass %zu\n", pass);
+            list(plan_pass(sheet, length, pass, output, sizeof output), output);
+        }
+    } else if (strcmp(operation, "all") == 0) {
+        list(plan_optimize(sheet, length, output, sizeof output), output);
+    } else if (strcmp(operation, "promises") == 0) {
+        promises();
+    } else {
+        fprintf(stderr, "usage: optimize check | pass N | passes | all | promises\n");
+        return 2;
+    }
+    return 0;
+}
