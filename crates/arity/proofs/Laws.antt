@@ -2,39 +2,18 @@
 -- Assumes nothing.
 use Prim.Native.Nat.{ℕ, zero, suc, _+_, _%_, _≤_, _<_}
 use native.Mathlib.Omega.{arith}
-use native.Mathlib.Decide.{decLt}
-use mathlib.Core.Logic.{_⊎_, inl, inr, ⊎-elim}
 use mathlib.Core.Path.{_≡_, refl, sym, ap, _∙_}
 use mathlib.Core.Bool.{Bool, true, false, _&&_}
-use mathlib.Core.List.{List, [], _∷_, map}
+use mathlib.Core.List.{List, map}
 use mathlib.Core.Option.{Option, none, some}
 use lib.Dec.{eqb}
 use lib.ListN.{getD, List·getD-map, List·getD-eq-default}
 use Rattle.sql.specs.Plan.{up-to}
+use Rattle.sql.specs.Ranges.{same-in}
 use Rattle.sheet.specs.Cell.{Cell, Tag, unknown, not-carried, carried, tags, tag-of, fields-ok, float-ok, cell-ok}
 use Rattle.sheet.specs.Content.{Content, Reader, readers, content-of, bit}
 use Rattle.arity.specs.Arity.{sort-of, asking, children-of, Sorted, Asked}
 use Rattle.arity.specs.declared.Children.{Children}
-
--- ---- ranges
-
-lt-or-ge : (a b : ℕ) → (a < b) ⊎ (b ≤ a)
-lt-or-ge a b = go (decLt a b)
-  where
-    go : Dec (a < b) → (a < b) ⊎ (b ≤ a)
-    go (yes h) = inl h
-    go (no h) = inr (omega arith)
-
-abbrev rest : {A : Type 0} → List A → List A
-rest [] = []
-rest (x ∷ l) = l
-
--- Two functions agree on a number of a range, if they do on the list of all its numbers.
-pub same-in : {A : Type 0} (f g : ℕ → A) (from n : ℕ) → map f (up-to from n) ≡ map g (up-to from n) → (i : ℕ) → from ≤ i → i < from + n → f i ≡ g i
-same-in f g from zero e i h j = absurd (omega arith)
-same-in f g from (suc n) e i h j =
-    ⊎-elim (λ (z : from < i). same-in f g (suc from) n (ap rest e) i (omega arith) (omega arith))
-    (λ (z : i ≤ from). let k : i ≡ from = omega arith in ap f k ∙ ap (λ (l : List _). getD l 0 (g from)) e ∙ sym (ap g k)) (lt-or-ge from i)
 
 -- for a tag past the list of readers
 abbrev no-cell : Reader

@@ -8,6 +8,7 @@ use mathlib.Core.Option.{Option, none, some}
 use lib.ListN.{length, length-append}
 use Rattle.sql.specs.Expression.{IsNull, IsNaN, Identity, Negate, Unary, Not, function, Expression, constant, column, unary, binary}
 use Rattle.sql.specs.Plan.{Label, unlabelled, unqualified, qualified, Other, limit, offset, order, projection, remap, aggregate, filter, other, Node, leaf, over, join, over-size, node-size}
+use Rattle.sql.specs.Answer.{Answer, done, refused, _>>=_}
 use Rattle.sheet.specs.Content.{Content, bit, constant-cell, column-cell, unary-cell, binary-cell, item-cell, key-cell, target-cell, agg-cell, unary-tag}
 use Rattle.cells.specs.Cells.{words, sized, tag-at}
 use Rattle.words.specs.Words.{cell, all-words, expression-words, item-words, key-words, agg-words, target-words, over-own, over-cell, node-words, source-count}
@@ -115,9 +116,47 @@ behind-long [] p = refl
 behind-long (o ∷ os) p =
     omega (arith, length-append (behind-one o p) (behind os (over (other o) p)), one-long o p, behind-long os (over (other o) p))
 
+pub chain-long : (os : List Other) (p : Node) → length (node-words (chain os p)) ≡ length (node-words p) + 6 * sizes os
+chain-long os p = omega (arith, ap length (chain-words os p), length-append (node-words p) (behind os p), behind-long os p)
+
+-- where a chain ends, and where the node below it does
+pub chain-end : {s : List ℕ} {lo end hi : ℕ} (os : List Other) (p : Node) → NodeHere s lo hi (chain os p) → NodeHere s lo end p → hi ≡ end + 6 * sizes os
+chain-end os p u v = omega (arith, chain-long os p, u .part .high, v .part .high)
+
 pub chain-size : (os : List Other) (p : Node) → node-size (chain os p) ≡ node-size p + sizes os
 chain-size [] p = omega arith
 chain-size (o ∷ os) p = omega (arith, chain-size os (over (other o) p))
+
+-- ---- what a pass does with a chain
+
+-- Nodes that have all a property.
+abbrev pub Each : (Other → Type 0) → List Other → Type 0
+Each P [] = Unit {0}
+Each P (o ∷ os) = P o × Each P os
+
+pub each : {P : Other → Type 0} → ((o : Other) → P o) → (os : List Other) → Each P os
+each f [] = tt
+each f (o ∷ os) = (f o, each f os)
+
+-- A function that leaves such nodes over what it makes of their source leaves a chain of them so. Its number is that of the cells outside the node.
+module _ {P : Other → Type 0} (F : ℕ → Node → Answer Node)
+    (left : (rest : ℕ) (o : Other) → P o → (p : Node) → F rest (over (other o) p) ≡ F (rest + over-size (other o)) p >>= (λ q. done (over (other o) q))) where
+  pub chain-left : (rest : ℕ) (os : List Other) → Each P os → (p : Node) → F rest (chain os p) ≡ F (rest + sizes os) p >>= (λ q. done (chain os q))
+  chain-left rest [] h p = let e : rest ≡ rest + 0 = omega arith in ap (λ (n : ℕ). F n p) e ∙ same (F (rest + 0) p)
+    where
+      same : (a : Answer Node) → a ≡ a >>= (λ q. done q)
+      same (done q) = refl
+      same (refused number place) = refl
+  chain-left rest (o ∷ os) h p =
+      let e : rest + sizes os + over-size (other o) ≡ rest + (sizes os + over-size (other o)) = omega arith in
+      chain-left rest os (h .1) (over (other o) p)
+      ∙ ap (λ (a : Answer Node). a >>= (λ q. done (chain os q))) (left (rest + sizes os) o (h .0) p)
+      ∙ both (F (rest + sizes os + over-size (other o)) p)
+      ∙ ap (λ (n : ℕ). F n p >>= (λ q. done (chain os (over (other o) q)))) e
+    where
+      both : (a : Answer Node) → a >>= (λ q. done (over (other o) q)) >>= (λ q. done (chain os q)) ≡ a >>= (λ q. done (chain os (over (other o) q)))
+      both (done q) = refl
+      both (refused number place) = refl
 
 -- ---- over another node
 

@@ -24,11 +24,11 @@ Descends F G n left =
 
 -- ---- what is fit
 module _ {Kept : Node → Node → Type 0} (fit : Inherited Kept) where
-  chain-source : (os : List Other) (p : Node) → Kept (chain os p) (chain os p) → Kept p p
+  pub chain-source : (os : List Other) (p : Node) → Kept (chain os p) (chain os p) → Kept p p
   chain-source [] p k = k
   chain-source (o ∷ os) p k = fit .source (other o) p (chain-source os (over (other o) p) k)
 
-  chain-with : (os : List Other) (p q : Node) → Kept (chain os p) (chain os p) → Kept p q → Kept (chain os p) (chain os q)
+  pub chain-with : (os : List Other) (p q : Node) → Kept (chain os p) (chain os p) → Kept p q → Kept (chain os p) (chain os q)
   chain-with [] p q k h = h
   chain-with (o ∷ os) p q k h =
       chain-with os (over (other o) p) (over (other o) q) k (fit .with-source (other o) p q (chain-source os (over (other o) p) k) h)

@@ -2,13 +2,13 @@
 use Prim.Native.Nat.{ℕ, _+_, _-_, _≤_, _<_}
 use native.Mathlib.Omega.{arith}
 use mathlib.Core.Logic.{⊎-elim}
-use mathlib.Core.Path.{_≡_, refl, sym, ap, _∙_}
+use mathlib.Core.Path.{_≡_, sym, ap, _∙_}
 use mathlib.Core.List.{List, _++_, append-assoc}
 use lib.ListN.{length, take, drop, length-append, take-append-drop}
 use lib.Seq.{take-at, length-take-le}
 use Rattle.sql.specs.Plan.{Other, Node}
 use Rattle.cells.specs.Cells.{Part}
-use Rattle.cells.specs.Room.{Copies}
+use Rattle.cells.specs.Room.{Wrote, Copies}
 use Rattle.cells.proofs.Laws.{then, no-room, done, lt-or-ge, wrote-up}
 use Rattle.words.specs.Words.{node-words}
 use Rattle.words.specs.Place.{NodeHere}
@@ -35,6 +35,9 @@ part-of s lo hi h k =
 pub copy-up : {s : List ℕ} {lo hi : ℕ} {d : List ℕ} {at n : ℕ} {d′ : List ℕ} → Copies s lo hi d at n d′ → lo ≤ hi → hi ≤ length s → n ≤ length d → at ≤ n
 copy-up {s} {lo} {hi} c h k z = omega (arith, wrote-up (c (take (hi - lo) (drop lo s)) (part-of s lo hi h k)) z)
 
+copy-full : {s : List ℕ} {lo hi : ℕ} {d : List ℕ} {at n : ℕ} {d′ : List ℕ} → Copies s lo hi d at n d′ → lo ≤ hi → hi ≤ length s → length d < at → length d < n
+copy-full {s} {lo} {hi} c h k z = c (take (hi - lo) (drop lo s)) (part-of s lo hi h k) .full (omega arith)
+
 -- the chain's words in the slice that is read
 behind-part : {x : List ℕ} {low end hi : ℕ} (os : List Other) (p : Node) → NodeHere x low hi (chain os p) → NodeHere x low end p → Part x end hi (behind os p)
 behind-part {x} {low} {end} {hi} os p u v =
@@ -48,43 +51,51 @@ behind-part {x} {low} {end} {hi} os p u v =
 
 module _ {x : List ℕ} {end hi : ℕ} {y : List ℕ} {lo at n : ℕ} {y₁ : List ℕ} (j : length y₁ ≡ length y) (c : Copies x end hi y at n y₁) where
   pub follows-full : length y₁ < n → Follows x end hi y lo at n y₁
-  follows-full z low os p q u v y₀ i w =
-      let a = then i w (c (behind os p) (behind-part os p u v)) in
-      no-room
-      (⊎-elim (λ (k : length y₀ < lo + length (node-words q ++ behind os p)). long k)
-      (λ (k : lo + length (node-words q ++ behind os p) ≤ length y₀). absurd (omega (arith, a .fits k .0)))
-      (lt-or-ge (length y₀) (lo + length (node-words q ++ behind os p))))
-      (omega arith)
+  follows-full z = record { over-node = written; full = λ h. omega arith }
     where
-      long : length y₀ < lo + length (node-words q ++ behind os p) → length y₀ < lo + length (node-words (chain os q))
-      long k =
-          omega (arith, length-append (node-words q) (behind os p), length-append (node-words q) (behind os q), ap length (chain-words os q), behind-long os p, behind-long os q)
+      written : (low : ℕ) (os : List Other) (p q : Node) → NodeHere x low hi (chain os p) → NodeHere x low end p → (y₀ : List ℕ) → length y ≡ length y₀
+          → Wrote y₀ lo (node-words q) at y → Wrote y₀ lo (node-words (chain os q)) n y₁
+      written low os p q u v y₀ i w =
+          let a = then i w (c (behind os p) (behind-part os p u v)) in
+          no-room
+          (⊎-elim (λ (k : length y₀ < lo + length (node-words q ++ behind os p)). long k)
+          (λ (k : lo + length (node-words q ++ behind os p) ≤ length y₀). absurd (omega (arith, a .fits k .0)))
+          (lt-or-ge (length y₀) (lo + length (node-words q ++ behind os p))))
+          (omega arith)
+        where
+          long : length y₀ < lo + length (node-words q ++ behind os p) → length y₀ < lo + length (node-words (chain os q))
+          long k =
+              omega (arith, length-append (node-words q) (behind os p), length-append (node-words q) (behind os q), ap length (chain-words os q), behind-long os p, behind-long os q)
 
-  pub follows-done : n ≤ length y₁ → {r : ℕ} {y₂ : List ℕ} → length y₂ ≡ length y₁ → Reseals y₁ n lo at 0 r y₂ → Follows x end hi y lo at r y₂
-  follows-done z {r} {y₂} k seal low os p q u v y₀ i w =
-      let a = then i w (c (behind os p) (behind-part os p u v)) in
-      let all = node-words q ++ behind os p in
-      let e = wrote-up a (omega arith) in
-      let here = wrote-up w (omega (arith, wrote-up (c (behind os p) (behind-part os p u v)) (omega arith))) in
-      let (e′, f) = a .fits (omega arith) in
-      let l = length-append (node-words q) (behind os p) in
-      let l′ = length-append (node-words q) (behind os q) in
-      let m = ap length (chain-words os q) in
-      let long = behind-long os p in
-      let long′ = behind-long os q in
-      let before = take lo y₀ ++ node-words q in
-      let first = length-take-le lo y₀ (omega arith) in
-      let y₁-is : y₁ ≡ before ++ (behind os p ++ drop n y₁) =
-      sym (take-append-drop n y₁) ∙ ap (λ (b : List ℕ). b ++ drop n y₁) f ∙ simp append-assoc in
-      let number : at - lo ≡ length (node-words q) = omega arith in
-      let y₂-is : y₂ ≡ before ++ (resized (at - lo) (behind os p) ++ drop n y₁) =
-      seal .words before (behind os p) (drop n y₁) y₁-is (omega (arith, length-append (take lo y₀) (node-words q))) (omega arith) in
-      let new : resized (at - lo) (behind os p) ≡ behind os q = ap (λ (b : ℕ). resized b (behind os p)) number ∙ behind-resized os p q in
-      let whole = take lo y₀ ++ (node-words q ++ behind os q) in
-      let flat : before ++ (behind os q ++ drop n y₁) ≡ whole ++ drop n y₁ = simp append-assoc in
-      let n-is : length whole ≡ n = omega (arith, length-append (take lo y₀) (node-words q ++ behind os q)) in
-      done (omega arith) (omega (arith, seal .same))
-      (ap (λ (b : ℕ). take b y₂) (seal .same)
-      ∙ ap (take n) (y₂-is ∙ ap (λ (b : List ℕ). before ++ (b ++ drop n y₁)) new ∙ flat)
-      ∙ take-at whole (drop n y₁) n n-is
-      ∙ ap (λ (b : List ℕ). take lo y₀ ++ b) (sym (chain-words os q)))
+  pub follows-done : end ≤ hi → hi ≤ length x → n ≤ length y₁ → {r : ℕ} {y₂ : List ℕ} → length y₂ ≡ length y₁ → Reseals y₁ n lo at 0 r y₂ → Follows x end hi y lo at r y₂
+  follows-done b h z {r} {y₂} k seal = record { over-node = written; full = λ l. let f = copy-full c b h l in absurd (omega arith) }
+    where
+      written : (low : ℕ) (os : List Other) (p q : Node) → NodeHere x low hi (chain os p) → NodeHere x low end p → (y₀ : List ℕ) → length y ≡ length y₀
+          → Wrote y₀ lo (node-words q) at y → Wrote y₀ lo (node-words (chain os q)) r y₂
+      written low os p q u v y₀ i w =
+          let a = then i w (c (behind os p) (behind-part os p u v)) in
+          let all = node-words q ++ behind os p in
+          let e = wrote-up a (omega arith) in
+          let here = wrote-up w (omega (arith, wrote-up (c (behind os p) (behind-part os p u v)) (omega arith))) in
+          let (e′, f) = a .fits (omega arith) in
+          let l = length-append (node-words q) (behind os p) in
+          let l′ = length-append (node-words q) (behind os q) in
+          let m = ap length (chain-words os q) in
+          let long = behind-long os p in
+          let long′ = behind-long os q in
+          let before = take lo y₀ ++ node-words q in
+          let first = length-take-le lo y₀ (omega arith) in
+          let y₁-is : y₁ ≡ before ++ (behind os p ++ drop n y₁) =
+          sym (take-append-drop n y₁) ∙ ap (λ (b : List ℕ). b ++ drop n y₁) f ∙ simp append-assoc in
+          let number : at - lo ≡ length (node-words q) = omega arith in
+          let y₂-is : y₂ ≡ before ++ (resized (at - lo) (behind os p) ++ drop n y₁) =
+          seal .words before (behind os p) (drop n y₁) y₁-is (omega (arith, length-append (take lo y₀) (node-words q))) (omega arith) in
+          let new : resized (at - lo) (behind os p) ≡ behind os q = ap (λ (b : ℕ). resized b (behind os p)) number ∙ behind-resized os p q in
+          let whole = take lo y₀ ++ (node-words q ++ behind os q) in
+          let flat : before ++ (behind os q ++ drop n y₁) ≡ whole ++ drop n y₁ = simp append-assoc in
+          let n-is : length whole ≡ n = omega (arith, length-append (take lo y₀) (node-words q ++ behind os q)) in
+          done (omega arith) (omega (arith, seal .same))
+          (ap (λ (b : ℕ). take b y₂) (seal .same)
+          ∙ ap (take n) (y₂-is ∙ ap (λ (b : List ℕ). before ++ (b ++ drop n y₁)) new ∙ flat)
+          ∙ take-at whole (drop n y₁) n n-is
+          ∙ ap (λ (b : List ℕ). take lo y₀ ++ b) (sym (chain-words os q)))

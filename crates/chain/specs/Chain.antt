@@ -1,5 +1,5 @@
--- Chains: nodes with one source that are no Filters, each over the next one, and where the node below them stands.
-use Prim.Native.Nat.{ℕ, _+_}
+-- Chains: nodes with one source that are no Filters, each over the next one, and where the node below them stands. Among them, chains of bare nodes.
+use Prim.Native.Nat.{ℕ, _+_, _<_}
 use mathlib.Core.Bool.{Bool, true, false}
 use mathlib.Core.Path.{_≡_}
 use mathlib.Core.List.{List, [], _∷_, _++_}
@@ -9,6 +9,7 @@ use Rattle.cells.specs.Cells.{words}
 use Rattle.cells.specs.Room.{Wrote}
 use Rattle.words.specs.Words.{cell, over-own, over-cell, node-words}
 use Rattle.words.specs.Place.{NodeHere}
+use Rattle.nodes.specs.Own.{OwnStart, SourceCount}
 
 -- the nodes of a chain over a node, the lowest one first
 abbrev pub chain : List Other → Node → Node
@@ -50,8 +51,29 @@ pub record Through (s : List ℕ) (n lo left end : ℕ) (p : Node) : Type 0 wher
 abbrev pub GoesDown : List ℕ → ℕ → ℕ → ℕ → ℕ → ℕ → Type 0
 GoesDown s n lo hi left end = (p : Node) → NodeHere s lo hi p → Through s n lo left end p
 
--- The chain from `end` up to hi is written over whatever node was written from lo up to `at`.
-abbrev pub Follows : List ℕ → ℕ → ℕ → List ℕ → ℕ → ℕ → ℕ → List ℕ → Type 0
-Follows x end hi y lo at n y′ =
-    (low : ℕ) (os : List Other) (p q : Node) → NodeHere x low hi (chain os p) → NodeHere x low end p → (y₀ : List ℕ) → length y ≡ length y₀
-    → Wrote y₀ lo (node-words q) at y → Wrote y₀ lo (node-words (chain os q)) n y′
+-- The chain from `end` up to hi is written over whatever node was written from lo up to `at`. A position past the end of y stays so.
+pub record Follows (x : List ℕ) (end hi : ℕ) (y : List ℕ) (lo at n : ℕ) (y′ : List ℕ) : Type 0 where
+  pub over-node : (low : ℕ) (os : List Other) (p q : Node) → NodeHere x low hi (chain os p) → NodeHere x low end p → (y₀ : List ℕ) → length y ≡ length y₀
+      → Wrote y₀ lo (node-words q) at y → Wrote y₀ lo (node-words (chain os q)) n y′
+  pub full : length y < at → length y < n
+
+-- ---- bare nodes: one source, and no words of their own but their cell
+
+abbrev pub no-words : List ℕ → Bool
+no-words [] = true
+no-words (w ∷ ws) = false
+
+abbrev pub is-bare : Node → Bool
+is-bare (leaf l) = false
+is-bare (over o n) = no-words (over-own o)
+is-bare (join outer j l r) = false
+
+-- From `end` up to hi stand the cells of bare nodes, each over the one before. All these nodes start at lo, and so does the node below them.
+pub data Bare (s : List ℕ) (lo hi : ℕ) : ℕ → Type 0 where
+  no-more : {end : ℕ} → end ≡ hi → Bare s lo hi end
+  one-more : {end : ℕ} → SourceCount s lo (end + 6) 1 → OwnStart s lo (end + 6) end → Bare s lo hi (end + 6) → Bare s lo hi end
+
+-- The node that ends before `end` stands below them, and is not bare.
+pub record GoesBelow (s : List ℕ) (lo hi end : ℕ) : Type 0 where
+  pub down : Bare s lo hi end
+  pub last : (p : Node) → NodeHere s lo end p → is-bare p ≡ false

@@ -1,10 +1,11 @@
 // Chains: nodes with one source that FilterPushdown leaves as they are, each over the next one. Such a chain can be as long as the plan, so a pass goes
-// down through it in a loop, works on the node below it, and seals the chain's cells over what that node has become in a second loop.
+// down through it in a loop, works on the node below it, and seals the chain's cells over what that node has become in a second loop. A pass that works on
+// each node's own parts goes through those nodes alone that have none: they are one cell each, so the way back is known too.
 ghost use mathlib.Core.Path.{_≡_};
 ghost use Prim.Native.Nat.{_+_, _≤_};
 ghost use lib.ListN.{length};
 ghost use Rattle.words.specs.Place.{NodeAt};
-ghost use Rattle.chain.specs.Chain.{IsOther, GoesDown, Follows};
+ghost use Rattle.chain.specs.Chain.{IsOther, GoesDown, GoesBelow, Follows};
 ghost use Rattle.chain.specs.Resized.{new-size, Reseals};
 
 // Whether the node from lo to hi has one source and is no Filter.
@@ -43,6 +44,23 @@ pub fn descend(s: &[usize], n: usize, lo: usize, hi: usize) -> Below
         return Below { end, left };
     }
     Below { end, left }
+}
+
+// Where the node ends that stands below all bare nodes of the chain that ends before hi. They all start at lo.
+pub fn descend_bare(s: &[usize], lo: usize, hi: usize) -> usize
+    requires { ⌜ NodeAt (now s) lo hi ⌝ }
+    ensures { λ r. ⌜ GoesBelow (now (s .entry)) lo hi r ⌝ }
+{
+    let mut end = hi;
+    loop {
+        if nodes::source_count(s, lo, end) != 1 {
+            return end;
+        }
+        if nodes::own_start(s, lo, end) < end - 6 {
+            return end;
+        }
+        end -= 6;
+    }
 }
 
 // The size in a cell of a chain: the cells of nodes, whose tags are from 50 up, get the new one, those of their parts keep theirs.

@@ -1,4 +1,4 @@
-// plan.rs, column_labels: the labels of all columns of a node in its working form, written as Label cells.
+// optimizer.rs, the `collect` in short_circuit that asks plan.rs's column_label for each column of a node: all its labels, written as Label cells.
 ghost use mathlib.Core.Path.{_≡_};
 ghost use Rattle.sheet.specs.Content.{label-cell};
 ghost use Rattle.cells.specs.Room.{Wrote};

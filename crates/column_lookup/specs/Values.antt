@@ -3,8 +3,8 @@ use Prim.Native.Nat.{ℕ, _%_}
 use mathlib.Core.Bool.{Bool, true, false, cond}
 use mathlib.Core.List.{List, []}
 use lib.Dec.{eqb, ltb}
-use Rattle.value.specs.Value.{null, float, datum}
-use Rattle.sql.specs.Expression.{Expression, the-nan, into-column-values}
+use Rattle.value.specs.Value.{null, float, datum, the-nan}
+use Rattle.sql.specs.Expression.{Expression, into-column-values}
 use Rattle.cells.specs.declared.Cell.{Cell}
 use Rattle.cells.specs.Cells.{sized}
 use Rattle.cells.specs.Room.{Wrote}

@@ -1,3 +1,4 @@
 pub mod Cells
 pub mod Nodes
+pub mod Bare
 pub mod Plans

@@ -116,7 +116,7 @@ module _ {x : List ℕ} {lo hi m : ℕ} (own : OwnStart x lo hi m) where
 
 module _ {text x : List ℕ} {lo hi : ℕ} where
   -- There is a node.
-  by-node : (Q : Option Node → Type 0) → ((p : Node) → NodeHere x lo hi p → Node-fits text p → Q (some p)) → lo < hi → (source : Option Node) → SourceHere text x lo hi source → Q source
+  pub by-node : (Q : Option Node → Type 0) → ((p : Node) → NodeHere x lo hi p → Node-fits text p → Q (some p)) → lo < hi → (source : Option Node) → SourceHere text x lo hi source → Q source
   by-node Q f h none u = absurd (omega (arith, u .stand .high))
   by-node Q f h (some p) u = f p (record { part = u .stand }) (u .fit)
 
@@ -211,6 +211,11 @@ pub own-waiting : {text x : List ℕ} {lo hi : ℕ} {z : List ℕ} {zat m : ℕ}
     → FoldsOwn text x lo hi z zat m q z′ → Waiting z zat n z′
 own-waiting {z = z} {zat} {z′ = z′} t e g = own-waits (t .first) (t .p) (own-as z zat z′ e (t .first) (t .p) (g .leaves (t .first) (t .p) (t .numbered) (t .here)))
 
+-- What is folded is appended too.
+pub source-waiting : {text x : List ℕ} {lo hi : ℕ} {y : List ℕ} {at : ℕ} {z : List ℕ} {zat : ℕ} {q : Folded} {y′ z′ : List ℕ} {n : ℕ} → SourceAt text x lo hi → q ≡ Folded.Done n
+    → FoldsSource text x lo hi y at z zat q y′ z′ → Waiting y at n y′
+source-waiting t e g = waits (fold-source (t .first) (t .source)) (said-as e (g .leaves (t .first) (t .source) (t .numbered) (t .here)))
+
 -- It can be copied, however the words behind it change.
 pub waiting-in : {text x : List ℕ} {lo hi m : ℕ} → lo < hi → OwnStart x lo hi m → SourceAt text x lo hi → {z : List ℕ} {zat : ℕ} {q : Folded} {z₁ : List ℕ} {n : ℕ}
     → FoldsOwn text x lo hi z zat m q z₁ → q ≡ Folded.Done n → {z₂ : List ℕ} → length z₂ ≡ length z → n ≤ length z → ClosesAt x hi z₂ zat n
@@ -229,7 +234,7 @@ source-none {text} {x} {lo} {hi} {y} {at} h = record { leaves = go; within = rec
     go first (some p) e u = absurd (omega (arith, node-six p, u .stand .high))
 
 -- the answer without its `some`
-node-left : {y : List ℕ} {at : ℕ} {r : Folded} {y′ : List ℕ} (first : ℕ) (p : Node) → Leaves words-of y at (fold-source first (some p)) r y′ → Leaves node-words y at (ConstantFolding first p) r y′
+pub node-left : {y : List ℕ} {at : ℕ} {r : Folded} {y′ : List ℕ} (first : ℕ) (p : Node) → Leaves words-of y at (fold-source first (some p)) r y′ → Leaves node-words y at (ConstantFolding first p) r y′
 node-left first p h = made-of (ConstantFolding first p) some (λ q. refl) h
 
 -- a node that its own cell closes
@@ -391,12 +396,8 @@ module _ {text x : List ℕ} {lo hi m mid : ℕ} (h : lo < hi) (own : OwnStart x
               of-words : (v w o : List ℕ) → Appended y at v e y₁ → Appended y₁ e w i y₂ → Appended z zat o n z₁ → r ≤ at + (hi - lo)
               of-words v w o a b d = omega (arith, closed v w o a b d .ends, closed-room v w o (cell-at x hi) a b d)
 
-              source-words-of : {text x : List ℕ} {lo hi : ℕ} {y : List ℕ} {at : ℕ} {z : List ℕ} {zat : ℕ} {q : Folded} {y′ z′ : List ℕ} {n : ℕ} → SourceAt text x lo hi → q ≡ Folded.Done n
-                  → FoldsSource text x lo hi y at z zat q y′ z′ → Waiting y at n y′
-              source-words-of t e g = waits (fold-source (t .first) (t .source)) (said-as e (g .leaves (t .first) (t .source) (t .numbered) (t .here)))
-
               ended : r ≤ at + (hi - lo)
               ended =
-                  let a = source-words-of (earlier-at own last h t) q₂e g₂ in
-                  let b = source-words-of (last-at own last h t) q₃e g₃ in
+                  let a = source-waiting (earlier-at own last h t) q₂e g₂ in
+                  let b = source-waiting (last-at own last h t) q₃e g₃ in
                   of-words (a .words) (b .words) (waiting .words) (a .is) (b .is) (waiting .is)

@@ -36,7 +36,8 @@ fn close(
     cells::put(y, at, end, cells::cell_at(x, hi))
 }
 
-// The node from lo to hi; nothing, if there is none. What is written is never longer than the node, so that there is always room.
+// The node from lo to hi; nothing, if there is none. What is written is never longer than the node, so that there is always room. A chain of nodes without
+// parts, which fold to themselves, is gone through without a frame for each (crate chain).
 fn fold_node(
     text: &[u8],
     x: &[usize],
@@ -54,12 +55,16 @@ fn fold_node(
     if hi <= lo {
         return Folded::Done(at);
     }
-    let m = nodes::own_start(x, lo, hi);
+    let end = chain::descend_bare(x, lo, hi);
+    let m = nodes::own_start(x, lo, end);
     let mid = last_source(x, lo, m);
-    match fold_parts::fold_own(text, x, lo, hi, z, zat, m) {
+    match fold_parts::fold_own(text, x, lo, end, z, zat, m) {
         Folded::Done(n) => match fold_node(text, x, lo, mid, y, at, z, n) {
             Folded::Done(e) => match fold_node(text, x, mid, m, y, e, z, n) {
-                Folded::Done(f) => Folded::Done(close(x, hi, y, at, f, z, zat, n)),
+                Folded::Done(f) => {
+                    let u = close(x, end, y, at, f, z, zat, n);
+                    Folded::Done(chain::follow(x, end, hi, y, at, u))
+                }
                 Folded::Refused(number, place) => Folded::Refused(number, place),
             },
             Folded::Refused(number, place) => Folded::Refused(number, place),

@@ -92,6 +92,10 @@ trees-said (values-cell n) x = omega arith
 
 -- ---- the branches of the code
 
+-- What stands in a list for the tag n, whose tags are counted from `first`.
+pub said-at : (n : ℕ) {r : ℕ} (l : List ℕ) (first tag : ℕ) → tag ≡ n → r ≡ getD l (n - first) 0 → r ≡ getD l (tag - first) 0
+said-at n l first tag e h = h ∙ ap (λ (t : ℕ). getD l (t - first) 0) (sym e)
+
 module _ (k : Cell) where
   -- what is left of the definition behind a test that fails
   behind : (n m v : ℕ) → n ≤ k .tag → cond (ltb (k .tag) n) v m ≡ m

@@ -5,8 +5,8 @@ ghost use lib.ListN.{getD};
 ghost use Rattle.layout.specs.Layout.{as-cell};
 ghost use Rattle.decode.specs.Decode.{Acceptable, Decodes, part-trees, node-trees, trees, Last, Put};
 
-// How many trees the cell k stands over: its operands, or its sources and parts. Most cells are expressions, so these are told apart by tests: a
-// constant array over all tags would be stored anew at each call, which takes longer than all else that is done for a cell.
+// How many trees the cell k stands over: its operands, or its sources and parts. Tags are told apart by tests: a constant array over all tags would be
+// stored anew at each call, which takes longer than all else that is done for a cell.
 fn trees_of(k: layout::Cell) -> usize
     requires { ⌜ (k .a < 4294967296) × (k .b < 4294967296) ⌝ }
     ensures { λ r. ⌜ r ≡ trees (as-cell k) ⌝ }
@@ -21,51 +21,67 @@ fn trees_of(k: layout::Cell) -> usize
         return 1;
     }
     if k.tag < 46 {
-        return trees_of_part(k.tag - 40, k.a);
+        return trees_of_part(k.tag, k.a);
     }
     if k.tag < 50 {
         return 0;
     }
+    if k.tag < 57 {
+        return trees_to_56(k);
+    }
     if k.tag < 64 {
-        return trees_of_node(k);
+        return trees_from_57(k);
     }
     0
 }
 
 // 40 Label, 41 Item, 42 Key, 43 Target, 44 Agg, 45 Row.
-fn trees_of_part(i: usize, a: usize) -> usize
-    requires { ⌜ i < 6 ⌝ }
-    ensures { λ r. ⌜ r ≡ getD (part-trees a) i 0 ⌝ }
+fn trees_of_part(tag: usize, a: usize) -> usize
+    requires { ⌜ (40 ≤ tag) × (tag < 46) ⌝ }
+    ensures { λ r. ⌜ r ≡ getD (part-trees a) (tag - 40) 0 ⌝ }
 {
-    let trees = [0, 1, 1, 0, 1, a];
-    trees[i]
+    match tag {
+        40 => 0,
+        41 => 1,
+        42 => 1,
+        43 => 0,
+        44 => 1,
+        _ => a,
+    }
 }
 
-// 50 Aggregate, 51 Filter, 52 HashJoin, 53 IndexLookup, 54 KeyLookup, 55 Limit, 56 NestedLoopJoin, 57 Nothing, 58 Offset, 59 Order, 60 Projection,
-// 61 Remap, 62 Scan, 63 Values.
-fn trees_of_node(k: layout::Cell) -> usize
-    requires { ⌜ ((50 ≤ k .tag) × (k .tag < 64)) × ((k .a < 4294967296) × (k .b < 4294967296)) ⌝ }
+// 50 Aggregate, 51 Filter, 52 HashJoin, 53 IndexLookup, 54 KeyLookup, 55 Limit, 56 NestedLoopJoin.
+fn trees_to_56(k: layout::Cell) -> usize
+    requires { ⌜ ((50 ≤ k .tag) × (k .tag < 57)) × ((k .a < 4294967296) × (k .b < 4294967296)) ⌝ }
     ensures { λ r. ⌜ r ≡ getD (node-trees (as-cell k)) (k .tag - 50) 0 ⌝ }
 {
-    let some = k.flag % 2;
-    let over = 1 + k.a;
-    let trees = [
-        over + k.b,
-        2,
-        2,
-        k.c / 65536,
-        k.c,
-        1,
-        2 + some,
-        k.a,
-        1,
-        over,
-        over,
-        over,
-        some,
-        k.a,
-    ];
-    trees[k.tag - 50]
+    let tag = k.tag;
+    match tag {
+        50 => 1 + k.a + k.b,
+        51 => 2,
+        52 => 2,
+        53 => k.c / 65536,
+        54 => k.c,
+        55 => 1,
+        _ => 2 + k.flag % 2,
+    }
+}
+
+// 57 Nothing, 58 Offset, 59 Order, 60 Projection, 61 Remap, 62 Scan, 63 Values.
+fn trees_from_57(k: layout::Cell) -> usize
+    requires { ⌜ ((57 ≤ k .tag) × (k .tag < 64)) × (k .a < 4294967296) ⌝ }
+    ensures { λ r. ⌜ r ≡ getD (node-trees (as-cell k)) (k .tag - 50) 0 ⌝ }
+{
+    let tag = k.tag;
+    match tag {
+        57 => k.a,
+        58 => 1,
+        59 => 1 + k.a,
+        60 => 1 + k.a,
+        61 => 1 + k.a,
+        62 => k.flag % 2,
+        _ => k.a,
+    }
 }
 
 // The cell k over the trees that it asks for, which are the last ones before `at`.

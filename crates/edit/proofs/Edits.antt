@@ -1,12 +1,11 @@
--- Laws on edits: what the two functions leave, one edit after another, and the steps with room.
-use Prim.Native.Nat.{ℕ, zero, suc, _+_, _-_, _*_, _≤_, _<_}
+-- Laws on edits: what the functions leave, one edit after another, and the steps with room.
+use Prim.Native.Nat.{ℕ, _+_, _-_, _*_, _≤_, _<_}
 use native.Mathlib.Omega.{arith}
-use mathlib.Core.Logic.{_⊎_, inl, inr, ⊎-elim}
-use mathlib.Core.Bool.{Bool, true, false}
+use mathlib.Core.Logic.{⊎-elim}
 use mathlib.Core.Path.{_≡_, refl, sym, ap, _∙_, subst}
-use mathlib.Core.List.{List, [], _∷_, _++_, append-assoc, append-nil}
-use lib.ListN.{length, take, drop, set, length-append, take-append-drop}
-use lib.Seq.{take-take, take-at, length-take-le, take-set-lt, set-at}
+use mathlib.Core.List.{List, [], _∷_, _++_, append-assoc}
+use lib.ListN.{length, take, drop, set, replicate, length-append, length-drop, length-replicate, take-append-drop}
+use lib.Seq.{take-take, take-at, length-take-le, take-all, drop-at, drop-drop, take-set-lt, set-at}
 use lib.Dec.{leb}
 use borrow.Author.Tests.{le-leb, lt-leb}
 use Rattle.sql.specs.Plan.{Node, node-size}
@@ -15,37 +14,50 @@ use Rattle.sql.specs.Room.{if-room}
 use Rattle.cells.specs.declared.Cell.{Cell}
 use Rattle.cells.specs.Cells.{words, sized, Part}
 use Rattle.cells.specs.Room.{Wrote, Copies}
-use Rattle.cells.proofs.Laws.{then, lt-or-ge, wrote-up}
+use Rattle.cells.proofs.Laws.{part-is, no-room, done as written, then, lt-or-ge, wrote-up}
 use Rattle.words.specs.Words.{node-words}
 use Rattle.words.specs.Place.{NodeHere, NodeAt}
-use Rattle.words.proofs.Sizes.{words-long}
-use Rattle.edit.specs.Edit.{Holds, Standing, Shares, Held, Leaves, Left, Edit, Inherited, Placed, Finishes, Reseals}
+use Rattle.words.proofs.Sizes.{sized-long, words-long}
+use Rattle.edit.specs.Edit.{Holds, Standing, Shares, Held, Left, Edit, Inherited, Placed, Replaces, Reseals, ReplacesOwn}
 
--- ---- the node's place among all words
-module _ {x : List ℕ} {t lo tail : ℕ} {pre post : List ℕ} {p : Node} (h : Holds x t lo tail pre post p) where
-  pub total : lo + length (node-words p) + tail ≡ t
-  total =
-      omega (arith, length-take-le t x (h .inside), ap length (h .whole), length-append pre (node-words p ++ post), length-append (node-words p) post, h .low, h .high)
+-- ---- the place of some words among all words
+module _ (x : List ℕ) {t from tail : ℕ} (inside : t ≤ length x) (pre old post : List ℕ) (whole : take t x ≡ pre ++ (old ++ post)) (low : length pre ≡ from)
+    (high : length post ≡ tail) where
+  span : from + length old + tail ≡ t
+  span = omega (arith, length-take-le t x inside, ap length whole, length-append pre (old ++ post), length-append old post)
 
-  all-of : x ≡ pre ++ (node-words p ++ (post ++ drop t x))
-  all-of = sym (take-append-drop t x) ∙ ap (λ (l : List ℕ). l ++ drop t x) (h .whole) ∙ simp append-assoc
+  all-of : x ≡ pre ++ (old ++ (post ++ drop t x))
+  all-of = sym (take-append-drop t x) ∙ ap (λ (l : List ℕ). l ++ drop t x) whole ∙ simp append-assoc
 
-  pub holds-here : NodeHere x lo (t - tail) p
-  holds-here =
-      record { part = record { before = pre; after = post ++ drop t x; whole = all-of; low = h .low; high = omega (arith, total) } }
+  old-part : Part x from (t - tail) old
+  old-part = record { before = pre; after = post ++ drop t x; whole = all-of; low = low; high = omega (arith, span) }
 
   post-part : Part x (t - tail) t post
   post-part =
       record {
-        before = pre ++ node-words p;
+        before = pre ++ old;
         after = drop t x;
         whole = all-of ∙ simp append-assoc;
-        low = omega (arith, total, length-append pre (node-words p), h .low);
-        high = omega (arith, total, h .high);
+        low = omega (arith, span, length-append pre old);
+        high = omega (arith, span);
       }
 
-  pre-is : take lo x ≡ pre
-  pre-is = sym (take-take lo t x (omega (arith, total))) ∙ ap (take lo) (h .whole) ∙ take-at pre (node-words p ++ post) lo (h .low)
+  pre-is : take from x ≡ pre
+  pre-is = sym (take-take from t x (omega (arith, span))) ∙ ap (take from) whole ∙ take-at pre (old ++ post) from low
+
+  behind-is : (q : ℕ) → q ≡ length old → drop q (drop from x) ≡ post ++ drop t x
+  behind-is q k =
+      drop-drop q from x
+      ∙ ap (drop (from + q)) (all-of ∙ sym (append-assoc pre old (post ++ drop t x)))
+      ∙ drop-at (pre ++ old) (post ++ drop t x) (from + q) (omega (arith, length-append pre old))
+
+-- ---- the node's place
+module _ {x : List ℕ} {t lo tail : ℕ} {pre post : List ℕ} {p : Node} (h : Holds x t lo tail pre post p) where
+  pub total : lo + length (node-words p) + tail ≡ t
+  total = span x (h .inside) pre (node-words p) post (h .whole) (h .low) (h .high)
+
+  pub holds-here : NodeHere x lo (t - tail) p
+  holds-here = record { part = old-part x (h .inside) pre (node-words p) post (h .whole) (h .low) (h .high) }
 
 -- the number of words, in cells
 pub total-cells : {x : List ℕ} {t lo tail room rest : ℕ} {pre post : List ℕ} {p : Node} → Shares x lo tail room rest → Holds x t lo tail pre post p
@@ -68,35 +80,97 @@ module _ {Kept : Node → Node → Type 0} {x : List ℕ} {t lo tail : ℕ} (g :
   pub held-in : (tail ≤ t) × (t ≤ length x)
   held-in = standing-in held-standing
 
--- ---- finish
-module _ {x y : List ℕ} {n t lo tail : ℕ} where
-  pub finish-full : {m : ℕ} {y₁ : List ℕ} → length y₁ ≡ length y → Copies x (t - tail) t y n m y₁ → length y₁ < m → Finishes x y n t lo tail m x
-  finish-full {m} {y₁} k c z pre post p h y₀ w l₀ l f =
-      let a = then l₀ f (c post (post-part h)) in
+-- ---- replace
+module _ (x : List ℕ) {y : List ℕ} {n t from tail : ℕ} (inside : t ≤ length x) where
+  -- what was written doesn't fit into the scratch
+  pub replace-long : length y < n → Replaces x y n t from tail n x
+  replace-long z pre old post e a b y₀ w l₀ l f =
+      record { fits = λ i. absurd (omega (arith, length-append w post, f .fits (omega (arith, length-append w post)) .0)); full = λ i. omega arith }
+
+  -- as many words as before: d′ is what came of the words from `from` up to t − tail
+  pub replace-same : {m : ℕ} {d′ : List ℕ} → n ≤ length y → n ≡ t - tail - from → Wrote (take (t - tail - from) (drop from x)) 0 (take n y) m d′
+      → length d′ ≡ length (take (t - tail - from) (drop from x))
+      → Replaces x y n t from tail t (take from x ++ (d′ ++ drop (t - tail - from) (drop from x)))
+  replace-same {m} {d′} h k c j pre old post e a b y₀ w l₀ l f =
+      let s = span x inside pre old post e a b in
+      let g = wrote-up f (omega arith) in
+      let (g′, v) = f .fits (omega arith) in
+      let o = part-is (old-part x inside pre old post e a b) in
+      let lo = ap length o in
+      let ly = length-take-le n y h in
+      let (c₀, c₁) = c .fits (omega arith) in
+      let d : d′ ≡ w = sym (take-all m d′ (omega arith)) ∙ c₁ ∙ v in
+      let q = t - tail - from in
+      let back : drop q (drop from x) ≡ post ++ drop t x = behind-is x inside pre old post e a b q (omega arith) in
+      let front = pre ++ (w ++ post) in
+      let lf = length-append pre (w ++ post) in
+      let all : take from x ++ (d′ ++ drop q (drop from x)) ≡ front ++ drop t x = rw (d, back, pre-is x inside pre old post e a b) (simp append-assoc) in
       record {
-        fits = λ i. absurd (let (e, g) = a .fits (omega (arith, length-append w post)) in omega arith);
+        fits = λ i. (omega (arith, length-append w post), ap (take t) all ∙ take-at front (drop t x) t (omega (arith, length-append w post)));
+        full = λ i. absurd (omega (arith, ap length all, length-append front (drop t x)));
+      }
+
+  pub replace-full : {m : ℕ} {y₁ : List ℕ} → length y₁ ≡ length y → Copies x (t - tail) t y n m y₁ → length y₁ < m → Replaces x y n t from tail m x
+  replace-full {m} {y₁} k c z pre old post e a b y₀ w l₀ l f =
+      let g = then l₀ f (c post (post-part x inside pre old post e a b)) in
+      record {
+        fits = λ i. absurd (let (u, v) = g .fits (omega (arith, length-append w post)) in omega arith);
         full = λ i. omega arith;
       }
 
-  pub finish-done : {m r : ℕ} {y₁ x′ : List ℕ} → length y₁ ≡ length y → length x′ ≡ length x → Copies x (t - tail) t y n m y₁ → m ≤ length y₁
-      → Copies y₁ 0 m x lo r x′ → Finishes x y n t lo tail r x′
-  finish-done {m} {r} {y₁} {x′} k j c z d pre post p h y₀ w l₀ l f =
-      let a = then l₀ f (c post (post-part h)) in
-      let e = wrote-up a (omega arith) in
-      let (e′, g) = a .fits (omega arith) in
-      let b =
+  pub replace-done : {m r : ℕ} {y₁ x′ : List ℕ} → length y₁ ≡ length y → length x′ ≡ length x → Copies x (t - tail) t y n m y₁ → m ≤ length y₁
+      → Copies y₁ 0 m x from r x′ → Replaces x y n t from tail r x′
+  replace-done {m} {r} {y₁} {x′} k j c z d pre old post e a b y₀ w l₀ l f =
+      let g = then l₀ f (c post (post-part x inside pre old post e a b)) in
+      let i₁ = wrote-up g (omega arith) in
+      let (i₂, v) = g .fits (omega arith) in
+      let q =
       d (w ++ post)
       (record {
         before = [];
         after = drop m y₁;
-        whole = sym (take-append-drop m y₁) ∙ ap (λ (v : List ℕ). v ++ drop m y₁) g;
+        whole = sym (take-append-drop m y₁) ∙ ap (λ (l : List ℕ). l ++ drop m y₁) v;
         low = refl;
         high = omega arith;
       }) in
       record {
-        fits = λ i. let (u, v) = b .fits (omega (arith, h .low)) in (omega (arith, h .low), v ∙ ap (λ (q : List ℕ). q ++ (w ++ post)) (pre-is h));
-        full = λ i. let u = b .full (omega (arith, h .low)) in omega arith;
+        fits = λ i. let (u₁, u₂) = q .fits (omega arith) in (omega arith, u₂ ∙ ap (λ (l : List ℕ). l ++ (w ++ post)) (pre-is x inside pre old post e a b));
+        full = λ i. let u = q .full (omega arith) in omega arith;
       }
+
+-- Some words were written into the first n words of the scratch, whatever they are.
+pub record Some (y : List ℕ) (n : ℕ) : Type 0 where
+  pub w : List ℕ
+  pub long : length w ≡ n
+  pub wrote : Wrote y 0 w n y
+
+pub some-words : (y : List ℕ) (n : ℕ) → Some y n
+some-words y n =
+    ⊎-elim
+    (λ (z : length y < n). let l = length-replicate {A = ℕ} n 0 in record { w = replicate n 0; long = l; wrote = no-room (omega arith) z })
+    (λ (z : n ≤ length y). let l = length-take-le n y z in record { w = take n y; long = l; wrote = written (omega arith) (omega arith) refl })
+    (lt-or-ge (length y) n)
+
+-- how many words there are after a replace that found room
+replaced-up : (x : List ℕ) {y : List ℕ} {n t from tail r : ℕ} {x′ : List ℕ} → (from + tail ≤ t) × (t ≤ length x) → length y ≡ length x → length x′ ≡ length x
+    → Replaces x y n t from tail r x′ → r ≤ length x′ → r ≡ from + n + tail
+replaced-up x {y} {n} {t} {from} {tail} {r} {x′} (a, b) k k′ f h =
+    let q = t - tail - from in
+    let z = take t x in
+    let lz = length-take-le t x b in
+    let pre = take from z in
+    let old = take q (drop from z) in
+    let post = drop q (drop from z) in
+    let lp = length-take-le from z (omega arith) in
+    let ld = length-drop from z in
+    let le = length-drop q (drop from z) in
+    let s = some-words y n in
+    let g =
+    f pre old post (sym (take-append-drop from z) ∙ ap (λ (l : List ℕ). pre ++ l) (sym (take-append-drop q (drop from z)))) lp (omega arith) y (s .w) refl k (s .wrote) in
+    let l = length-append (s .w) post in
+    ⊎-elim (λ (i : length x′ < length pre + length (s .w ++ post)). absurd (omega (arith, g .full i, s .long)))
+    (λ (i : length pre + length (s .w ++ post) ≤ length x′). omega (arith, g .fits i .0, s .long))
+    (lt-or-ge (length x′) (length pre + length (s .w ++ post)))
 
 -- ---- reseal: the last word of a cell is set
 opened : (pre b post : List ℕ) (k : Cell) (i : ℕ)
@@ -125,10 +199,39 @@ re-sealed x t lo tail h₁ h₂ pre b post k n e a c =
 pub resealed : (x : List ℕ) (t lo tail : ℕ) → lo + 6 + tail ≤ t → t ≤ length x → Reseals x t lo tail t (set x (t - tail - 1) (t - tail - lo))
 resealed x t lo tail h₁ h₂ = record { same = refl; seal = re-sealed x t lo tail h₁ h₂ }
 
--- a node that stands there has room
-pub same-room : {x : List ℕ} {t lo tail room rest : ℕ} {pre post : List ℕ} (p : Node) → Shares x lo tail room rest → Holds x t lo tail pre post p
-    → if-room (leb (rest + node-size p) room) p ≡ done p
-same-room {room = room} {rest = rest} p s h = rw (le-leb (rest + node-size p) room (omega (arith, total h, h .inside, s .all, s .outside, words-long p)))
+-- ---- replace_own
+
+-- the length of a plan with the node
+same-long : (pre sources post w : List ℕ) (k : Cell)
+    → length pre + length (sized (sources ++ w) k ++ post) ≡ length (pre ++ sources) + length (sized w k ++ post)
+same-long pre sources post w k =
+    omega (arith, length-append (sized (sources ++ w) k) post, length-append (sized w k) post, sized-long (sources ++ w) k, sized-long w k, length-append sources w, length-append pre sources)
+
+module _ (x : List ℕ) (t : ℕ) {y : List ℕ} {n lo own tail u : ℕ} {x₁ : List ℕ} (k₀ : length y ≡ length x) (k : length x₁ ≡ length x) (f : Replaces x y n t own tail u x₁) where
+  own-placed : (pre sources old post : List ℕ) → take t x ≡ pre ++ (sources ++ (old ++ post)) → length pre ≡ lo → lo + length sources ≡ own → length post ≡ tail
+      → (y₀ w : List ℕ) → length y ≡ length y₀ → Wrote y₀ 0 w n y → Placed x₁ u (pre ++ sources) post w
+  own-placed pre sources old post e a b c y₀ w l g =
+      f (pre ++ sources) old post (e ∙ sym (append-assoc pre sources (old ++ post))) (omega (arith, length-append pre sources)) c y₀ w l k₀ g
+
+  pub own-full : length x₁ < u → ReplacesOwn x y n t lo own tail u x₁
+  own-full z pre sources old post e a b c y₀ w i l g =
+      let p = own-placed pre sources old post e a b c y₀ (sized w i) l g in
+      let q = same-long pre sources post w i in
+      record { fits = λ h. absurd (omega (arith, p .fits (omega arith) .0)); full = λ h. z }
+
+  -- the cell stands behind the sources
+  pub own-room : (own + tail ≤ t) × (t ≤ length x) → (lo ≤ own) × (n ≤ length y → 6 ≤ n) → u ≤ length x₁ → (lo + 6 + tail ≤ u) × (u ≤ length x₁)
+  own-room h (i, j) z = let r = replaced-up x h k₀ k f z in (omega (arith, j (omega arith)), z)
+
+  pub own-done : u ≤ length x₁ → {r : ℕ} {x₂ : List ℕ} → length x₂ ≡ length x₁ → Reseals x₁ u lo tail r x₂ → ReplacesOwn x y n t lo own tail r x₂
+  own-done z {r} {x₂} k₂ s pre sources old post e a b c y₀ w i l g =
+      let p = own-placed pre sources old post e a b c y₀ (sized w i) l g in
+      let q = same-long pre sources post w i in
+      record {
+        fits = λ h. let (m, v) = p .fits (omega arith) in
+            (omega (arith, s .same), ap (λ (m : ℕ). take m x₂) (s .same) ∙ s .seal pre (sources ++ w) post i (length w + 6) (v ∙ simp append-assoc) a c);
+        full = λ h. absurd (omega (arith, p .full (omega arith)));
+      }
 
 pub shares-next : {x x₁ : List ℕ} {lo tail room rest : ℕ} → length x₁ ≡ length x → Shares x lo tail room rest → Shares x₁ lo tail room rest
 shares-next e s = record { all = e ∙ s .all; outside = s .outside }
@@ -214,30 +317,3 @@ module _ {Kept : Node → Node → Type 0} (fit : Inherited Kept) where
       → Edit Kept f x t lo tail t x
   edit-same f {x} {t} e room rest s pre post p k h =
       subst (λ (o : Answer Node). Left (Kept p) x t pre post o) (sym (e room rest pre post p s k h)) (left-done p k h)
-
-  -- A step: what f makes of the node is written into the scratch, and takes the node's place.
-  pub edit-step : (f : Node → Node) {x y y₁ x′ : List ℕ} {t lo tail n r : ℕ} → length y ≡ length x → length y₁ ≡ length y → length x′ ≡ length x
-      → ((room rest : ℕ) (pre post : List ℕ) (p : Node) → Shares x lo tail room rest → Kept p p → Holds x t lo tail pre post p → Wrote y 0 (node-words (f p)) n y₁)
-      → ((p : Node) → Kept p p → Kept p (f p)) → Finishes x y₁ n t lo tail r x′
-      → Edit Kept (λ room rest p. if-room (leb (rest + node-size (f p)) room) (f p)) x t lo tail r x′
-  edit-step f {y = y} k₀ k₁ k₂ m i fin room rest s pre post p k h =
-      placed-left (f p) s k₂ (h .low) (h .high) (i p k) (fin pre post p h y (node-words (f p)) k₁ (k₁ ∙ k₀) (m room rest pre post p s k h))
-
-  -- ---- the whole plan
-  pub held-top : (x : List ℕ) (t : ℕ) (p : Node) (room : ℕ) → length x ≡ 6 * room → Kept p p → take t x ≡ node-words p → t ≤ length x → Held Kept x t 0 0
-  held-top x t p room a k e h =
-      record {
-        room = room;
-        rest = 0;
-        shares = record { all = a; outside = refl };
-        pre = [];
-        post = [];
-        p = p;
-        fit = k;
-        holds = record { whole = e ∙ sym (append-nil (node-words p)); low = refl; high = refl; inside = h };
-      }
-
-  pub edit-top : (f : ℕ → ℕ → Node → Answer Node) (x : List ℕ) {t r : ℕ} {x′ : List ℕ} → Edit Kept f x t 0 0 r x′ → (p : Node) (room : ℕ) → length x ≡ 6 * room
-      → Kept p p → take t x ≡ node-words p → t ≤ length x → Left (Kept p) x′ r [] [] (f room 0 p)
-  edit-top f x e p room a k i h =
-      e room 0 (record { all = a; outside = refl }) [] [] p k (record { whole = i ∙ sym (append-nil (node-words p)); low = refl; high = refl; inside = h })

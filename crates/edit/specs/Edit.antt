@@ -70,21 +70,28 @@ pub record Inherited (Kept : Node → Node → Type 0) : Type 0 where
   pub with-sources : (outer : Bool) (j : Join) (l r m n : Node) → Kept (join outer j l r) (join outer j l r) → Kept l m → Kept r n
       → Kept (join outer j l r) (join outer j m n)
 
--- ---- contracts of the two functions that all edits are made of
+-- ---- contracts of the functions that all edits are made of
 
--- The words w stand in the node's place, or there is no room for them.
+-- The words w stand between `pre` and `post`, or there is no room for them.
 pub record Placed (x′ : List ℕ) (r : ℕ) (pre post w : List ℕ) : Type 0 where
   pub fits : length pre + length (w ++ post) ≤ length x′ → (r ≡ length pre + length (w ++ post)) × (take r x′ ≡ pre ++ (w ++ post))
   pub full : length x′ < length pre + length (w ++ post) → length x′ < r
 
--- Whatever was written into the first n words of the scratch y takes the node's place.
-abbrev pub Finishes : List ℕ → List ℕ → ℕ → ℕ → ℕ → ℕ → ℕ → List ℕ → Type 0
-Finishes x y n t lo tail r x′ =
-    (pre post : List ℕ) (p : Node) → Holds x t lo tail pre post p → (y₀ w : List ℕ) → length y ≡ length y₀ → length y ≡ length x → Wrote y₀ 0 w n y
-    → Placed x′ r pre post w
+-- Whatever was written into the first n words of the scratch y takes the place of the words from `from` up to t − tail, whatever they are.
+abbrev pub Replaces : (x y : List ℕ) (n t from tail r : ℕ) → List ℕ → Type 0
+Replaces x y n t from tail r x′ =
+    (pre old post : List ℕ) → take t x ≡ pre ++ (old ++ post) → length pre ≡ from → length post ≡ tail
+    → (y₀ w : List ℕ) → length y ≡ length y₀ → length y ≡ length x → Wrote y₀ 0 w n y → Placed x′ r pre post w
 
 -- The last cell of the node says how long the node is now.
 pub record Reseals (x : List ℕ) (t lo tail r : ℕ) (x′ : List ℕ) : Type 0 where
   pub same : r ≡ t
   pub seal : (pre b post : List ℕ) (k : Cell) (n : ℕ) → take t x ≡ pre ++ ((b ++ words k n) ++ post) → length pre ≡ lo → length post ≡ tail
       → take t x′ ≡ pre ++ (sized b k ++ post)
+
+-- Whatever was written into the scratch y, a cell over some words, takes the place of the node's own words and its cell. The cell is then over the words of
+-- the node's sources too.
+abbrev pub ReplacesOwn : (x y : List ℕ) (n t lo own tail r : ℕ) → List ℕ → Type 0
+ReplacesOwn x y n t lo own tail r x′ =
+    (pre sources old post : List ℕ) → take t x ≡ pre ++ (sources ++ (old ++ post)) → length pre ≡ lo → lo + length sources ≡ own → length post ≡ tail
+    → (y₀ w : List ℕ) (k : Cell) → length y ≡ length y₀ → Wrote y₀ 0 (sized w k) n y → Placed x′ r pre post (sized (sources ++ w) k)

@@ -7,18 +7,18 @@ use mathlib.Core.Path.{_≡_, refl, sym, ap, _∙_, subst}
 use mathlib.Core.Bool.{Bool, true, false, not, _||_, cond}
 use mathlib.Core.List.{List}
 use lib.Dec.{T, eqb}
-use lib.IntN.{ℤ, pos, negsuc}
+use lib.IntN.{ℤ}
 use lib.ListN.{length}
 use lib.Ieee as Ieee
 use lib.Ieee.{binary64}
 use lib.Ieee.Bits.{toBits-ofBits, nanBits-is}
-use Rattle.value.specs.Value.{False, Unknown, True, integer, float, string, Value, truth, datum, null, boolean}
+use Rattle.value.specs.Value.{False, Unknown, True, integer, float, string, Value, truth, datum, null, boolean, the-nan}
 use Rattle.value.specs.Meaning.{bytes-at, integer-bits, integer-of-bits}
 use Rattle.sql.specs.Expression.{And, Or, IsNull, IsNaN, Identity, Negate, GreaterThan, LessThan, Add, Divide, Unary, Not, function, Binary, logical, Equal, evaluate-unary, evaluate-binary}
-use Rattle.sheet.specs.Cell.{wide, the-nan}
-use Rattle.sheet.specs.Content.{signed, unsigned, text-at, unary-tag, binary-tag, constant-cell}
+use Rattle.sheet.specs.Cell.{wide}
+use Rattle.sheet.specs.Content.{unary-tag, binary-tag, constant-cell}
 use Rattle.sheet_laws.specs.Fits.{Value-fits}
-use Rattle.sheet_laws.specs.Exact.{signed-unsigned, unsigned-bound, wide-halves, low-word, high-word}
+use Rattle.sheet_laws.specs.Exact.{integer-kept, bits-bound, wide-halves, low-word, high-word}
 use Rattle.cells.specs.declared.Cell.{Cell}
 use Rattle.words.specs.Words.{cell}
 use Rattle.evaluate.specs.Evaluate.{Halves, of-halves}
@@ -47,11 +47,11 @@ value-said text t a b =
 
 pub value-same : (text : List ℕ) (v : Value) → Value-fits text (length text) v
     → value-said text (cell (constant-cell v) .tag) (cell (constant-cell v) .a) (cell (constant-cell v) .b) ≡ v
-unfolding cell integer-of-bits signed text-at
+unfolding cell
 value-same text (truth False) f = refl
 value-same text (truth Unknown) f = refl
 value-same text (truth True) f = refl
-value-same text (datum (integer n)) f = ap (λ (i : ℤ). datum (integer i)) (ap signed (wide-halves (unsigned n)) ∙ signed-unsigned n f)
+value-same text (datum (integer n)) f = ap (λ (i : ℤ). datum (integer i)) (ap integer-of-bits (wide-halves (integer-bits n)) ∙ integer-kept n f)
 value-same text (datum (float b)) f = ap (λ (n : ℕ). datum (float n)) (ap (λ (n : ℕ). Ieee.toBits binary64 (Ieee.ofBits binary64 n)) (wide-halves b) ∙ pattern-kept b (f .0) (f .1))
 value-same text (datum (string r s)) f = ap (λ (l : List ℕ). datum (string r l)) (sym (f .1))
 
@@ -72,17 +72,12 @@ unfolding cell
 constant-halves text h (truth False) f = (omega arith, omega arith)
 constant-halves text h (truth Unknown) f = (omega arith, omega arith)
 constant-halves text h (truth True) f = (omega arith, omega arith)
-constant-halves text h (datum (integer n)) f = (low-word (unsigned n), high-word (unsigned n) (unsigned-bound n f))
+constant-halves text h (datum (integer n)) f = (low-word (integer-bits n), high-word (integer-bits n) (bits-bound n f))
 constant-halves text h (datum (float b)) f = (low-word b, high-word b (f .0))
 constant-halves text h (datum (string r s)) f =
     (omega (arith, leb-true (r % 65536 + r / 65536) (length text) (f .0), mod-add-div r 65536, mod-lt r {m = 65536} (omega arith)), omega arith)
 
 -- ---- from a constant to its cell
-
-bits-same : (i : ℤ) → integer-bits i ≡ unsigned i
-unfolding integer-bits unsigned
-bits-same (pos n) = refl
-bits-same (negsuc n) = refl
 
 pub null-cell : of-halves 1 0 ≡ cell (constant-cell null)
 unfolding cell
@@ -98,7 +93,7 @@ false-cell = refl
 
 pub integer-cell : (i : ℤ) → of-halves 3 (integer-bits i) ≡ cell (constant-cell (datum (integer i)))
 unfolding cell
-integer-cell i = ap (of-halves 3) (bits-same i)
+integer-cell i = refl
 
 pub float-cell : (b : ℕ) → of-halves 4 b ≡ cell (constant-cell (datum (float b)))
 unfolding cell

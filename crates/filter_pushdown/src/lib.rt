@@ -66,7 +66,7 @@ fn push_filters_from(
         return t;
     }
     let back = t - deep.end;
-    let u = push_filters::push_filters(x, y, z, w, deep.left, t, lo, back, widths);
+    let u = push_filters::push_filters_in_place(x, y, z, w, deep.left, t, lo, back, widths);
     if x.len() < u {
         return u;
     }

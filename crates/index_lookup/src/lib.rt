@@ -6,7 +6,8 @@ ghost use Rattle.sql.specs.Room.{IndexLookup};
 ghost use Rattle.stream.specs.Stream.{StreamAt, Streams};
 ghost use Rattle.lookup_step.specs.Lookup.{Lent};
 
-// IndexLookup of the node from lo to hi, whose sources are visited left before right. What is lent beside x and y is for the step (crate lookup_step).
+// IndexLookup of the node from lo to hi, whose sources are visited left before right. A chain of nodes that stay as they are is gone through without a frame
+// for each (crate chain). What is lent beside x and y is for the step (crate lookup_step).
 pub fn transform(
     x: &[usize],
     lo: usize,
@@ -24,27 +25,33 @@ pub fn transform(
     requires { ⌜ (length (now z) ≡ length (now y)) × (length (now w) ≡ length (now y)) ⌝ }
     ensures { λ r. ⌜ Streams (Lent (now (widths .entry)) (now (keys .entry)) (now (marks .entry))) IndexLookup (now (x .entry)) lo hi tail (now (y .entry)) at r (now (y .exit)) ⌝ }
 {
-    let n = nodes::source_count(x, lo, hi);
+    let below = chain::descend(x, hi, lo, hi);
+    let end = below.end;
+    let back = tail + (hi - end);
+    let n = nodes::source_count(x, lo, end);
     if n == 0 {
-        return lookup_step::index_lookup(x, lo, hi, tail, y, at, z, w, widths, keys, marks);
+        let u = lookup_step::index_lookup(x, lo, end, back, y, at, z, w, widths, keys, marks);
+        return chain::follow(x, end, hi, y, at, u);
     }
-    let m = nodes::own_start(x, lo, hi);
+    let m = nodes::own_start(x, lo, end);
     if n == 1 {
-        let u = transform(x, lo, m, tail + (hi - m), y, at, z, w, widths, keys, marks);
+        let u = transform(x, lo, m, back + (end - m), y, at, z, w, widths, keys, marks);
         if y.len() < u {
             return u;
         }
-        return stream::finish(x, m, hi, y, at, u);
+        let v = stream::finish(x, m, end, y, at, u);
+        return chain::follow(x, end, hi, y, at, v);
     }
     let mid = cells::start(x, m);
-    let behind = tail + (hi - mid);
+    let behind = back + (end - mid);
     let u = transform(x, lo, mid, behind, y, at, z, w, widths, keys, marks);
     if y.len() < u {
         return u;
     }
-    let v = transform(x, mid, m, tail + (hi - m), y, u, z, w, widths, keys, marks);
+    let v = transform(x, mid, m, back + (end - m), y, u, z, w, widths, keys, marks);
     if y.len() < v {
         return v;
     }
-    stream::finish(x, m, hi, y, at, v)
+    let r = stream::finish(x, m, end, y, at, v);
+    chain::follow(x, end, hi, y, at, r)
 }

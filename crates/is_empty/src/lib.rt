@@ -120,6 +120,7 @@ fn join_is_empty(s: &[usize], lo: usize, hi: usize) -> bool
     cells::tag_at(s, m) == 57
 }
 
+// The second match of short_circuit, by how many sources the node from lo to hi has.
 pub fn is_empty(s: &[usize], lo: usize, hi: usize) -> bool
     requires { ⌜ NodeAt (now s) lo hi ⌝ }
     ensures { λ r. ⌜ IsEmpty (now (s .entry)) lo hi r ⌝ }

@@ -7,10 +7,10 @@ use mathlib.Core.Path.{_≡_, refl, sym, ap, _∙_, subst}
 use mathlib.Core.List.{List, [], _∷_, _++_, map}
 use lib.ListN.{length, getD, length-append, length-map, List·getD-map, List·getD-append, List·getD-eq-default}
 use lib.Seq.{getD-append-add}
+use Rattle.value.specs.Meaning.{bytes-at}
 use Rattle.sql.specs.Schema.{Column, Table, Schema, no-column, no-table, table-of, column-of}
 use Rattle.sql.specs.Plan.{Node, table-label, column-label, qualified}
 use Rattle.sql.specs.Plan as plan
-use Rattle.sheet.specs.Content.{text-at}
 use Rattle.words.specs.Place.{NodeHere}
 use Rattle.nodes.specs.Columns.{Tables}
 use Rattle.nodes.proofs.Widths.{table-width}
@@ -109,6 +109,6 @@ module _ {widths names columns s : List ℕ} {lo hi i : ℕ} {x : Origin} (f : T
 
 -- The text of the chosen reference is the chosen text.
 pub chosen-text : (text : List ℕ) (aliased : Bool) (alias name : ℕ)
-    → text-at text (plan.qualifier (alias-if aliased alias) name) ≡ qualifier-text aliased (text-at text alias) (text-at text name)
+    → bytes-at text (plan.qualifier (alias-if aliased alias) name) ≡ qualifier-text aliased (bytes-at text alias) (bytes-at text name)
 chosen-text text true alias name = refl
 chosen-text text false alias name = refl

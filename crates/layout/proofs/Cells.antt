@@ -1,8 +1,6 @@
 -- Laws on what a cell's layout allows.
 use Prim.Native.Nat.{ℕ, zero, suc, _+_, _-_, _*_, _/_, _%_, _≤_, _<_}
 use native.Mathlib.Omega.{arith}
-use native.Mathlib.Decide.{decLt}
-use mathlib.Core.Logic.{_⊎_, inl, inr, ⊎-elim}
 use mathlib.Core.Path.{_≡_, refl, sym, ap, _∙_}
 use mathlib.Core.Bool.{Bool, true, false, not, _&&_, _||_, cond}
 use mathlib.Core.List.{List, [], _∷_, map}
@@ -12,9 +10,11 @@ use lib.Ieee as Ieee
 use lib.Ieee.Bits.{nanBits-above}
 use lib.ListN.{length, getD}
 use borrow.Author.Tests.{lt-ltb, le-ltb, eq-eqb, ne-eqb, eqb-true}
+use Rattle.value.specs.Value.{the-nan}
 use Rattle.sql.specs.Plan.{up-to}
+use Rattle.sql.specs.Ranges.{same-in}
 use Rattle.sheet.specs.Parts.{first-failing, table-count, tables-at}
-use Rattle.sheet.specs.Cell.{Field, Tag, table, text, unknown, not-carried, carried, tags, tag-of, field-ok, fields-ok, wide, the-nan, float-ok, cell-ok, bad-cell, bad-number}
+use Rattle.sheet.specs.Cell.{Field, Tag, table, text, unknown, not-carried, carried, tags, tag-of, field-ok, fields-ok, wide, float-ok, cell-ok, bad-cell, bad-number}
 use Rattle.sheet.specs.Cell as Sheet
 use Rattle.layout.specs.declared.Cell.{Cell}
 use Rattle.layout.specs.declared.Parts.{Parts}
@@ -23,24 +23,6 @@ use Rattle.layout.specs.Row.{field-of, tag-from}
 use Rattle.layout.proofs.Laws.{fails, text-is, tables-are, cells-are, cell-there}
 
 -- ---- rows
-
-lt-or-ge : (a b : ℕ) → (a < b) ⊎ (b ≤ a)
-lt-or-ge a b = go (decLt a b)
-  where
-    go : Dec (a < b) → (a < b) ⊎ (b ≤ a)
-    go (yes h) = inl h
-    go (no h) = inr (omega arith)
-
-abbrev rest : {A : Type 0} → List A → List A
-rest [] = []
-rest (x ∷ l) = l
-
--- Two functions agree on a number of a range, if they do on the list of all its numbers.
-pub same-in : {A : Type 0} (f g : ℕ → A) (from n : ℕ) → map f (up-to from n) ≡ map g (up-to from n) → (i : ℕ) → from ≤ i → i < from + n → f i ≡ g i
-same-in f g from zero e i h j = absurd (omega arith)
-same-in f g from (suc n) e i h j =
-    ⊎-elim (λ (z : from < i). same-in f g (suc from) n (ap rest e) i (omega arith) (omega arith))
-    (λ (z : i ≤ from). let k : i ≡ from = omega arith in ap f k ∙ ap (λ (l : List _). getD l 0 (g from)) e ∙ sym (ap g k)) (lt-or-ge from i)
 
 -- A row says what the definition says of the tags in a range.
 pub row-in : (row from n : ℕ) → map tag-of (up-to from n) ≡ map (λ t. tag-from row) (up-to from n) → (t : ℕ) → from ≤ t → t < from + n → tag-from row ≡ tag-of t

@@ -9,9 +9,9 @@ use mathlib.Core.Logic.{_⊎_, inl, inr, ⊎-elim}
 use lib.Dec.{ltb, eqb}
 use lib.ListN.{length, getD, List·getD-eq-default}
 use borrow.Author.Tests.{lt-ltb, le-ltb, ne-eqb}
-use Rattle.layout.proofs.Cells.{same-in}
 use Rattle.sql.specs.Schema.{Table, Schema, no-table}
 use Rattle.sql.specs.Plan.{up-to}
+use Rattle.sql.specs.Ranges.{same-in}
 use Rattle.sheet.specs.Parts.{table-count, columns-of, first-column}
 use Rattle.sheet.specs.Cell.{Cell}
 use Rattle.sheet.specs.Check.{schema, table, column}

@@ -16,8 +16,9 @@ use Rattle.cells.proofs.Laws.{lt-or-ge}
 use Rattle.words.specs.Words.{cell, all-words, root, operand-words, expression-words, optional-words, constant-words, label-words, target-words, item-words, key-words, agg-words, row-words, leaf-own, over-own, join-own, own-words, source-words, node-cell, leaf-cell, over-cell, join-cell, source-count}
 use Rattle.words.specs.Place.{NodeHere, NodeAt}
 use Rattle.words.proofs.Expressions.{shape}
-use Rattle.words.proofs.Nodes.{node-cell-is, node-tag, own-part, node-in}
-use Rattle.words.proofs.Tags.{tag-of, tagged, tag-known, told, sources-by-tag, by-aggregate, by-filter, by-nested-loop}
+use Rattle.words.proofs.Nodes.{node-cell-is, node-tag, own-part, node-in, node-long}
+use Rattle.words.proofs.Sizes.{over-long}
+use Rattle.words.proofs.Tags.{tag-of, tagged, tag-known, told, sources-by-tag, by-aggregate, by-filter, by-remap, by-nested-loop}
 use Rattle.nodes.specs.Trees.{Trees, TreesAt, trees-start}
 use Rattle.nodes.specs.Trees as trees
 use Rattle.nodes.specs.Own.{leaf-count, over-count, join-count, own-count, OwnStart, OwnTrees, SourceCount}
@@ -143,6 +144,22 @@ module _ {s : List ℕ} {lo hi n : ℕ} (k : SourceCount s lo hi n) where
     pub own-start-said : {m : ℕ} → m ≡ trees-start s r (hi - 6) → OwnStart s lo hi m
     own-start-said e p u =
         e ∙ ap (λ (i : ℕ). trees-start s i (hi - 6)) (f p u (λ y. z (k p u ∙ y))) ∙ trees-start-is (own-trees p) (own-part p u refl)
+
+-- a Remap's, whose Targets are one cell each
+module _ {s : List ℕ} {lo hi r : ℕ} (f : OwnTrees s lo hi r) (z : tag-at s hi ≡ 61) where
+  remap-here : (P : Node → Type 0)
+      → ((ts : List (Option ℕ)) (n : Node) → hi ≡ lo + length (source-words (over (other (remap ts)) n)) + 6 * r + 6 → P (over (other (remap ts)) n))
+      → (p : Node) → NodeHere s lo hi p → P p
+  remap-here P g p u =
+      by-remap (λ p. NodeHere s lo hi p → P p)
+      (λ ts n u. let q = over (other (remap ts)) n in g ts n (omega (arith, f q u (λ y. omega arith), over-long (other (remap ts)), node-long q u)))
+      p (sym (tagged p) ∙ sym (node-tag p u) ∙ z) u
+
+  pub targets-fit : NodeAt s lo hi → 6 * r + 6 ≤ hi
+  targets-fit t = remap-here (λ p. 6 * r + 6 ≤ hi) (λ ts n e. omega arith) (t .p) (t .here)
+
+  pub remap-start : OwnStart s lo hi (hi - 6 - 6 * r)
+  remap-start p u = remap-here (λ p. hi - 6 - 6 * r ≡ lo + length (source-words p)) (λ ts n e. omega arith) p u
 
 pub at-in : {s : List ℕ} {lo hi : ℕ} → NodeAt s lo hi → (lo + 6 ≤ hi) × (hi ≤ length s)
 at-in t = node-in (t .p) (t .here)

@@ -72,7 +72,8 @@ fn own_trees(s: &[usize], lo: usize, hi: usize) -> usize
     0
 }
 
-// Where the own words of the node from lo to hi start: those of its parts, between its sources and its cell.
+// Where the own words of the node from lo to hi start: those of its parts, between its sources and its cell. A Remap's Targets, of which there can be many,
+// are one cell each.
 pub fn own_start(s: &[usize], lo: usize, hi: usize) -> usize
     requires { ⌜ NodeAt (now s) lo hi ⌝ }
     ensures { λ r. ⌜ OwnStart (now (s .entry)) lo hi r ⌝ }
@@ -81,6 +82,9 @@ pub fn own_start(s: &[usize], lo: usize, hi: usize) -> usize
         return lo;
     }
     let n = own_trees(s, lo, hi);
+    if cells::tag_at(s, hi) == 61 {
+        return hi - 6 - 6 * n;
+    }
     trees_start(s, n, hi - 6)
 }
 

@@ -17,7 +17,7 @@ use Rattle.sound.specs.Refusals.{Refused-by, From-to, plan-refused}
 use Rattle.checker.specs.Checker.{numbers}
 use Rattle.checker.specs.declared.Answer as Code
 use Rattle.hand_out.specs.HandOut.{outcome}
-use Rattle.operations.specs.Rooms.{AcceptedAt}
+use Rattle.operations.specs.Rooms.{FitsIn}
 
 outcome-of : (a : Code.Answer) (out : List ℕ) (m : Numbers) → numbers a ≡ m → outcome a out ≡ record { numbers = m; output = out }
 outcome-of a out m e = ap (λ (z : Numbers). record { numbers = z; output = out }) e
@@ -54,8 +54,8 @@ stands s b a e z = go (plan s) refl e (plan-refused s)
         }
     go (refused number place) p g x = absurd (omega (arith, x .0, z, ap (λ (m : Numbers). m .number) g))
 
-pub accepted-at : {s : List ℕ} {a : Code.Answer} → Stands s a → AcceptedAt s (a .cells)
-accepted-at t = record { node = t .node; is = t .is; size = t .size; few = omega (arith, t .size, t .few) }
+pub fits : {s : List ℕ} {a : Code.Answer} → Stands s a → FitsIn (a .cells) s × (a .cells ≤ 2048)
+fits t = (record { node = t .node; is = t .is; fits = omega (arith, t .size) }, omega (arith, t .size, t .few))
 
 -- ---- one pass
 

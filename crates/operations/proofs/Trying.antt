@@ -20,7 +20,7 @@ use Rattle.optimizer.specs.declared.Chosen.{Chosen}
 use Rattle.optimizer.specs.declared.Chosen.the-variants.{One, All}
 use Rattle.hand_out.specs.HandOut.{outcome}
 use Rattle.sheet_passes.specs.SheetPasses.{RunAt, RunsOn}
-use Rattle.operations.specs.Rooms.{AcceptedAt, FitsIn, RunsIn}
+use Rattle.operations.specs.Rooms.{FitsIn, RunsIn}
 
 chosen-settled : (c : Chosen) (room more : ℕ) → room ≤ more → (schema : Schema) (n : Node) (r : Answer Node) → chosen c room schema n ≡ r → Settled r → chosen c more schema n ≡ r
 chosen-settled (One k) room more h schema n r e s = pass-settled room more h schema k n r e s
@@ -54,6 +54,9 @@ again room more s c count out a out₁ b out₂ z first second node is k =
     second node is k ∙ ap (λ (l : List ℕ). hand-out s l (chosen c more (schema s) node)) same
 
 -- ---- arrays with this room
+
+pub in-more : {s : List ℕ} {room more : ℕ} → FitsIn room s → room ≤ more → FitsIn more s
+in-more f h = record { node = f .node; is = f .is; fits = omega (arith, f .fits) }
 
 pub run-at : {s x y z w : List ℕ} (room : ℕ) → FitsIn room s → length x ≡ 6 * room → Alike x y z w → length x ≤ 16777216 → RunAt s x y z w
 run-at room f e a h = record { node = f .node; is = f .is; room = room; all = e; fits = f .fits; alike = a; short = h }

@@ -11,14 +11,7 @@ use Rattle.optimizer.specs.Choices.{chosen}
 use Rattle.optimizer.specs.declared.Chosen.{Chosen}
 use Rattle.hand_out.specs.HandOut.{outcome}
 
--- s stands for some plan of so many cells, at most 2,048.
-pub record AcceptedAt (s : List ℕ) (cells : ℕ) : Type 0 where
-  pub node : Node
-  pub is : plan s ≡ done node
-  pub size : cells ≡ node-size node
-  pub few : cells ≤ 2048
-
--- It fits in the room.
+-- s stands for some plan, which fits in the room.
 pub record FitsIn (room : ℕ) (s : List ℕ) : Type 0 where
   pub node : Node
   pub is : plan s ≡ done node

@@ -1,5 +1,5 @@
-// The operations that hand out a sheet, one pass and all five, on any bytes. Most plans are small, so that buffers with room for few cells are tried first;
-// what is refused there for want of room, by 14, is run again with document 01's 2,048 cells.
+// The operations that hand out a sheet, one pass and all five, on any bytes. Most plans are small, and buffers take time to clear: the smallest that hold a
+// plan are tried first, and what is refused there for want of room, by 14, is run again in larger ones, up to document 01's 2,048 cells.
 use checker::Answer;
 use optimizer::Chosen;
 ghost use mathlib.Core.Path.{_≡_};
@@ -7,10 +7,24 @@ ghost use Prim.Native.Nat.{_≤_};
 ghost use Rattle.sheet.specs.Operations.{one-pass, all-five};
 ghost use Rattle.optimizer.specs.Choices.{Choice};
 ghost use Rattle.hand_out.specs.HandOut.{outcome};
-ghost use Rattle.operations.specs.Rooms.{AcceptedAt, FitsIn, RunsIn};
+ghost use Rattle.operations.specs.Rooms.{FitsIn, RunsIn};
+
+// Buffers for 16 cells. Each size is about three times the one before and has a function of its own, so that a small plan has a small frame: each page of a
+// frame is touched when the function is entered.
+fn in_16(s: &[u8], c: Chosen, count: usize, out: &mut [u8]) -> Answer
+    requires { ⌜ Choice c ⌝ }
+    requires { ⌜ FitsIn 16 (now s) ⌝ }
+    ensures { λ a. ⌜ RunsIn 16 (now (s .entry)) c count (now (out .entry)) a (now (out .exit)) ⌝ }
+{
+    let mut x = [0usize; 96];
+    let mut y = [0usize; 96];
+    let mut z = [0usize; 96];
+    let mut w = [0usize; 96];
+    sheet_passes::run(s, c, count, &mut x, &mut y, &mut z, &mut w, out)
+}
 
 // Buffers for 64 cells.
-fn in_small(s: &[u8], c: Chosen, count: usize, out: &mut [u8]) -> Answer
+fn in_64(s: &[u8], c: Chosen, count: usize, out: &mut [u8]) -> Answer
     requires { ⌜ Choice c ⌝ }
     requires { ⌜ FitsIn 64 (now s) ⌝ }
     ensures { λ a. ⌜ RunsIn 64 (now (s .entry)) c count (now (out .entry)) a (now (out .exit)) ⌝ }
@@ -22,8 +36,34 @@ fn in_small(s: &[u8], c: Chosen, count: usize, out: &mut [u8]) -> Answer
     sheet_passes::run(s, c, count, &mut x, &mut y, &mut z, &mut w, out)
 }
 
+// Buffers for 192 cells.
+fn in_192(s: &[u8], c: Chosen, count: usize, out: &mut [u8]) -> Answer
+    requires { ⌜ Choice c ⌝ }
+    requires { ⌜ FitsIn 192 (now s) ⌝ }
+    ensures { λ a. ⌜ RunsIn 192 (now (s .entry)) c count (now (out .entry)) a (now (out .exit)) ⌝ }
+{
+    let mut x = [0usize; 1152];
+    let mut y = [0usize; 1152];
+    let mut z = [0usize; 1152];
+    let mut w = [0usize; 1152];
+    sheet_passes::run(s, c, count, &mut x, &mut y, &mut z, &mut w, out)
+}
+
+// Buffers for 640 cells.
+fn in_640(s: &[u8], c: Chosen, count: usize, out: &mut [u8]) -> Answer
+    requires { ⌜ Choice c ⌝ }
+    requires { ⌜ FitsIn 640 (now s) ⌝ }
+    ensures { λ a. ⌜ RunsIn 640 (now (s .entry)) c count (now (out .entry)) a (now (out .exit)) ⌝ }
+{
+    let mut x = [0usize; 3840];
+    let mut y = [0usize; 3840];
+    let mut z = [0usize; 3840];
+    let mut w = [0usize; 3840];
+    sheet_passes::run(s, c, count, &mut x, &mut y, &mut z, &mut w, out)
+}
+
 // Buffers for 2,048 cells.
-fn in_full(s: &[u8], c: Chosen, count: usize, out: &mut [u8]) -> Answer
+fn in_2048(s: &[u8], c: Chosen, count: usize, out: &mut [u8]) -> Answer
     requires { ⌜ Choice c ⌝ }
     requires { ⌜ FitsIn 2048 (now s) ⌝ }
     ensures { λ a. ⌜ RunsIn 2048 (now (s .entry)) c count (now (out .entry)) a (now (out .exit)) ⌝ }
@@ -35,29 +75,42 @@ fn in_full(s: &[u8], c: Chosen, count: usize, out: &mut [u8]) -> Answer
     sheet_passes::run(s, c, count, &mut x, &mut y, &mut z, &mut w, out)
 }
 
-// In the small buffers, and where these have no room in the large ones.
-fn small_first(s: &[u8], c: Chosen, count: usize, out: &mut [u8]) -> Answer
-    requires { ⌜ Choice c ⌝ }
-    requires { ⌜ FitsIn 64 (now s) ⌝ }
-    ensures { λ a. ⌜ RunsIn 2048 (now (s .entry)) c count (now (out .entry)) a (now (out .exit)) ⌝ }
-{
-    let a = in_small(s, c, count, out);
-    if a.number == 14 {
-        return in_full(s, c, count, out);
-    }
-    a
-}
-
-// The chosen passes on a sheet that is accepted, of so many columns and cells.
+// The chosen passes on a sheet that is accepted, of at most so many cells: in the smallest buffers that hold it, and where these have no room in the next
+// ones. It calls itself for these, and so keeps a small frame: LLVM puts no callee with a large frame into a function that calls itself.
 fn run(s: &[u8], c: Chosen, count: usize, cells: usize, out: &mut [u8]) -> Answer
     requires { ⌜ Choice c ⌝ }
-    requires { ⌜ AcceptedAt (now s) cells ⌝ }
+    requires { ⌜ FitsIn cells (now s) × (cells ≤ 2048) ⌝ }
     ensures { λ a. ⌜ RunsIn 2048 (now (s .entry)) c count (now (out .entry)) a (now (out .exit)) ⌝ }
 {
-    if cells <= 64 {
-        return small_first(s, c, count, out);
+    if cells <= 16 {
+        let a = in_16(s, c, count, out);
+        if a.number == 14 {
+            return run(s, c, count, 64, out);
+        }
+        return a;
     }
-    in_full(s, c, count, out)
+    if cells <= 64 {
+        let a = in_64(s, c, count, out);
+        if a.number == 14 {
+            return run(s, c, count, 192, out);
+        }
+        return a;
+    }
+    if cells <= 192 {
+        let a = in_192(s, c, count, out);
+        if a.number == 14 {
+            return run(s, c, count, 640, out);
+        }
+        return a;
+    }
+    if cells <= 640 {
+        let a = in_640(s, c, count, out);
+        if a.number == 14 {
+            return run(s, c, count, 2048, out);
+        }
+        return a;
+    }
+    in_2048(s, c, count, out)
 }
 
 // One pass by its number, 1 to 5.

@@ -1,41 +1,130 @@
-// optimizer.rs, push_filters, in place (crate edit): the whole plan stands in the first t words of x, the node that is worked on from lo up to t - tail. A
-// number of words past the end of x stands for refusal 14. y, z and w are scratch; widths is the number of columns of each table. n bounds the nodes, as in
-// the definition (crate sql, Room).
+// optimizer.rs, push_filters and maybe_push_filter, in place (crate edit): the whole plan stands in the first t words of x, the node that is worked on from lo
+// up to t - tail. A number of words past the end of x stands for refusal 14. y, z and w are scratch; widths is the number of columns of each table. n bounds
+// the nodes, as in the definition (crate sql, Room).
+//
+// A run of Filters can be as long as the plan. So a Filter that is merged into one is only gathered: its predicate is the first `at` words of y, its source
+// ends at `end` in x, and the words from there up to t - tail are gone once it is placed. With at = 0 nothing is gathered, and the node is no Filter.
+ghost use mathlib.Core.Path.{_≡_};
+ghost use Prim.Native.Nat.{_+_, _≤_};
+ghost use lib.ListN.{length};
 ghost use Rattle.sql.specs.Room;
 ghost use Rattle.kept.specs.Pass.{PassAt, Passes};
 ghost use Rattle.push_filters.specs.Buffers.{Buffers};
+ghost use Rattle.push_filters.specs.Tried.{TriedAt, Tries, Gathers, Filters};
 
-// A Filter that its source takes is gone, and push_filters goes on with the source.
+// The predicate of x from lo to hi is gathered behind the one in the first `at` words of y, with an And over both.
+fn gather(x: &[usize], lo: usize, hi: usize, y: &mut [usize], at: usize) -> usize
+    requires { ⌜ (lo ≤ hi) × (hi ≤ length (now x)) ⌝ }
+    ensures { λ r. ⌜ Gathers (now (x .entry)) lo hi (now (y .entry)) at r (now (y .exit)) ⌝ }
+{
+    let m = cells::copy(x, lo, hi, y, at);
+    cells::put(
+        y,
+        0,
+        m,
+        cells::Cell {
+            tag: 10,
+            flag: 0,
+            a: 0,
+            b: 0,
+            c: 0,
+        },
+    )
+}
+
+// A Filter with the predicate in the first n words of y, over the node of x from lo up to `end`, takes the place of all from lo up to t - tail.
+fn filter_over(
+    x: &mut [usize],
+    y: &mut [usize],
+    n: usize,
+    t: usize,
+    lo: usize,
+    end: usize,
+    tail: usize,
+) -> usize
+    requires { ⌜ lo ≤ end ⌝ }
+    requires { ⌜ (end + tail ≤ t) × (t ≤ length (now x)) ⌝ }
+    requires { ⌜ length (now y) ≡ length (now x) ⌝ }
+    ensures { λ r. ⌜ Filters (now (x .entry)) (now (y .entry)) n t lo end tail r (now (x .exit)) ⌝ }
+{
+    let m = cells::put(
+        y,
+        0,
+        n,
+        cells::Cell {
+            tag: 51,
+            flag: 0,
+            a: 0,
+            b: 0,
+            c: 0,
+        },
+    );
+    edit::replace_own(x, y, m, t, lo, end, tail)
+}
+
+// A Filter that its source takes is gone, and push_filters goes on with the source. No merge makes the plan larger: there is room for it.
 fn maybe_push_filter(
     x: &mut [usize],
     y: &mut [usize],
     z: &mut [usize],
     w: &mut [usize],
     n: usize,
+    at: usize,
+    end: usize,
     t: usize,
     lo: usize,
     tail: usize,
     widths: &[usize],
 ) -> usize
-    requires { ⌜ PassAt (now widths) (now x) t lo tail ⌝ }
+    requires { ⌜ TriedAt (now widths) (now x) (now y) at end t lo tail ⌝ }
     requires { ⌜ Buffers (now x) (now y) (now z) (now w) ⌝ }
-    ensures { λ r. ⌜ Passes (λ room schema. Room.maybe-push-filter room schema n) (now (widths .entry)) (now (x .entry)) t lo tail r (now (x .exit)) ⌝ }
+    ensures { λ r. ⌜ Tries (λ room schema. Room.maybe-push-filter room schema n) (now (widths .entry)) (now (x .entry)) (now (y .entry)) at end t lo tail r (now (x .exit)) ⌝ }
 {
-    if n == 0 {
+    if at == 0 {
         return t;
     }
-    if push_into::merges(x, lo, t - tail) {
-        let merged = push_into::push_into(x, y, t, lo, tail);
-        if x.len() < merged {
-            return merged;
-        }
-        return push_filters(x, y, z, w, n - 1, merged, lo, tail, widths);
+    if n == 0 {
+        return filter_over(x, y, at, t, lo, end, tail);
     }
-    t
+    if cells::tag_at(x, end) == 51 {
+        let own = nodes::own_start(x, lo, end);
+        let more = gather(x, own, end - 6, y, at);
+        return push_filters(x, y, z, w, n - 1, more, own, t, lo, tail, widths);
+    }
+    if push_into::takes(x, lo, end) {
+        let into = push_into::push_into(x, y, at, t, lo, end, tail);
+        return push_filters(x, y, z, w, n - 1, 0, end, into, lo, tail, widths);
+    }
+    filter_over(x, y, at, t, lo, end, tail)
 }
 
 // maybe_push_filter, then the join rule.
-pub fn push_filters(
+fn push_filters(
+    x: &mut [usize],
+    y: &mut [usize],
+    z: &mut [usize],
+    w: &mut [usize],
+    n: usize,
+    at: usize,
+    end: usize,
+    t: usize,
+    lo: usize,
+    tail: usize,
+    widths: &[usize],
+) -> usize
+    requires { ⌜ TriedAt (now widths) (now x) (now y) at end t lo tail ⌝ }
+    requires { ⌜ Buffers (now x) (now y) (now z) (now w) ⌝ }
+    ensures { λ r. ⌜ Tries (λ room schema. Room.push-filters room schema n) (now (widths .entry)) (now (x .entry)) (now (y .entry)) at end t lo tail r (now (x .exit)) ⌝ }
+{
+    let pushed = maybe_push_filter(x, y, z, w, n, at, end, t, lo, tail, widths);
+    if x.len() < pushed {
+        return pushed;
+    }
+    push_join::maybe_push_join(x, y, z, w, pushed, lo, tail, widths)
+}
+
+// push_filters of the node that stands in x from lo up to t - tail.
+pub fn push_filters_in_place(
     x: &mut [usize],
     y: &mut [usize],
     z: &mut [usize],
@@ -50,9 +139,11 @@ pub fn push_filters(
     requires { ⌜ Buffers (now x) (now y) (now z) (now w) ⌝ }
     ensures { λ r. ⌜ Passes (λ room schema. Room.push-filters room schema n) (now (widths .entry)) (now (x .entry)) t lo tail r (now (x .exit)) ⌝ }
 {
-    let pushed = maybe_push_filter(x, y, z, w, n, t, lo, tail, widths);
-    if x.len() < pushed {
-        return pushed;
+    let hi = t - tail;
+    if cells::tag_at(x, hi) == 51 {
+        let own = nodes::own_start(x, lo, hi);
+        let at = cells::copy(x, own, hi - 6, y, 0);
+        return push_filters(x, y, z, w, n, at, own, t, lo, tail, widths);
     }
-    push_join::maybe_push_join(x, y, z, w, pushed, lo, tail, widths)
+    push_filters(x, y, z, w, n, 0, hi, t, lo, tail, widths)
 }

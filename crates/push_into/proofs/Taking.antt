@@ -3,9 +3,9 @@ use Prim.Native.Nat.{ℕ, _+_, _-_, _≤_}
 use native.Mathlib.Omega.{arith}
 use mathlib.Core.Bool.{Bool, true, false}
 use mathlib.Core.Path.{_≡_, refl, sym, ap, _∙_, subst}
-use mathlib.Core.List.{List, _++_, append-assoc}
+use mathlib.Core.List.{List, [], _++_, append-assoc}
 use mathlib.Core.Option.{Option, none, some}
-use lib.ListN.{length}
+use lib.ListN.{length, take, drop, take-append-drop}
 use Rattle.value.specs.Value.{null}
 use Rattle.sql.specs.Expression.{Expression, constant, and}
 use Rattle.sql.specs.Plan.{scan, lookup, nothing, values, filter, other, nested-loop, hash, Node, leaf, over, join}
@@ -13,18 +13,20 @@ use Rattle.sql.specs.Optimizer.{and-with, push-into}
 use Rattle.sheet.specs.Content.{bit}
 use Rattle.sheet.specs.Cells.{present}
 use Rattle.cells.specs.declared.Cell.{Cell}
-use Rattle.cells.specs.Cells.{sized, cell-at, tag-at}
+use Rattle.cells.specs.Cells.{words, sized, cell-at, tag-at}
 use Rattle.cells.specs.Room.{Wrote, Seals, Copies}
-use Rattle.cells.proofs.Laws.{then}
-use Rattle.words.specs.Words.{cell, root, expression-words, operand-words, node-words, source-words, own-words, node-cell}
+use Rattle.cells.proofs.Laws.{nothing as no-words, then, wrote-up}
+use Rattle.words.specs.Words.{cell, root, expression-words, operand-words, source-words, own-words, node-cell}
 use Rattle.words.specs.Place.{NodeHere, NodeAt}
 use Rattle.words.proofs.Expressions.{shape}
 use Rattle.words.proofs.Sizes.{sized-long}
 use Rattle.words.proofs.Writing.{plain}
-use Rattle.words.proofs.Nodes.{node-cell-is, node-tag, node-in, node-long, own-part}
+use Rattle.words.proofs.Nodes.{node-shape, node-cell-is, node-tag, node-in, node-long, own-part}
 use Rattle.words.proofs.Tags.{tag-of, tagged, by-scan, by-filter, by-nested-loop}
 use Rattle.nodes.specs.Own.{OwnStart}
-use Rattle.push_into.specs.Push.{is-some, Takes, TakerAt, Pushes}
+use Rattle.edit.specs.Edit.{Placed, ReplacesOwn}
+use Rattle.edit.proofs.Edits.{some-words}
+use Rattle.push_into.specs.Push.{is-some, Takes, TakerAt, Pushes, PushesInPlace}
 
 -- ---- which nodes take a predicate, by their tags
 module _ {s : List ℕ} {lo hi : ℕ} where
@@ -65,7 +67,7 @@ module _ {s : List ℕ} {lo hi : ℕ} where
 pub no-true : {A : Type 0} → false ≡ true → A
 no-true h = let y : _≡_ {A = ℕ} 0 1 = ap bit h in absurd (omega arith)
 
-pub no-false : {A : Type 0} → true ≡ false → A
+no-false : {A : Type 0} → true ≡ false → A
 no-false h = let y : _≡_ {A = ℕ} 1 0 = ap bit h in absurd (omega arith)
 
 no-node : {A : Type 0} (pushed : Node) → _≡_ {A = Option Node} none (some pushed) → A
@@ -135,75 +137,114 @@ flag-small {k = k} g i =
     let b = by-taker e (λ source pushed. cell (node-cell source) .flag ≤ 3) scan-flag filter-flag join-flag (g .p) (t .pushed) (t .is) in
     omega (arith, b, ap (λ (c : Cell). c .flag) (i ∙ node-cell-is (g .p) (g .here)))
 
--- ---- the words of the node with the predicate
+-- ---- the own words and the cell of the node with the predicate
 
 has-words : (q : Expression) → 6 ≤ length (expression-words q)
 has-words q = omega (arith, ap length (shape q), sized-long (operand-words q) (cell (root q)))
 
+-- the own words and the cell, over some words b too
+abbrev pub own-over : List ℕ → Node → List ℕ
+own-over b p = sized (b ++ own-words p) (cell (node-cell p))
+
 -- a node that had none
 abbrev Alone : Expression → Node → Node → Type 0
-Alone e source pushed = length (own-words source) ≡ 0 → sized (source-words source ++ expression-words e) (flagged (cell (node-cell source))) ≡ node-words pushed
+Alone e source pushed = length (own-words source) ≡ 0 → (b : List ℕ) → sized (b ++ expression-words e) (flagged (cell (node-cell source))) ≡ own-over b pushed
 
 alone-scan : (e : Expression) (t : ℕ) (al : Option ℕ) (q : Option Expression) → Alone e (leaf (scan t al q)) (leaf (scan t al (some (and-with e q))))
-unfolding cell node-words
-alone-scan e t none none z = refl
-alone-scan e t (some r) none z = refl
-alone-scan e t al (some q) z = absurd (omega (arith, has-words q))
+unfolding cell
+alone-scan e t none none z b = refl
+alone-scan e t (some r) none z b = refl
+alone-scan e t al (some q) z b = absurd (omega (arith, has-words q))
 
 alone-join : (e : Expression) (outer : Bool) (q : Option Expression) (l r : Node)
     → Alone e (join outer (nested-loop q) l r) (join outer (nested-loop (some (and-with e q))) l r)
-unfolding cell node-words
-alone-join e true none l r z = simp append-assoc
-alone-join e false none l r z = simp append-assoc
-alone-join e outer (some q) l r z = absurd (omega (arith, has-words q))
+unfolding cell
+alone-join e true none l r z b = refl
+alone-join e false none l r z b = refl
+alone-join e outer (some q) l r z b = absurd (omega (arith, has-words q))
 
 alone : (e : Expression) (source pushed : Node) → push-into e source ≡ some pushed → Alone e source pushed
-alone e = by-taker e (Alone e) (alone-scan e) (λ q n z. absurd (omega (arith, has-words q))) (alone-join e)
+alone e = by-taker e (Alone e) (alone-scan e) (λ q n z b. absurd (omega (arith, has-words q))) (alone-join e)
 
 -- a node that had one
 abbrev Both : Expression → Node → Node → Type 0
-Both e source pushed = (length (own-words source) ≡ 0 → ⊥)
-    → sized (source-words source ++ sized (expression-words e ++ own-words source) (plain 10)) (cell (node-cell source)) ≡ node-words pushed
+Both e source pushed = (length (own-words source) ≡ 0 → ⊥) → (b : List ℕ)
+    → sized (b ++ sized (expression-words e ++ own-words source) (plain 10)) (cell (node-cell source)) ≡ own-over b pushed
 
 both-scan : (e : Expression) (t : ℕ) (al : Option ℕ) (q : Option Expression) → Both e (leaf (scan t al q)) (leaf (scan t al (some (and-with e q))))
-unfolding cell node-words expression-words
-both-scan e t al none z = absurd (z refl)
-both-scan e t al (some q) z = refl
+unfolding cell expression-words
+both-scan e t al none z b = absurd (z refl)
+both-scan e t al (some q) z b = refl
 
 both-filter : (e q : Expression) (n : Node) → Both e (over (filter q) n) (over (filter (and e q)) n)
-unfolding cell node-words expression-words
-both-filter e q n z = refl
+unfolding cell expression-words
+both-filter e q n z b = refl
 
 both-join : (e : Expression) (outer : Bool) (q : Option Expression) (l r : Node)
     → Both e (join outer (nested-loop q) l r) (join outer (nested-loop (some (and-with e q))) l r)
-unfolding cell node-words expression-words
-both-join e outer none l r z = absurd (z refl)
-both-join e outer (some q) l r z = simp append-assoc
+unfolding cell expression-words
+both-join e outer none l r z b = absurd (z refl)
+both-join e outer (some q) l r z b = refl
 
 both : (e : Expression) (source pushed : Node) → push-into e source ≡ some pushed → Both e source pushed
 both e = by-taker e (Both e) (both-scan e) (both-filter e) (both-join e)
 
+-- the sources stay
+pub same-sources : (e : Expression) (source pushed : Node) → push-into e source ≡ some pushed → source-words source ≡ source-words pushed
+same-sources e =
+    by-taker e (λ source pushed. source-words source ≡ source-words pushed) (λ t al q. refl) (λ q n. refl) (λ outer q l r. refl)
+
 -- ---- the two ways out of with_predicate
+
+-- a cell that was put over all that was written ends behind its own words
+pub put-long : (k : Cell) {d : List ℕ} {at n : ℕ} {d′ : List ℕ} → Seals d 0 at k n d′ → n ≤ length d → 6 ≤ n
+put-long k {d} {at} f h =
+    let s = some-words d at in omega (arith, wrote-up (f d (s .w) refl (s .wrote)) h, sized-long (s .w) k)
+
 module _ {s : List ℕ} {lo hi own : ℕ} {k : Cell} (i : k ≡ cell-at s hi) (o : OwnStart s lo hi own) where
   pub copies-own : TakerAt s lo hi → (own ≤ hi - 6) × (hi - 6 ≤ length s)
   copies-own g =
       (omega (arith, o (g .p) (g .here), node-long (g .p) (g .here)), omega (arith, node-in (g .p) (g .here) .1))
 
   pub pushes-alone : {d : List ℕ} {from mid at r : ℕ} {d′ : List ℕ} → own ≡ hi - 6 → Seals d from at (flagged k) r d′ → Pushes s lo hi d from mid at r d′
-  pushes-alone {d} {from} {mid} {at} {r} {d′} z f e source pushed u j d₀ d₁ l₁ l v w =
-      let c = i ∙ node-cell-is source u in
-      let x = f d₀ (source-words source ++ expression-words e) (l ∙ l₁) (then l₁ v w) in
-      subst (λ (b : List ℕ). Wrote d₀ from b r d′) (alone e source pushed j (omega (arith, o source u, node-long source u)))
-      (subst (λ (b : Cell). Wrote d₀ from (sized (source-words source ++ expression-words e) (flagged b)) r d′) c x)
+  pushes-alone {d} {from} {mid} {at} {r} {d′} z f =
+      record { long = λ h. put-long (flagged k) (subst (λ (a : ℕ). Seals d a at (flagged k) r d′) h f); writes = writes }
+    where
+      writes : (e : Expression) (source pushed : Node) → NodeHere s lo hi source → push-into e source ≡ some pushed → (d₀ d₁ b : List ℕ) → length d₁ ≡ length d₀
+          → length d ≡ length d₁ → Wrote d₀ from b mid d₁ → Wrote d₁ mid (expression-words e) at d → Wrote d₀ from (own-over b pushed) r d′
+      writes e source pushed u j d₀ d₁ b l₁ l v w =
+          subst (λ (a : List ℕ). Wrote d₀ from a r d′) (alone e source pushed j (omega (arith, o source u, node-long source u)) b)
+          (subst (λ (a : Cell). Wrote d₀ from (sized (b ++ expression-words e) (flagged a)) r d′) (i ∙ node-cell-is source u)
+          (f d₀ (b ++ expression-words e) (l ∙ l₁) (then l₁ v w)))
 
   pub pushes-both : {d : List ℕ} {from mid at m n r : ℕ} {d₂ d₃ d′ : List ℕ} → (own ≡ hi - 6 → ⊥) → length d₂ ≡ length d → length d₃ ≡ length d₂
       → Copies s own (hi - 6) d at m d₂ → Seals d₂ mid m (plain 10) n d₃ → Seals d₃ from n k r d′ → Pushes s lo hi d from mid at r d′
-  pushes-both {d} {from} {mid} {at} {m} {n} {r} {d₂} {d₃} {d′} z l₂ l₃ f g h e source pushed u j d₀ d₁ l₁ l v w =
-      let c = i ∙ node-cell-is source u in
-      let ew = expression-words e in
-      let ow = own-words source in
-      let x = f ow (own-part source u (o source u)) in
-      let y = g d₁ (ew ++ ow) (l₂ ∙ l) (then l w x) in
-      let a = h d₀ (source-words source ++ sized (ew ++ ow) (plain 10)) (l₃ ∙ l₂ ∙ l ∙ l₁) (then l₁ v y) in
-      subst (λ (b : List ℕ). Wrote d₀ from b r d′) (both e source pushed j (λ q. z (omega (arith, o source u, node-long source u))))
-      (subst (λ (b : Cell). Wrote d₀ from (sized (source-words source ++ sized (ew ++ ow) (plain 10)) b) r d′) c a)
+  pushes-both {d} {from} {mid} {at} {m} {n} {r} {d₂} {d₃} {d′} z l₂ l₃ f g h =
+      record { long = λ i q. put-long k (subst (λ (a : ℕ). Seals d₃ a n k r d′) i h) (omega arith); writes = writes }
+    where
+      writes : (e : Expression) (source pushed : Node) → NodeHere s lo hi source → push-into e source ≡ some pushed → (d₀ d₁ b : List ℕ) → length d₁ ≡ length d₀
+          → length d ≡ length d₁ → Wrote d₀ from b mid d₁ → Wrote d₁ mid (expression-words e) at d → Wrote d₀ from (own-over b pushed) r d′
+      writes e source pushed u j d₀ d₁ b l₁ l v w =
+          let ew = expression-words e in
+          let ow = own-words source in
+          let a = g d₁ (ew ++ ow) (l₂ ∙ l) (then l w (f ow (own-part source u (o source u)))) in
+          subst (λ (a : List ℕ). Wrote d₀ from a r d′) (both e source pushed j (λ q. z (omega (arith, o source u, node-long source u))) b)
+          (subst (λ (a : Cell). Wrote d₀ from (sized (b ++ sized (ew ++ ow) (plain 10)) a) r d′) (i ∙ node-cell-is source u)
+          (h d₀ (b ++ sized (ew ++ ow) (plain 10)) (l₃ ∙ l₂ ∙ l ∙ l₁) (then l₁ v a)))
+
+-- ---- the predicate goes into the node in place: its own words start at `own`
+module _ {x : List ℕ} {lo end own : ℕ} (o : OwnStart x lo end own) where
+  pub own-in : TakerAt x lo end → (lo ≤ own) × (own + 6 ≤ end)
+  own-in g = (omega (arith, o (g .p) (g .here)), omega (arith, o (g .p) (g .here), node-long (g .p) (g .here)))
+
+  pub pushed-in : (t : ℕ) {tail : ℕ} {y y₁ : List ℕ} {n m r : ℕ} {x′ : List ℕ} → length y₁ ≡ length y → Pushes x lo end y 0 0 n m y₁
+      → ReplacesOwn x y₁ m t lo own tail r x′ → PushesInPlace x y n t lo end tail r x′
+  pushed-in t {tail} {y} {y₁} {r = r} {x′ = x′} k p f e source pushed pre gone post w a b c j y₀ l v =
+      let here : NodeHere x lo end source = record { part = record { before = pre; after = gone ++ (post ++ drop t x); whole = sym (take-append-drop t x) ∙ ap (λ (l : List ℕ). l ++ drop t x) w ∙ simp append-assoc; low = a; high = b } } in
+      let ss = source-words source in
+      let last = words (cell (node-cell source)) (length (ss ++ own-words source) + 6) in
+      subst (λ (s : List ℕ). Placed x′ r pre post s)
+      (ap (λ (s : List ℕ). sized (s ++ own-words pushed) (cell (node-cell pushed))) (same-sources e source pushed j) ∙ sym (node-shape pushed))
+      (f pre ss (own-words source ++ (last ++ gone)) post
+      (w ∙ ap (λ (l : List ℕ). pre ++ (l ++ (gone ++ post))) (node-shape source) ∙ simp append-assoc)
+      a (sym (o source here)) c y₀ (own-words pushed) (cell (node-cell pushed)) (k ∙ l) (p .writes e source pushed here j y₀ y₀ [] refl l (no-words y₀ 0) v))

@@ -1,20 +1,18 @@
--- A predicate pushed into a node that can take one, and a Filter merged into what is below it: contracts.
-use Prim.Native.Nat.{ℕ}
+-- A predicate pushed into a node that can take one: contracts.
+use Prim.Native.Nat.{ℕ, _+_, _≤_}
 use mathlib.Core.Bool.{Bool, true, false}
 use mathlib.Core.Path.{_≡_}
-use mathlib.Core.List.{List}
+use mathlib.Core.List.{List, _++_}
 use mathlib.Core.Option.{Option, none, some}
-use lib.ListN.{length}
-use Rattle.sql.specs.Schema.{Schema}
+use lib.ListN.{length, take}
 use Rattle.sql.specs.Expression.{Expression}
-use Rattle.sql.specs.Plan.{filter, other, Node, leaf, over, join}
+use Rattle.sql.specs.Plan.{Node}
 use Rattle.sql.specs.Optimizer.{push-into}
-use Rattle.sql.specs.Room.{step}
+use Rattle.cells.specs.Cells.{sized}
 use Rattle.cells.specs.Room.{Wrote}
-use Rattle.words.specs.Words.{expression-words, node-words, source-words}
+use Rattle.words.specs.Words.{cell, expression-words, node-words, own-words, node-cell}
 use Rattle.words.specs.Place.{NodeHere}
-use Rattle.edit.specs.Edit.{Edit}
-use Rattle.kept.specs.Kept.{Kept}
+use Rattle.edit.specs.Edit.{Placed}
 
 abbrev pub is-some : {A : Type 0} → Option A → Bool
 is-some none = false
@@ -30,36 +28,19 @@ pub record TakerAt (s : List ℕ) (lo hi : ℕ) : Type 0 where
   pub here : NodeHere s lo hi p
   pub takes : (e : Expression) → is-some (push-into e p) ≡ true
 
--- Whatever node stands in s from lo up to hi, if its sources' words were written to d from `from` up to mid, and a predicate behind them up to `at`, then
--- the node with the predicate pushed into it stands there now, up to r; or there is no room, and r is past the end.
-abbrev pub Pushes : (s : List ℕ) (lo hi : ℕ) (d : List ℕ) (from mid at r : ℕ) → List ℕ → Type 0
-Pushes s lo hi d from mid at r d′ =
-    (e : Expression) (source pushed : Node) → NodeHere s lo hi source → push-into e source ≡ some pushed
-    → (d₀ d₁ : List ℕ) → length d₁ ≡ length d₀ → length d ≡ length d₁
-    → Wrote d₀ from (source-words source) mid d₁ → Wrote d₁ mid (expression-words e) at d → Wrote d₀ from (node-words pushed) r d′
+-- Whatever node stands in s from lo up to hi, if some words were written to d from `from` up to mid, and a predicate behind them up to `at`, then the own
+-- words and the cell of the node with the predicate pushed into it stand behind the words now, up to r, and the cell is over them all; or there is no room,
+-- and r is past the end. Where the words are those of the node's sources, that is the whole node.
+pub record Pushes (s : List ℕ) (lo hi : ℕ) (d : List ℕ) (from mid at r : ℕ) (d′ : List ℕ) : Type 0 where
+  pub long : from ≡ 0 → r ≤ length d → 6 ≤ r
+  pub writes : (e : Expression) (source pushed : Node) → NodeHere s lo hi source → push-into e source ≡ some pushed
+      → (d₀ d₁ b : List ℕ) → length d₁ ≡ length d₀ → length d ≡ length d₁ → Wrote d₀ from b mid d₁ → Wrote d₁ mid (expression-words e) at d
+      → Wrote d₀ from (sized (b ++ own-words pushed) (cell (node-cell pushed))) r d′
 
--- ---- one merge of a Filter into what is below
-
--- what a Filter's source becomes that takes the Filter's predicate
-abbrev pub merge : Node → Option Node
-merge (leaf l) = none
-merge (over (filter e) source) = push-into e source
-merge (over (other o) source) = none
-merge (join outer j left right) = none
-
-abbrev pub or-same : Node → Option Node → Node
-or-same p none = p
-or-same p (some q) = q
-
--- the node after a merge, where there is one
-abbrev pub merged : Node → Node
-merged p = or-same p (merge p)
-
--- r tells whether the node there is a Filter that its source takes.
-abbrev pub Merges : List ℕ → ℕ → ℕ → Bool → Type 0
-Merges s lo hi r = (p : Node) → NodeHere s lo hi p → r ≡ is-some (merge p)
-
--- One merge, a step, in place.
-abbrev pub MergesInPlace : (x : List ℕ) (t lo tail r : ℕ) → List ℕ → Type 0
-MergesInPlace x t lo tail r x′ =
-    (schema : Schema) (text : List ℕ) (tables : ℕ) → Edit (Kept schema text tables) (λ room rest p. step room schema rest (merged p)) x t lo tail r x′
+-- Whatever node stands in x from lo up to `end`, and whatever predicate in the first n words of y: the node with the predicate takes the place of the node
+-- and of the words behind it, up to t − tail.
+abbrev pub PushesInPlace : (x y : List ℕ) (n t lo end tail r : ℕ) → List ℕ → Type 0
+PushesInPlace x y n t lo end tail r x′ =
+    (e : Expression) (source pushed : Node) (pre gone post : List ℕ) → take t x ≡ pre ++ (node-words source ++ (gone ++ post))
+    → length pre ≡ lo → lo + length (node-words source) ≡ end → length post ≡ tail → push-into e source ≡ some pushed
+    → (y₀ : List ℕ) → length y ≡ length y₀ → Wrote y₀ 0 (expression-words e) n y → Placed x′ r pre post (node-words pushed)

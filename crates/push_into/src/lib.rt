@@ -1,12 +1,10 @@
-// optimizer.rs, push_into: a predicate goes into a node that can take one, before the predicate that the node has. And one merge of a Filter into what is
-// below it, in place (crate edit): the whole plan stands in the first t words of x, the Filter from lo up to t - tail.
-ghost use mathlib.Core.Bool.{true};
+// optimizer.rs, push_into: a predicate goes into a node that can take one, before the predicate that the node has. The plan is edited in place (crate edit):
+// only the words that change are written.
 ghost use mathlib.Core.Path.{_≡_};
-ghost use Prim.Native.Nat.{_-_};
+ghost use Prim.Native.Nat.{_+_, _≤_};
 ghost use lib.ListN.{length};
 ghost use Rattle.words.specs.Place.{NodeAt};
-ghost use Rattle.edit.specs.Edit.{Standing};
-ghost use Rattle.push_into.specs.Push.{Takes, TakerAt, Pushes, Merges, MergesInPlace};
+ghost use Rattle.push_into.specs.Push.{Takes, TakerAt, Pushes, PushesInPlace};
 
 // Whether the node from lo to hi can take a predicate: a Filter, a NestedLoopJoin or a Scan.
 pub fn takes(s: &[usize], lo: usize, hi: usize) -> bool
@@ -26,8 +24,9 @@ pub fn takes(s: &[usize], lo: usize, hi: usize) -> bool
     false
 }
 
-// The node from lo to hi with one more predicate. The words of its sources stand in d from `from` up to mid, those of the predicate behind them up to
-// at; the node's own predicate follows, with an And over both, and the node's cell. The flag of a node that had none now says that there is one.
+// A predicate stands in d from mid up to at. Behind it come the own predicate of the node from lo to hi of s, with an And over both, and the node's cell,
+// which is over all words of d from `from` on: the words of the node's sources stand before the predicate, or the caller seals the node. The flag of a node
+// that had no predicate now says that there is one.
 pub fn with_predicate(
     s: &[usize],
     lo: usize,
@@ -73,30 +72,23 @@ pub fn with_predicate(
     cells::put(d, from, n, k)
 }
 
-// Whether the node from lo to hi is a Filter that its source takes.
-pub fn merges(s: &[usize], lo: usize, hi: usize) -> bool
-    requires { ⌜ NodeAt (now s) lo hi ⌝ }
-    ensures { λ r. ⌜ Merges (now (s .entry)) lo hi r ⌝ }
-{
-    if cells::tag_at(s, hi) == 51 {
-        let end = nodes::own_start(s, lo, hi);
-        return takes(s, lo, end);
-    }
-    false
-}
-
-// The Filter's source with the Filter's predicate takes the Filter's place. y is scratch.
-pub fn push_into(x: &mut [usize], y: &mut [usize], t: usize, lo: usize, tail: usize) -> usize
-    requires { ⌜ Standing (now x) t lo tail ⌝ }
-    requires { ⌜ Merges (now x) lo (t - tail) true ⌝ }
+// The predicate in the first n words of y goes into the node of x from lo up to `end`, which takes one. What stands behind the node, up to t - tail, is gone.
+// y is used up.
+pub fn push_into(
+    x: &mut [usize],
+    y: &mut [usize],
+    n: usize,
+    t: usize,
+    lo: usize,
+    end: usize,
+    tail: usize,
+) -> usize
+    requires { ⌜ TakerAt (now x) lo end ⌝ }
+    requires { ⌜ (end + tail ≤ t) × (t ≤ length (now x)) ⌝ }
     requires { ⌜ length (now y) ≡ length (now x) ⌝ }
-    ensures { λ r. ⌜ MergesInPlace (now (x .entry)) t lo tail r (now (x .exit)) ⌝ }
+    ensures { λ r. ⌜ PushesInPlace (now (x .entry)) (now (y .entry)) n t lo end tail r (now (x .exit)) ⌝ }
 {
-    let hi = t - tail;
-    let end = nodes::own_start(x, lo, hi);
     let own = nodes::own_start(x, lo, end);
-    let mid = cells::copy(x, lo, own, y, 0);
-    let at = cells::copy(x, end, hi - 6, y, mid);
-    let n = with_predicate(x, lo, end, y, 0, mid, at);
-    edit::finish(x, y, n, t, lo, tail)
+    let m = with_predicate(x, lo, end, y, 0, 0, n);
+    edit::replace_own(x, y, m, t, lo, own, tail)
 }

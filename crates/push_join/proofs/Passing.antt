@@ -27,15 +27,15 @@ use Rattle.words.specs.Place.{ExpressionHere, ExpressionAt, Maps, NodeHere, Nod
 use Rattle.words.proofs.Sizes.{expression-long}
 use Rattle.words.proofs.Tags.{by-nested-loop}
 use Rattle.nodes.specs.Own.{OwnStart}
-use Rattle.nodes.specs.Columns.{Tables, ColumnsAt}
+use Rattle.nodes.specs.Columns.{Tables, Narrow}
 use Rattle.nodes.proofs.Widths.{tag-here, flag-here}
 use Rattle.sound.specs.Pushdown.{join-rule-keeps}
-use Rattle.edit.specs.Edit.{Holds, Left, Finishes}
-use Rattle.edit.proofs.Edits.{holds-here, total-cells, left-refused, edit-same, edit-step}
+use Rattle.edit.specs.Edit.{Holds, Left, Placed}
+use Rattle.edit.proofs.Edits.{holds-here, total-cells, left-refused, placed-left, edit-same}
 use Rattle.kept.specs.Kept.{Kept, kept, sound-narrow}
 use Rattle.kept.specs.Pass.{PassAt, Passes}
 use Rattle.conjuncts.proofs.Appending.{written-part}
-use Rattle.split_join.specs.Split.{HasPredicate, Splits}
+use Rattle.split_join.specs.Split.{HasPredicate, SplitAt, Splits}
 use Rattle.split_join.proofs.Splitting.{by-split, predicate-here}
 
 -- ---- which nodes are split
@@ -58,19 +58,6 @@ module _ {s : List ℕ} {lo hi : ℕ} {c : Cell} (q : c ≡ cell-at s hi) where
   nested h p u =
       by-nested-loop (λ p. NodeHere s lo hi p → eqb (c .flag % 2) 1 ≡ present (join-predicate p))
       (λ outer e l r v. ap (λ (f : ℕ). eqb (f % 2) 1) (flag-here q (join outer (nested-loop e) l r) v) ∙ flag-bit outer e) p (sym (tag-here q p u) ∙ h) u
-
--- ---- what is asked for
-
-pub pass-columns : {widths x : List ℕ} {t lo tail : ℕ} → PassAt widths x t lo tail → ColumnsAt widths x lo (t - tail)
-pass-columns g =
-    record {
-      schema = g .schema;
-      tables = g .given;
-      p = g .held .p;
-      here = holds-here (g .held .holds);
-      narrow = sound-narrow (g .schema) (g .text) (g .tables) (g .held .p) (g .held .fit .0);
-      short = omega (arith, g .held .holds .inside, g .short);
-    }
 
 -- ---- room for a normal form
 
@@ -143,9 +130,28 @@ pass-same f z schema text tables given =
 
 module _ {x : List ℕ} {t lo tail : ℕ} (f : HasPredicate x lo (t - tail) true) where
   when-split : {pre post : List ℕ} (P : Node → Type 0)
-      → ((outer : Bool) (q : Expression) (l r : Node) → NodeHere x lo (t - tail) (join outer (nested-loop (some q)) l r) → P (join outer (nested-loop (some q)) l r))
+      → ((outer : Bool) (q : Expression) (l r : Node) → Holds x t lo tail pre post (join outer (nested-loop (some q)) l r) → P (join outer (nested-loop (some q)) l r))
       → (p : Node) → Holds x t lo tail pre post p → P p
-  when-split P g p h = by-split (λ p. NodeHere x lo (t - tail) p → P p) g p (sym (f p (holds-here h))) (holds-here h)
+  when-split {pre} {post} P g p h = by-split (λ p. Holds x t lo tail pre post p → P p) g p (sym (f p (holds-here h))) h
+
+  -- what the split asks for
+  pub split-at : {widths : List ℕ} → PassAt widths x t lo tail → SplitAt widths x t lo tail
+  split-at {widths} g =
+      when-split (λ p. Narrow p → SplitAt widths x t lo tail)
+      (λ outer q l r h k. record {
+        schema = g .schema;
+        tables = g .given;
+        pre = g .held .pre;
+        post = g .held .post;
+        outer = outer;
+        p = q;
+        l = l;
+        r = r;
+        holds = h;
+        narrow = k .0;
+        short = g .short;
+      })
+      (g .held .p) (g .held .holds) (sound-narrow (g .schema) (g .text) (g .tables) (g .held .p) (g .held .fit .0))
 
   -- a normal form that has no room
   refuse : {widths : List ℕ} {n : ℕ} → length x < n
@@ -155,7 +161,7 @@ module _ {x : List ℕ} {t lo tail : ℕ} (f : HasPredicate x lo (t - tail) true
   refuse {n = n} i g schema text tables given room rest s pre post p fit h =
       when-split (λ p. Left (Kept schema text tables p) x n pre post (Room.maybe-push-join room schema rest p))
       (λ outer q l r u. subst (λ (a : Answer Node). Left (Kept schema text tables (join outer (nested-loop (some q)) l r)) x n pre post a)
-      (sym (answered room schema rest outer q l r false (g room schema (s .all) outer q l r u))) (left-refused i))
+      (sym (answered room schema rest outer q l r false (g room schema (s .all) outer q l r (holds-here u)))) (left-refused i))
       p h
 
   module _ {m : ℕ} (own : OwnStart x lo (t - tail) m) {z z₁ : List ℕ} {k : ℕ} (az : length z ≡ length x) (lz : length z₁ ≡ length z)
@@ -175,19 +181,17 @@ module _ {x : List ℕ} {t lo tail : ℕ} (f : HasPredicate x lo (t - tail) true
           (form-over room (aw ∙ a) (distribute (into-nnf q)) (cnf (into-nnf q) (nnf-here own lz nnf i outer q l r u)) (omega arith))
           ∙ and-false (leb (size (into-nnf q)) room))
 
-      module _ (j : end ≤ length w₁) {widths y y₁ x′ : List ℕ} {n r : ℕ} (ly : length y ≡ length x) (ly₁ : length y₁ ≡ length y) (lx : length x′ ≡ length x)
-          (g : Splits widths x lo (t - tail) w₁ end y n y₁) (fin : Finishes x y₁ n t lo tail r x′) where
-        wrote : (schema : Schema) → Tables schema widths → {pre post : List ℕ} (p : Node) → Holds x t lo tail pre post p
-            → Wrote y 0 (node-words (Optimizer.maybe-push-join schema p)) n y₁
+      module _ (j : end ≤ length w₁) {widths x′ : List ℕ} {r : ℕ} (lx : length x′ ≡ length x) (g : Splits widths x t lo tail w₁ end r x′) where
+        placed : (schema : Schema) → Tables schema widths → {pre post : List ℕ} (p : Node) → Holds x t lo tail pre post p
+            → Placed x′ r pre post (node-words (Optimizer.maybe-push-join schema p))
         unfolding Optimizer.maybe-push-join into-cnf-vec into-cnf
-        wrote schema given p h =
-            when-split (λ p. Wrote y 0 (node-words (Optimizer.maybe-push-join schema p)) n y₁)
-            (λ outer q l r u. g schema given outer q l r u (distribute (into-nnf q)) (cnf-here own lz nnf i lw cnf j outer q l r u)) p h
+        placed schema given {pre} {post} p h =
+            when-split (λ p. Placed x′ r pre post (node-words (Optimizer.maybe-push-join schema p)))
+            (λ outer q l r h. g schema given pre post outer q l r h (distribute (into-nnf q)) (cnf-here own lz nnf i lw cnf j outer q l r (holds-here h))) p h
 
         pub pass-split : Passes Room.maybe-push-join widths x t lo tail r x′
         pass-split schema text tables given room rest s pre post p fit h =
             subst (λ (a : Answer Node). Left (Kept schema text tables p) x′ r pre post a)
             (sym (when-split (λ p. Room.maybe-push-join room schema rest p ≡ step room schema rest (Optimizer.maybe-push-join schema p))
-            (λ outer q l r u. answered room schema rest outer q l r true (both-fit own lz nnf i lw cnf j room schema (az ∙ s .all) (aw ∙ s .all) outer q l r u)) p h))
-            (edit-step (kept schema text tables) (Optimizer.maybe-push-join schema) ly ly₁ lx
-            (λ room rest pre post p s fit h. wrote schema given p h) (λ p k. join-rule-keeps schema text tables p (k .0)) fin room rest s pre post p fit h)
+            (λ outer q l r h. answered room schema rest outer q l r true (both-fit own lz nnf i lw cnf j room schema (az ∙ s .all) (aw ∙ s .all) outer q l r (holds-here h))) p h))
+            (placed-left (Optimizer.maybe-push-join schema p) s lx (h .low) (h .high) (join-rule-keeps schema text tables p (fit .0)) (placed schema given p h))

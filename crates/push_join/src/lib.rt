@@ -19,7 +19,7 @@ fn has_predicate(s: &[usize], lo: usize, hi: usize) -> bool
     false
 }
 
-// One split of the predicate of the node there, if it is a join with a predicate. The results of into_nnf and into_cnf go to z and w, the new node to y; each has
+// One split of the predicate of the node there, if it is a join with a predicate. The results of into_nnf and into_cnf go to z and w, and y is scratch; each has
 // room for as many cells as x. A result past the end of x is refusal 14.
 pub fn maybe_push_join(
     x: &mut [usize],
@@ -48,8 +48,7 @@ pub fn maybe_push_join(
         if w.len() < end {
             return end;
         }
-        let n = split_join::split(x, lo, hi, m, w, end, z, y, widths);
-        return edit::finish(x, y, n, t, lo, tail);
+        return split_join::split(x, y, w, end, z, t, lo, m, tail, widths);
     }
     t
 }

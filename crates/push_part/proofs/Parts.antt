@@ -11,7 +11,7 @@ use Rattle.sql.specs.Plan.{scan, lookup, nothing, values, filter, other, nested
 use Rattle.sql.specs.Optimizer.{for-left, for-right, push-into, pushed-or-back, push-part}
 use Rattle.cells.specs.Cells.{words, Part}
 use Rattle.cells.specs.Room.{Wrote, Copies}
-use Rattle.cells.proofs.Laws.{part-right, then, wrote-up, full-already}
+use Rattle.cells.proofs.Laws.{part-right, nothing as no-words, then, wrote-up, full-already}
 use Rattle.words.specs.Words.{cell, expression-words, optional-words, node-words, source-words, own-words, node-cell}
 use Rattle.words.specs.Place.{ExpressionHere, ExpressionAt, NodeHere, NodeAt}
 use Rattle.words.proofs.Nodes.{node-shape, node-in, node-long, source-part}
@@ -23,8 +23,8 @@ use Rattle.copied_lookups.specs.declared.Source.{Source}
 use Rattle.copied_lookups.specs.declared.Source.the-variants as Source
 use Rattle.copied_lookups.specs.Copies.{PushesLeft, PushesRight}
 use Rattle.push_into.specs.Push.{is-some, Takes, Pushes}
-use Rattle.push_into.proofs.Taking.{taken, not-taken}
-use Rattle.push_part.specs.Part.{part-for, WritesPart, Closes, PushesPart, ComesBack}
+use Rattle.push_into.proofs.Taking.{taken, not-taken, own-over, same-sources}
+use Rattle.push_part.specs.Part.{part-for, own-end, WritesPart, WritesOwn, Closes, PushesPart, ComesBack}
 
 -- ---- the part for a source
 
@@ -71,10 +71,10 @@ merged-long e (join outer (nested-loop (some q)) l r) h =
 merged-long e (join outer (hash i j) l r) h = absurd (let z : _≡_ {A = ℕ} 0 1 = cc in omega arith)
 
 -- the words of a node behind its sources
-rest : Node → List ℕ
+pub rest : Node → List ℕ
 rest p = own-words p ++ words (cell (node-cell p)) (length (source-words p ++ own-words p) + 6)
 
-rest-is : (p : Node) → node-words p ≡ source-words p ++ rest p
+pub rest-is : (p : Node) → node-words p ≡ source-words p ++ rest p
 unfolding rest
 rest-is p = node-shape p ∙ append-assoc (source-words p) (own-words p) (words (cell (node-cell p)) (length (source-words p ++ own-words p) + 6))
 
@@ -104,7 +104,10 @@ module _ {s : List ℕ} {lo hi : ℕ} {d : List ℕ} {from mid at : ℕ} where
     close-some i f p u h none d₀ d₁ l₁ l₂ v w = absurd (i (omega (arith, wrote-up w (omega arith))))
     close-some i {r} {d′} f p u h (some e) d₀ d₁ l₁ l₂ v w =
         let t = taken e p (h e) in
-        subst (λ (q : Node). Wrote d₀ from (node-words q) r d′) (sym (pushed-is e p (t .pushed) (t .is))) (f e p (t .pushed) u (t .is) d₀ d₁ l₁ l₂ v w)
+        subst (λ (q : Node). Wrote d₀ from (node-words q) r d′) (sym (pushed-is e p (t .pushed) (t .is)))
+        (subst (λ (b : List ℕ). Wrote d₀ from b r d′)
+        (ap (λ (b : List ℕ). own-over b (t .pushed)) (same-sources e p (t .pushed) (t .is)) ∙ sym (node-shape (t .pushed)))
+        (f .writes e p (t .pushed) u (t .is) d₀ d₁ (source-words p) l₁ l₂ v w))
 
 -- ---- a source with its part of the predicate
 
@@ -120,6 +123,46 @@ module _ (into : Source) (n shift : ℕ) {s : List ℕ} {lo hi : ℕ} {cnf : Lis
 
   pub push-refused : b ≡ false → {d : List ℕ} {at r : ℕ} {d′ : List ℕ} → Copies s lo hi d at r d′ → PushesPart into n shift s lo hi cnf end d at r d′
   push-refused z g p u e v = rw (refused-is (part-for into n shift (ands e)) p (λ x. sym (f p x u) ∙ z)) (g (node-words p) (u .part))
+
+-- ---- the own words of a source with its part
+
+-- its sources stay
+pub sources-stay : (o : Option Expression) (p : Node) → source-words p ≡ source-words (push-part o p .0)
+sources-stay none p = refl
+sources-stay (some e) p = go (push-into e p) refl
+  where
+    go : (q : Option Node) → push-into e p ≡ q → source-words p ≡ source-words (pushed-or-back e p q .0)
+    go none i = refl
+    go (some q) i = same-sources e p q i
+
+pub own-end-long : (p : Node) → 6 ≤ length (own-end p)
+own-end-long p = omega (arith, Sizes.sized-long (own-words p) (cell (node-cell p)))
+
+module _ (into : Source) (n shift : ℕ) {s : List ℕ} {lo hi : ℕ} {cnf : List ℕ} {end : ℕ} {b : Bool} (f : Takes s lo hi b) where
+  pub own-refused : b ≡ false → {d : List ℕ} → WritesOwn into n shift s lo hi cnf end d 0 d
+  own-refused z =
+      record { same = λ i p u e v. refused-is (part-for into n shift (ands e)) p (λ a. sym (f p a u) ∙ z); own = λ i. absurd (i refl) }
+
+  module _ {d : List ℕ} {m : ℕ} {d₁ : List ℕ} (w : WritesPart into n shift cnf end d 0 m d₁) where
+    pub own-nothing : m ≡ 0 → WritesOwn into n shift s lo hi cnf end d 0 d₁
+    own-nothing i = record { same = λ j p u e v. go (part-for into n shift (ands e)) p (w e v); own = λ j. absurd (j refl) }
+      where
+        go : (o : Option Expression) (p : Node) → Wrote d 0 (optional-words o) m d₁ → push-part o p .0 ≡ p
+        go none p g = refl
+        go (some a) p g = absurd (omega (arith, wrote-up g (omega arith), words-long a))
+
+    pub own-taken : b ≡ true → (m ≡ 0 → ⊥) → length d₁ ≡ length d → {r : ℕ} {d₂ : List ℕ} → Pushes s lo hi d₁ 0 0 m r d₂ → WritesOwn into n shift s lo hi cnf end d r d₂
+    own-taken z i k {r} {d₂} g = record { same = λ j p u e v. absurd (omega (arith, wrote-up (wrote p u e v) (omega arith), own-end-long (push-part (part-for into n shift (ands e)) p .0))); own = λ j. wrote }
+      where
+        go : (p : Node) → NodeHere s lo hi p → (o : Option Expression) → Wrote d 0 (optional-words o) m d₁ → Wrote d 0 (own-end (push-part o p .0)) r d₂
+        go p u none j = absurd (i (let (c, e) = j .fits (omega arith) in omega arith))
+        go p u (some a) j =
+            let q = taken a p (sym (f p a u) ∙ z) in
+            subst (λ (t : Node). Wrote d 0 (own-end t) r d₂) (sym (pushed-is a p (q .pushed) (q .is)))
+            (g .writes a p (q .pushed) u (q .is) d d [] refl k (no-words d 0) j)
+
+        wrote : (p : Node) → NodeHere s lo hi p → (e : Expression) → ExpressionHere cnf 0 end e → Wrote d 0 (own-end (push-part (part-for into n shift (ands e)) p .0)) r d₂
+        wrote p u e v = go p u (part-for into n shift (ands e)) (w e v)
 
 -- ---- what comes back
 

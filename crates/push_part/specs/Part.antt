@@ -8,8 +8,9 @@ use lib.ListN.{length}
 use Rattle.sql.specs.Expression.{Expression, ands, and-vec, shift-column-down}
 use Rattle.sql.specs.Plan.{Node}
 use Rattle.sql.specs.Optimizer.{push-left, push-right, map-optional, push-into, push-part}
+use Rattle.cells.specs.Cells.{sized}
 use Rattle.cells.specs.Room.{Wrote}
-use Rattle.words.specs.Words.{optional-words, node-words, source-words}
+use Rattle.words.specs.Words.{cell, optional-words, node-words, source-words, own-words, node-cell}
 use Rattle.words.specs.Place.{ExpressionHere, NodeHere}
 use Rattle.conjuncts.specs.Conjuncts.{Appends}
 use Rattle.push_into.specs.Push.{is-some}
@@ -22,11 +23,22 @@ abbrev pub part-for : Source → ℕ → ℕ → List Expression → Option Expr
 part-for Source.Left n shift cnf = and-vec (push-left n cnf)
 part-for Source.Right n shift cnf = map-optional (shift-column-down shift) (and-vec (push-right n cnf))
 
+-- The own words and the cell of a node. The size that the cell says is still without the node's sources.
+abbrev pub own-end : Node → List ℕ
+own-end p = sized (own-words p) (cell (node-cell p))
+
 -- ---- contracts; the predicate's normal form stands in `cnf` up to `end`
 
 abbrev pub WritesPart : Source → ℕ → ℕ → List ℕ → ℕ → List ℕ → ℕ → ℕ → List ℕ → Type 0
 WritesPart into n shift cnf end d at r d′ =
     (e : Expression) → ExpressionHere cnf 0 end e → Wrote d at (optional-words (part-for into n shift (ands e))) r d′
+
+-- A source that takes a part: its own words and its cell with the part in its predicate are in the first words of d, or have no room. A source that takes none
+-- stays as it is, and r is 0.
+pub record WritesOwn (into : Source) (n shift : ℕ) (s : List ℕ) (lo hi : ℕ) (cnf : List ℕ) (end : ℕ) (d : List ℕ) (r : ℕ) (d′ : List ℕ) : Type 0 where
+  pub same : r ≡ 0 → (p : Node) → NodeHere s lo hi p → (e : Expression) → ExpressionHere cnf 0 end e → push-part (part-for into n shift (ands e)) p .0 ≡ p
+  pub own : (r ≡ 0 → ⊥) → (p : Node) → NodeHere s lo hi p → (e : Expression) → ExpressionHere cnf 0 end e
+      → Wrote d 0 (own-end (push-part (part-for into n shift (ands e)) p .0)) r d′
 
 -- What stands behind the sources of the node that is there, from mid up to at, is in its predicate; the node takes any predicate.
 abbrev pub Closes : List ℕ → ℕ → ℕ → List ℕ → ℕ → ℕ → ℕ → ℕ → List ℕ → Type 0

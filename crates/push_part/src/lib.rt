@@ -6,7 +6,7 @@ ghost use lib.ListN.{length};
 ghost use Rattle.words.specs.Place.{ExpressionAt, NodeAt};
 ghost use Rattle.nodes.specs.Own.{OwnStart};
 ghost use Rattle.push_into.specs.Push.{TakerAt};
-ghost use Rattle.push_part.specs.Part.{WritesPart, Closes, PushesPart, ComesBack};
+ghost use Rattle.push_part.specs.Part.{WritesPart, WritesOwn, Closes, PushesPart, ComesBack};
 
 // The part of the predicate that is for a source, with the right source's columns `shift` lower. The left source has n columns.
 fn part(
@@ -35,6 +35,35 @@ fn part(
     }
 }
 
+// The own words and the cell of the source from lo to hi with its part of the predicate, in the first words of d. 0 if it takes none. The left source has n
+// columns; the right source's part has its columns n lower, which is its `shift`. The caller seals the source.
+pub fn own_part(
+    s: &[usize],
+    lo: usize,
+    hi: usize,
+    cnf: &[usize],
+    end: usize,
+    g: &mut [usize],
+    d: &mut [usize],
+    into: Source,
+    n: usize,
+    shift: usize,
+) -> usize
+    requires { ⌜ NodeAt (now s) lo hi ⌝ }
+    requires { ⌜ ExpressionAt (now cnf) 0 end ⌝ }
+    requires { ⌜ length (now g) ≡ length (now cnf) ⌝ }
+    ensures { λ r. ⌜ WritesOwn into n shift (now (s .entry)) lo hi (now (cnf .entry)) end (now (d .entry)) r (now (d .exit)) ⌝ }
+{
+    if push_into::takes(s, lo, hi) {
+        let m = part(cnf, end, g, d, 0, into, n, shift);
+        if m == 0 {
+            return 0;
+        }
+        return push_into::with_predicate(s, lo, hi, d, 0, 0, m);
+    }
+    0
+}
+
 // The node from lo to hi, whose own words start at m: its sources stand in d from word `from` up to mid, and from there up to at an expression that goes into
 // its predicate, or nothing.
 fn close(
@@ -60,8 +89,7 @@ fn close(
     push_into::with_predicate(s, lo, hi, d, from, mid, at)
 }
 
-// The source from lo to hi with its part of the predicate, if it takes one. The left source has n columns; the right source's part has its columns n lower, which
-// is its `shift`.
+// The whole source from lo to hi with its part of the predicate, if it takes one.
 pub fn push_part(
     s: &[usize],
     lo: usize,

@@ -135,6 +135,7 @@ fn projection_or_source(y: &[usize], lo: usize, hi: usize, widths: &[usize]) -> 
     hi
 }
 
+// The first match of short_circuit, by the node's tag: a Scan, a NestedLoopJoin, a Filter or a Projection may lose something, every other node stays.
 pub fn remove_useless(y: &mut [usize], lo: usize, hi: usize, widths: &[usize]) -> usize
     requires { ⌜ ColumnsAt (now widths) (now y) lo hi ⌝ }
     ensures { λ r. ⌜ Removes (now (widths .entry)) (now (y .entry)) lo hi r (now (y .exit)) ⌝ }

@@ -8,11 +8,11 @@ use native.Mathlib.Omega.{arith}
 use lib.Dec.{eqb}
 use lib.Ieee
 use lib.Ieee.{Float, isNan}
-use Rattle.value.specs.Value.{Truth, False, Unknown, True, Datum, integer, float, string, Value, truth, datum, null, Result, ok, err, ofBool, boolean}
+use Rattle.value.specs.Value.{Truth, False, Unknown, True, Datum, integer, float, string, Value, truth, datum, null, Result, ok, err, ofBool, boolean, the-nan}
 use Rattle.value.specs.Comparison.{Finding, Less, Greater, Unordered, NotComparable, rounded, number-of, compare-floats, compare, compared-truths, is-equal, answer, against-datum, equal}
 use Rattle.value.specs.Comparison
 use Rattle.value.specs.Undefined.{is-undefined}
-use Rattle.sql.specs.Expression.{Logical, And, Or, Function1, IsNull, IsNaN, Identity, Negate, Unary, Not, function, Binary, logical, Equal, Expression, constant, column, unary, binary, or, contains-column, is-column, is-equal-lookup, is-function-lookup, same-column, is-column-lookup, the-nan, equal-values, into-column-values}
+use Rattle.sql.specs.Expression.{Logical, And, Or, Function1, IsNull, IsNaN, Identity, Negate, Unary, Not, function, Binary, logical, Equal, Expression, constant, column, unary, binary, or, contains-column, is-column, is-equal-lookup, is-function-lookup, same-column, is-column-lookup, equal-values, into-column-values}
 use Rattle.rows.specs.Reading.{is-true, is-nan-value, is-true-result, takes, any}
 use Rattle.same_rows.specs.Booleans.{false≢true, eqb-eq, eqb-self}
 use Rattle.same_rows.specs.Floats.{nan-unequal}

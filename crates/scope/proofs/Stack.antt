@@ -79,12 +79,12 @@ pub record Walked (s ws : List ℕ) (depth own i : ℕ) : Type 0 where
   pub order : own ≤ i
   pub within : i ≤ cell-count s
   pub depth-few : depth ≤ i
-  pub room : length ws ≡ 2048
+  pub room : cell-count s ≤ length ws
   pub small : total (stacked ws depth) ≤ 17179869184 * i
   pub same : walk (schema s) own (segment s own i) (stacked ws depth) (segment s i (cell-count s)) ≡ walk (schema s) 0 [] [] (cells-of s)
 
 module _ (s : List ℕ) where
-  pub start : (ws : List ℕ) → length ws ≡ 2048 → Walked s ws 0 0 0
+  pub start : (ws : List ℕ) → cell-count s ≤ length ws → Walked s ws 0 0 0
   start ws e =
       record {
         order = omega arith;
@@ -165,7 +165,7 @@ module _ (s : List ℕ) where
                 order = omega arith;
                 within = omega arith;
                 depth-few = let d = w .depth-few in omega arith;
-                room = length-set ws (depth - n) width ∙ w .room;
+                room = omega (arith, length-set ws (depth - n) width, w .room);
                 small = rw push (omega (arith, off .sum, w .small, ap (λ (d : ℕ). total (stacked ws d)) back));
                 same = rw (push, segment-none s (i + 1), f) (sym (judged ∙ rw (sym e ∙ ap found g) refl));
               }

@@ -2,6 +2,8 @@
 // node's cell is met, since only then it is known which sources it has. Each cell belongs to one node's own cells, so the work is linear in the sheet.
 ghost use mathlib.Core.Path.{_≡_};
 ghost use Prim.Native.Nat.{_≤_};
+ghost use lib.ListN.{length};
+ghost use Rattle.sheet.specs.Parts.{cell-count};
 ghost use Rattle.layout.specs.Layout.{Whole};
 ghost use Rattle.scope.specs.Scope.{width-at, Judges};
 use layout::Found;
@@ -19,8 +21,8 @@ pub enum Scope {
 }
 
 // The column count that stands at `at` in a stack of so many, 0 past its top.
-fn width_at(widths: &[usize; 2048], at: usize, depth: usize) -> usize
-    requires { ⌜ depth ≤ 2048 ⌝ }
+fn width_at(widths: &[usize], at: usize, depth: usize) -> usize
+    requires { ⌜ depth ≤ length (now widths) ⌝ }
     ensures { λ r. ⌜ r ≡ width-at (now (widths .entry)) at depth ⌝ }
 {
     if at < depth {
@@ -29,15 +31,14 @@ fn width_at(widths: &[usize; 2048], at: usize, depth: usize) -> usize
     0
 }
 
-// The lowest Column or node that is out of scope, or the plan's number of columns. `widths` is a stack: the column counts of the plans read that no node has
-// as a source yet. `own` is the first cell since the last node. Of cells that are not one plan nothing is promised.
-pub fn outside(s: &[u8]) -> Scope
-    requires { ⌜ Whole (now s) ⌝ }
+// The lowest Column or node that is out of scope, or the plan's number of columns. `widths` is a stack, which is lent: the column counts of the plans read that
+// no node has as a source yet. `own` is the first cell since the last node. Of cells that are not one plan nothing is promised.
+fn outside_in(s: &[u8], widths: &mut [usize]) -> Scope
+    requires { ⌜ Whole (now s) × (cell-count (now s) ≤ length (now widths)) ⌝ }
     ensures { λ r. ⌜ Judges (now (s .entry)) r ⌝ }
 {
     let p = parts_of(s);
     let count = p.cells.count;
-    let mut widths = [0usize; 2048];
     let mut depth: usize = 0;
     let mut own: usize = 0;
     let mut i: usize = 0;
@@ -52,8 +53,8 @@ pub fn outside(s: &[u8]) -> Scope
             return Scope::Within(0);
         }
         let rest = depth - n;
-        let left = width_at(&widths, rest, depth);
-        let right = width_at(&widths, rest + 1, depth);
+        let left = width_at(widths, rest, depth);
+        let right = width_at(widths, rest + 1, depth);
         let read = columns_read(s, i, left, right);
         if let Found::At(place) = node_outside(s, own, i, left, right, read) {
             return Scope::Outside(place);
@@ -67,4 +68,22 @@ pub fn outside(s: &[u8]) -> Scope
         return Scope::Within(0);
     }
     Scope::Within(widths[depth - 1])
+}
+
+// The same with a stack of its own. Most plans are small, and a small stack is made faster.
+pub fn outside(s: &[u8]) -> Scope
+    requires { ⌜ Whole (now s) ⌝ }
+    ensures { λ r. ⌜ Judges (now (s .entry)) r ⌝ }
+{
+    let p = parts_of(s);
+    if p.cells.count <= 64 {
+        let mut few = [0usize; 64];
+        return outside_in(s, &mut few);
+    }
+    if p.cells.count <= 256 {
+        let mut more = [0usize; 256];
+        return outside_in(s, &mut more);
+    }
+    let mut many = [0usize; 2048];
+    outside_in(s, &mut many)
 }

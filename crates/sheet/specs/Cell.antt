@@ -6,6 +6,7 @@ use mathlib.Core.Option.{Option, none, some}
 use lib.Dec.{leb, ltb, eqb}
 use lib.Ieee as Ieee
 use lib.ListN.{length, getD}
+use Rattle.value.specs.Value.{the-nan}
 use Rattle.sheet.specs.Bytes.{byte, half, word}
 use Rattle.sheet.specs.Parts.{cells-at, tables-at, table-count, cell-count, record-at, inside, first-failing}
 
@@ -101,11 +102,7 @@ fields-ok bytes tables k (carried flags a b c) =
 abbrev pub wide : ℕ → ℕ → ℕ
 wide low high = low + 4294967296 * high
 
--- the one NaN that a sheet may hold
-abbrev pub the-nan : ℕ
-the-nan = 9221120237041090560
-
--- A Float is no NaN but that one.
+-- A Float is no NaN but the one.
 abbrev pub float-ok : Cell → Bool
 float-ok k = not (eqb (k .tag) 4) || (not (Ieee.nanBits Ieee.binary64 (wide (k .a) (k .b))) || eqb (wide (k .a) (k .b)) the-nan)
 

@@ -1,15 +1,14 @@
 -- What a cell says by itself, apart from its children, and how that is written as a cell.
-use Prim.Native.Nat.{ℕ, zero, suc, _+_, _-_, _*_, _/_, _%_}
+use Prim.Native.Nat.{ℕ, zero, suc, _+_, _*_, _/_, _%_}
 use mathlib.Core.Bool.{Bool, true, false, cond}
 use mathlib.Core.List.{List, [], _∷_}
 use mathlib.Core.Option.{Option, none, some}
-use lib.Dec.{leb, ltb, eqb}
-use lib.IntN.{ℤ, pos, negsuc}
-use lib.ListN.{getD, take, drop}
+use lib.Dec.{leb, eqb}
+use lib.ListN.{getD}
 use Rattle.value.specs.Value.{Truth, False, Unknown, True, Datum, integer, float, string, Value, truth, datum, boolean}
+use Rattle.value.specs.Meaning.{integer-bits, integer-of-bits, bytes-at}
 use Rattle.sql.specs.Expression.{Logical, And, Or, Function1, IsNull, IsNaN, Identity, Negate, Function2, GreaterThan, LessThan, Add, Divide, Unary, Not, function, Binary, logical, Equal}
 use Rattle.sql.specs.Plan.{Label, unlabelled, unqualified, qualified}
-use Rattle.sheet.specs.Parts.{offset, text-length}
 use Rattle.sheet.specs.Cell.{Cell, wide}
 
 -- A cell's content, with the number of children where it says one.
@@ -45,18 +44,6 @@ low n = n % 4294967296
 abbrev pub high : ℕ → ℕ
 high n = n / 4294967296
 
--- an Integer from its 64 bits, and back (two's complement)
-unfoldable pub signed : ℕ → ℤ
-signed n = cond (ltb n 9223372036854775808) (pos n) (negsuc (18446744073709551615 - n))
-
-unfoldable pub unsigned : ℤ → ℕ
-unsigned (pos n) = n
-unsigned (negsuc n) = 18446744073709551615 - n
-
--- the bytes of a text that a reference names
-unfoldable pub text-at : List ℕ → ℕ → List ℕ
-text-at text r = take (text-length r) (drop (offset r) text)
-
 -- ---- writing
 
 abbrev pub bit : Bool → ℕ
@@ -86,7 +73,7 @@ abbrev pub constant-as-cell : Value → Cell
 constant-as-cell (truth Unknown) = with 1 0 0 0 0
 constant-as-cell (truth False) = with 2 0 0 0 0
 constant-as-cell (truth True) = with 2 0 1 0 0
-constant-as-cell (datum (integer n)) = with 3 0 (low (unsigned n)) (high (unsigned n)) 0
+constant-as-cell (datum (integer n)) = with 3 0 (low (integer-bits n)) (high (integer-bits n)) 0
 constant-as-cell (datum (float b)) = with 4 0 (low b) (high b) 0
 constant-as-cell (datum (string r s)) = with 5 0 r 0 0
 
@@ -177,9 +164,9 @@ readers =
     no-cell
     ∷ (λ text c. some (constant-cell (truth Unknown)))
     ∷ (λ text c. some (constant-cell (boolean (eqb (c .a) 1))))
-    ∷ (λ text c. some (constant-cell (datum (integer (signed (amount c))))))
+    ∷ (λ text c. some (constant-cell (datum (integer (integer-of-bits (amount c))))))
     ∷ (λ text c. some (constant-cell (datum (float (amount c)))))
-    ∷ (λ text c. some (constant-cell (datum (string (c .a) (text-at text (c .a))))))
+    ∷ (λ text c. some (constant-cell (datum (string (c .a) (bytes-at text (c .a))))))
     ∷ (λ text c. some (column-cell (c .a)))
     ∷ no-cell ∷ no-cell ∷ no-cell
     ∷ binary-reader (logical And) ∷ binary-reader (logical Or) ∷ binary-reader Equal ∷ binary-reader (function GreaterThan)

@@ -6,6 +6,7 @@ use mathlib.Core.List.{List}
 use mathlib.Core.Option.{Option, none, some}
 use lib.Dec.{leb, ltb, eqb}
 use lib.ListN.{length}
+use Rattle.value.specs.Meaning.{offset, text-length}
 use Rattle.sheet.specs.Bytes.{byte, half, word}
 
 -- ---- the trailer, read from the sheet's end
@@ -54,12 +55,6 @@ abbrev pub cell-count : List ℕ → ℕ
 cell-count s = (length s - 20 - cells-at s) / 16
 
 -- ---- text references: offset + 65,536 × length
-
-abbrev pub offset : ℕ → ℕ
-offset r = r % 65536
-
-abbrev pub text-length : ℕ → ℕ
-text-length r = r / 65536
 
 -- A reference lies inside a text of so many bytes. An empty one may stand at the very end.
 abbrev pub inside : ℕ → ℕ → Bool

@@ -4,13 +4,13 @@ use mathlib.Core.List.{List, [], _∷_}
 use mathlib.Core.Path.{_≡_, refl}
 use lib.ListN.{take, replicate}
 use lib.Ieee as Ieee
+use Rattle.value.specs.Meaning.{integer-bits, integer-of-bits}
 use Rattle.sql.specs.Room
 use Rattle.sql.specs.Optimizer
 use Rattle.sql.specs.Expression.{into-cnf, into-cnf-vec}
 use Rattle.sheet.specs.Bytes.{half, word, bytes}
 use Rattle.sheet.specs.Parts.{length-ok, edition-ok, parts-ok, bad-record}
 use Rattle.sheet.specs.Cell.{cell, cell-ok, bad-cell}
-use Rattle.sheet.specs.Content.{signed, unsigned}
 use Rattle.sheet.specs.Tree.{read}
 use Rattle.sheet.specs.Operations.{Outcome, all-five}
 use Rattle.sheet.specs.Listing.{listing}
@@ -39,5 +39,5 @@ P1-listing =
     10 ∷ 50 ∷ 32 ∷ 54 ∷ 51 ∷ 32 ∷ 48 ∷ 32 ∷ 49 ∷ 32 ∷ 48 ∷ 32 ∷ 48 ∷ 10 ∷ []
 
 pub P1-listed : listed (all-five P1 (replicate 68 0)) ≡ P1-listing
-unfolding all-five listing half word bytes length-ok edition-ok parts-ok bad-record bad-cell cell-ok cell read Room.FilterPushdown Room.push-filters-from Room.maybe-push-filter Room.maybe-push-join Optimizer.maybe-push-join Room.IndexLookup Room.index-lookup Optimizer.index-lookup Room.ShortCircuit Room.short-circuit signed unsigned
+unfolding all-five listing half word bytes length-ok edition-ok parts-ok bad-record bad-cell cell-ok cell read Room.FilterPushdown Room.push-filters-from Room.maybe-push-filter Room.maybe-push-join Optimizer.maybe-push-join Room.IndexLookup Room.index-lookup Optimizer.index-lookup Room.ShortCircuit Room.short-circuit integer-of-bits integer-bits
 P1-listed = refl

@@ -12,12 +12,13 @@ use lib.IntN.{pos, negsuc}
 use lib.ListN.{getD}
 use lib.Signed.{mag}
 use Rattle.value.specs.Value.{True, False, Unknown, integer, float, string, truth, datum, boolean}
+use Rattle.value.specs.Meaning.{integer-bits, integer-of-bits, bytes-at}
 use Rattle.sql.specs.Expression.{And, Or, IsNull, IsNaN, Identity, Negate, GreaterThan, LessThan, Add, Divide, Not, function, logical, Equal}
 use Rattle.sql.specs.Plan.{Label, unlabelled, unqualified, qualified}
 use Rattle.sheet.specs.Parts.{inside}
 use Rattle.sheet.specs.Cell.{Cell, Field, Tag, unknown, not-carried, carried, unused as unused-field, any as any-field, bit as bit-field, table as table-field, text as text-field, small as small-field, tags, tag-of, field-ok, fields-ok, float-ok, cell-ok, wide}
 use Rattle.sheet.specs.Content
-use Rattle.sheet.specs.Content.{Content, Reader, readers, low, high, signed, unsigned, content-of, cell-of, constant-cell, column-cell, unary-cell, binary-cell, label-cell, item-cell, key-cell, target-cell, agg-cell, row-cell, aggregate-cell, filter-cell, hash-join-cell, index-lookup-cell, key-lookup-cell, limit-cell, offset-cell, nested-loop-join-cell, nothing-cell, order-cell, projection-cell, remap-cell, scan-cell, values-cell}
+use Rattle.sheet.specs.Content.{Content, Reader, readers, low, high, content-of, cell-of, constant-cell, column-cell, unary-cell, binary-cell, label-cell, item-cell, key-cell, target-cell, agg-cell, row-cell, aggregate-cell, filter-cell, hash-join-cell, index-lookup-cell, key-lookup-cell, limit-cell, offset-cell, nested-loop-join-cell, nothing-cell, order-cell, projection-cell, remap-cell, scan-cell, values-cell}
 use Rattle.sheet_laws.specs.Fits.{Word, Label-fits, Table-fits, Exact-cell}
 
 -- The numbers of a cell have 4 bytes.
@@ -46,17 +47,17 @@ low-part d x y h = add-mul-mod-self-left x d y ∙ mod-eq-of-lt h
 pub high-part : (d x y : ℕ) → x < d → (x + d * y) / d ≡ y
 high-part d x y h = let p : 0 < d = omega arith in omega (arith, add-mul-div-left x y p, div-eq-of-lt h)
 
-pub unsigned-signed : (n : ℕ) → n < 2 ^ 64 → unsigned (signed n) ≡ n
-unfolding unsigned signed
-unsigned-signed n h = go (ltb n 9223372036854775808)
+pub bits-kept : (n : ℕ) → n < 2 ^ 64 → integer-bits (integer-of-bits n) ≡ n
+unfolding integer-bits integer-of-bits
+bits-kept n h = go (ltb n 9223372036854775808)
   where
-    go : (b : Bool) → unsigned (cond b (pos n) (negsuc (18446744073709551615 - n))) ≡ n
+    go : (b : Bool) → integer-bits (cond b (pos n) (negsuc (18446744073709551615 - n))) ≡ n
     go true = refl
     go false = omega arith
 
-pub mag-signed : (n : ℕ) → n < 2 ^ 64 → mag (signed n) < 2 ^ 63
-unfolding signed
-mag-signed n h = go (ltb n 9223372036854775808) refl
+pub mag-of-bits : (n : ℕ) → n < 2 ^ 64 → mag (integer-of-bits n) < 2 ^ 63
+unfolding integer-of-bits
+mag-of-bits n h = go (ltb n 9223372036854775808) refl
   where
     go : (b : Bool) → ltb n 9223372036854775808 ≡ b → mag (cond b (pos n) (negsuc (18446744073709551615 - n))) < 2 ^ 63
     go true e = omega (arith, ltb-true n 9223372036854775808 e)
@@ -148,9 +149,9 @@ boolean-says text bytes tables f (suc zero) b c d g =
     record { content = constant-cell (truth True); is = refl; back = cc; exact = (tt, tt) }
 boolean-says text bytes tables f (suc (suc a)) b c d g = absurd (omega arith)
 
-string-says : Understands 5 (carried 1 (text-field 0) unused-field unused-field) (λ text c. some (constant-cell (datum (string (c .a) (Content.text-at text (c .a))))))
+string-says : Understands 5 (carried 1 (text-field 0) unused-field unused-field) (λ text c. some (constant-cell (datum (string (c .a) (bytes-at text (c .a))))))
 string-says text bytes tables zero a b c d g =
-    record { content = constant-cell (datum (string a (Content.text-at text a))); is = refl; back = cc; exact = ((d .a-ok, refl), tt) }
+    record { content = constant-cell (datum (string a (bytes-at text a))); is = refl; back = cc; exact = ((d .a-ok, refl), tt) }
 string-says text bytes tables (suc f) a b c d g = absurd (omega (arith, d .flag-ok))
 
 -- numbers of 64 bits: Integer, Float, Limit, Offset
@@ -167,10 +168,10 @@ amount-says t k e x text bytes tables f a b c d g =
       exact = x text bytes tables f a b c h g;
     }
 
-integer-says : Understands 3 (carried 1 any-field any-field unused-field) (λ text c. some (constant-cell (datum (integer (signed (Content.amount c))))))
+integer-says : Understands 3 (carried 1 any-field any-field unused-field) (λ text c. some (constant-cell (datum (integer (integer-of-bits (Content.amount c))))))
 integer-says =
-    amount-says 3 (λ n. constant-cell (datum (integer (signed n)))) (λ n h. ap (λ (m : ℕ). laid 3 0 (low m) (high m) 0) (unsigned-signed n h))
-    (λ text bytes tables f a b c h g. (omega (arith, mag-signed (wide a b) h), tt))
+    amount-says 3 (λ n. constant-cell (datum (integer (integer-of-bits n)))) (λ n h. ap (λ (m : ℕ). laid 3 0 (low m) (high m) 0) (bits-kept n h))
+    (λ text bytes tables f a b c h g. (omega (arith, mag-of-bits (wide a b) h), tt))
 
 labelled-says : (t : ℕ) (k : Label → Content) → ((l : Label) → cell-of (k l) ≡ Content.labelled t l)
     → ((text : List ℕ) (bytes tables : ℕ) (l : Label) → Label-fits bytes l → Exact-cell text bytes tables (k l))

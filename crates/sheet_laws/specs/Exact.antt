@@ -11,27 +11,28 @@ use lib.Dec.{ltb, eqb}
 use lib.Ieee as Ieee
 use lib.IntN.{ℤ, pos, negsuc}
 use lib.Signed.{mag}
-use Rattle.value.specs.Value.{True, False, Unknown, integer, float, string, truth, datum}
+use Rattle.value.specs.Value.{True, False, Unknown, integer, float, string, truth, datum, the-nan}
+use Rattle.value.specs.Meaning.{integer-bits, integer-of-bits}
 use Rattle.sql.specs.Expression.{And, Or, IsNull, IsNaN, Identity, Negate, GreaterThan, LessThan, Add, Divide, Not, function, logical, Equal}
 use Rattle.sql.specs.Plan.{unlabelled, unqualified, qualified}
-use Rattle.sheet.specs.Cell.{tag-of, cell-ok, wide, the-nan}
-use Rattle.sheet.specs.Content.{Content, low, high, signed, unsigned, content-of, cell-of, constant-cell, column-cell, unary-cell, binary-cell, label-cell, item-cell, key-cell, target-cell, agg-cell, row-cell, aggregate-cell, filter-cell, hash-join-cell, index-lookup-cell, key-lookup-cell, limit-cell, offset-cell, nested-loop-join-cell, nothing-cell, order-cell, projection-cell, remap-cell, scan-cell, values-cell}
+use Rattle.sheet.specs.Cell.{tag-of, cell-ok, wide}
+use Rattle.sheet.specs.Content.{Content, low, high, content-of, cell-of, constant-cell, column-cell, unary-cell, binary-cell, label-cell, item-cell, key-cell, target-cell, agg-cell, row-cell, aggregate-cell, filter-cell, hash-join-cell, index-lookup-cell, key-lookup-cell, limit-cell, offset-cell, nested-loop-join-cell, nothing-cell, order-cell, projection-cell, remap-cell, scan-cell, values-cell}
 use Rattle.sheet_laws.specs.Fits.{Word, Reference, Exact-cell}
 use Rattle.sheet_laws.specs.Content.{Words, low-part, high-part}
 use Rattle.sheet_laws.specs.Reading.{Good}
 
-pub signed-unsigned : (n : ℤ) → mag n < 2 ^ 63 → signed (unsigned n) ≡ n
-unfolding signed unsigned
-signed-unsigned (pos n) h = rw (lt-ltb n 9223372036854775808 h)
-signed-unsigned (negsuc n) h =
+pub integer-kept : (n : ℤ) → mag n < 2 ^ 63 → integer-of-bits (integer-bits n) ≡ n
+unfolding integer-of-bits integer-bits
+integer-kept (pos n) h = rw (lt-ltb n 9223372036854775808 h)
+integer-kept (negsuc n) h =
     let l : ltb (18446744073709551615 - n) 9223372036854775808 ≡ false = le-ltb (18446744073709551615 - n) 9223372036854775808 (omega arith) in
     let e : 18446744073709551615 - (18446744073709551615 - n) ≡ n = omega arith in
     rw l (ap negsuc e)
 
-pub unsigned-bound : (n : ℤ) → mag n < 2 ^ 63 → unsigned n < 2 ^ 64
-unfolding unsigned
-unsigned-bound (pos n) h = omega arith
-unsigned-bound (negsuc n) h = omega arith
+pub bits-bound : (n : ℤ) → mag n < 2 ^ 63 → integer-bits n < 2 ^ 64
+unfolding integer-bits
+bits-bound (pos n) h = omega arith
+bits-bound (negsuc n) h = omega arith
 
 pub wide-halves : (n : ℕ) → wide (low n) (high n) ≡ n
 wide-halves n = mod-add-div n 4294967296
@@ -85,8 +86,8 @@ module _ (text : List ℕ) (bytes tables : ℕ) (short : bytes < 65536) (few : t
   faithful (constant-cell (truth Unknown)) x = faith refl nothing-said refl
   faithful (constant-cell (datum (integer n))) x =
       record {
-        is = ap (λ (z : ℤ). some (constant-cell (datum (integer z)))) (ap signed (wide-halves (unsigned n)) ∙ signed-unsigned n (x .0));
-        good = record { words = b-said (low-word (unsigned n)) (high-word (unsigned n) (unsigned-bound n (x .0))); ok = refl };
+        is = ap (λ (z : ℤ). some (constant-cell (datum (integer z)))) (ap integer-of-bits (wide-halves (integer-bits n)) ∙ integer-kept n (x .0));
+        good = record { words = b-said (low-word (integer-bits n)) (high-word (integer-bits n) (bits-bound n (x .0))); ok = refl };
       }
   faithful (constant-cell (datum (float b))) x =
       record {

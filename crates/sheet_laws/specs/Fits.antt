@@ -8,12 +8,12 @@ use lib.Dec.{eqb}
 use lib.Ieee as Ieee
 use lib.ListN.{length}
 use lib.Signed.{mag}
-use Rattle.value.specs.Value.{integer, float, string, Value, truth, datum}
+use Rattle.value.specs.Value.{integer, float, string, Value, truth, datum, the-nan}
+use Rattle.value.specs.Meaning.{bytes-at}
 use Rattle.sql.specs.Expression.{Expression, constant, column, unary, binary}
 use Rattle.sql.specs.Plan.{Label, unlabelled, unqualified, qualified, Leaf, scan, lookup, nothing, values, limit, offset, order, projection, remap, aggregate, Over, filter, other, Join, nested-loop, hash, Node, leaf, over, join}
 use Rattle.sheet.specs.Parts.{inside}
-use Rattle.sheet.specs.Cell.{the-nan}
-use Rattle.sheet.specs.Content.{Content, constant-cell, column-cell, unary-cell, binary-cell, label-cell, item-cell, key-cell, target-cell, agg-cell, row-cell, aggregate-cell, filter-cell, hash-join-cell, index-lookup-cell, key-lookup-cell, limit-cell, offset-cell, nested-loop-join-cell, nothing-cell, order-cell, projection-cell, remap-cell, scan-cell, values-cell, text-at}
+use Rattle.sheet.specs.Content.{Content, constant-cell, column-cell, unary-cell, binary-cell, label-cell, item-cell, key-cell, target-cell, agg-cell, row-cell, aggregate-cell, filter-cell, hash-join-cell, index-lookup-cell, key-lookup-cell, limit-cell, offset-cell, nested-loop-join-cell, nothing-cell, order-cell, projection-cell, remap-cell, scan-cell, values-cell}
 use Rattle.sheet.specs.Cells.{present, lookup-content}
 
 -- ---- a property of each cell of a plan, by what the cell says
@@ -82,7 +82,7 @@ abbrev pub Value-fits : (text : List ℕ) (bytes : ℕ) → Value → Type 0
 Value-fits text bytes (truth t) = Unit {0}
 Value-fits text bytes (datum (integer n)) = mag n < 2 ^ 63
 Value-fits text bytes (datum (float b)) = (b < 2 ^ 64) × (not (Ieee.nanBits Ieee.binary64 b) || eqb b the-nan ≡ true)
-Value-fits text bytes (datum (string r s)) = Reference bytes r × (s ≡ text-at text r)
+Value-fits text bytes (datum (string r s)) = Reference bytes r × (s ≡ bytes-at text r)
 
 abbrev pub Label-fits : (bytes : ℕ) → Label → Type 0
 Label-fits bytes unlabelled = Unit {0}

@@ -1,7 +1,7 @@
 -- What holds of the plan of a sheet that is accepted, and what is lent of its schema.
 use Prim.Native.Nat.{ℕ, _+_, _*_, _≤_, _<_}
 use native.Mathlib.Omega.{arith}
-use mathlib.Core.Path.{_≡_, refl, sym, ap, _∙_, subst}
+use mathlib.Core.Path.{_≡_, refl, sym, ap, _∙_}
 use mathlib.Core.Bool.{Bool}
 use mathlib.Core.List.{List, _++_, map}
 use lib.ListN.{length, take}
@@ -12,8 +12,8 @@ use Rattle.sheet.specs.Parts.{table-count, column-count}
 use Rattle.sheet.specs.Check.{text, schema, plan}
 use Rattle.sheet_laws.specs.Accepted.{accepted}
 use Rattle.sheet_laws.specs.Plan.{Bytes, parts-of, text-length, plan-fits, plan-size}
-use Rattle.sheet_laws.specs.Layout.{tables-good}
-use Rattle.sound.specs.Sound.{Named, Sound}
+use Rattle.sound.specs.Sound.{Sound}
+use Rattle.sound.specs.HandedOut.{names-inside}
 use Rattle.sound.specs.Checks.{passes-sound}
 use Rattle.layout.specs.Layout.{Whole}
 use Rattle.cells.specs.Room.{Wrote}
@@ -40,12 +40,6 @@ module _ (s : List ℕ) (b : Bytes s) (n : Node) (h : plan s ≡ done n) where
       let a = accepted s n h in
       (passes-sound (schema s) (text s) (table-count s) n 0 (plan-fits s b n h) (a .scope-is) (a .targets-are), refl)
 
-  names-inside : Named (schema s) (length (text s))
-  names-inside =
-      let a = accepted s n h in
-      subst (Named (schema s)) (sym (text-length s (parts-of a)))
-      (λ t c. let g = tables-good s (parts-of a) (a .records-are) t in (g .named, g .columns-named c))
-
   text-short : length (text s) < 65536
   text-short = let p = parts-of (accepted s n h) in omega (arith, text-length s p)
 
@@ -53,7 +47,7 @@ module _ (s : List ℕ) (b : Bytes s) (n : Node) (h : plan s ≡ done n) where
   lent l =
       record {
         named = names-lent s (recorded s n h) (l .widths-are) (l .names-are) (l .columns-are);
-        inside = names-inside;
+        inside = names-inside s b n h;
         indexed = indexes-lent s (recorded s n h) (l .widths-are) (l .keys-are) (l .marks-are);
       }
 
@@ -65,13 +59,10 @@ module _ (s : List ℕ) (b : Bytes s) (n : Node) (h : plan s ≡ done n) where
       let (e, w) = d n h .fits (omega (arith, long, all, fits)) in
       record { fit = fit; words-are = w; inside = omega (arith, e, long, same, all, fits); all = same ∙ all }
 
-  pub whole-recorded : Recorded s
-  whole-recorded = recorded s n h
-
-  pub few-tables : table-count s ≤ 16
+  few-tables : table-count s ≤ 16
   few-tables = parts-of (accepted s n h) .tables-few
 
-  pub few-columns : column-count s ≤ 256
+  few-columns : column-count s ≤ 256
   few-columns = parts-of (accepted s n h) .columns-few
 
   given : (t : List ℕ) → t ≡ text s → {widths names columns keys : List ℕ} {marks : List Bool} → Lends s widths names columns keys marks
@@ -117,6 +108,17 @@ module _ (s : List ℕ) (b : Bytes s) {x y z w : List ℕ} (at : RunAt s x y z w
 
     pub runs-on : (count : ℕ) (out : List ℕ) (a : Code.Answer) (out′ : List ℕ) → HandsOut s y′ r count out a out′ → RunsOn s c count x out a out′
     runs-on count out a out′ h node room is fits all k = h node (chosen c room (schema s) node) is (left node room is fits all) k
+
+-- Its schema, and how large that is.
+module _ (s : List ℕ) (b : Bytes s) {x y z w : List ℕ} (at : RunAt s x y z w) where
+  pub all-recorded : Recorded s
+  all-recorded = recorded s (at .node) (at .is)
+
+  pub tables-fit : Whole s × (table-count s ≤ 16)
+  tables-fit = (all-recorded .whole, few-tables s b (at .node) (at .is))
+
+  pub columns-fit : column-count s ≤ 256
+  columns-fit = few-columns s b (at .node) (at .is)
 
 pub acceptable : {s x y z w : List ℕ} → RunAt s x y z w → Acceptable s
 acceptable at = record { node = at .node; is = at .is }

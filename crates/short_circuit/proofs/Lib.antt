@@ -1,2 +1,3 @@
 pub mod Node
 pub mod Pass
+pub mod Climbing

@@ -1,6 +1,6 @@
 -- Contracts of pass 5. The labels that an emptied node keeps name tables and columns, so what is handed out can be written again only if the schema's
 -- names lie inside the text: beside what a streamed pass is lent of the schema (crate stream), this pass is told so.
-use Prim.Native.Nat.{ℕ, _+_, _≤_, _<_}
+use Prim.Native.Nat.{ℕ, _+_, _-_, _≤_, _<_}
 use mathlib.Core.Path.{_≡_}
 use mathlib.Core.List.{List, _++_}
 use lib.ListN.{length, take}
@@ -12,6 +12,7 @@ use Rattle.sound.specs.Sound.{Named}
 use Rattle.words.specs.Words.{node-words}
 use Rattle.words.specs.Place.{NodeHere}
 use Rattle.labels.specs.Names.{Names}
+use Rattle.chain.specs.Chain.{Bare}
 use Rattle.kept.specs.Kept.{Kept}
 use Rattle.stream.specs.Stream.{Reading, StreamAt, Streamed}
 
@@ -41,3 +42,20 @@ abbrev pub Circuits : (widths names columns x : List ℕ) (lo hi tail : ℕ) (y 
 Circuits widths names columns x lo hi tail y at n y′ =
     (schema : Schema) (text : List ℕ) (tables : ℕ) → Names schema widths names columns → Named schema (length text) → (room rest : ℕ) (p : Node)
     → Reading schema text tables x lo hi tail y at room rest p → Streamed (Kept schema text tables p) y at tail n y′ (ShortCircuit room schema rest p)
+
+-- What becomes of the node of x from lo up to `end` stands in y, u words with the first `at` of y₀, and bare nodes (crate chain) stand over it up to hi.
+pub record Climbing (widths names columns x : List ℕ) (lo end hi tail : ℕ) (y₀ : List ℕ) (at u : ℕ) (y : List ℕ) : Type 0 where
+  pub bare : Bare x lo hi end
+  pub given : CircuitAt widths names columns x lo hi tail y₀ at
+  pub long : length y ≡ length y₀
+  pub below : Circuits widths names columns x lo end (tail + (hi - end)) y₀ at u y
+
+pub record ClimbsAt (widths names columns x : List ℕ) (end hi tail : ℕ) (y : List ℕ) (at u : ℕ) : Type 0 where
+  pub lo : ℕ
+  pub y₀ : List ℕ
+  pub is : Climbing widths names columns x lo end hi tail y₀ at u y
+
+-- After that y′ with n words is y₀ after the pass on all of them.
+abbrev pub Climbs : (widths names columns x : List ℕ) (end hi tail : ℕ) (y : List ℕ) (at u n : ℕ) → List ℕ → Type 0
+Climbs widths names columns x end hi tail y at u n y′ =
+    (lo : ℕ) (y₀ : List ℕ) → Climbing widths names columns x lo end hi tail y₀ at u y → Circuits widths names columns x lo hi tail y₀ at n y′

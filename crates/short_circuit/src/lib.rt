@@ -5,7 +5,7 @@ ghost use Prim.Native.Nat.{_+_, _≤_};
 ghost use lib.ListN.{length};
 ghost use Rattle.nodes.specs.Columns.{ColumnsAt};
 ghost use Rattle.labels.specs.Names.{NamesAt};
-ghost use Rattle.short_circuit.specs.ShortCircuit.{Empties, CircuitsNode, CircuitAt, Circuits};
+ghost use Rattle.short_circuit.specs.ShortCircuit.{Empties, CircuitsNode, CircuitAt, Circuits, ClimbsAt, Climbs};
 
 // The node from lo to hi, which can't produce anything, becomes a Nothing that keeps its labels. Room for these is asked for before they are written.
 fn into_nothing(
@@ -62,7 +62,40 @@ fn short_circuit_node(
     end
 }
 
+// The pass on the bare nodes (crate chain) whose cells stand in x from `end` up to hi, from the lowest on. What became of the node below them was written
+// to y from `at` up to u.
+fn climb(
+    x: &[usize],
+    end: usize,
+    hi: usize,
+    tail: usize,
+    y: &mut [usize],
+    at: usize,
+    u: usize,
+    z: &mut [usize],
+    widths: &[usize],
+    names: &[usize],
+    columns: &[usize],
+) -> usize
+    requires { ⌜ ClimbsAt (now widths) (now names) (now columns) (now x) end hi tail (now y) at u ⌝ }
+    requires { ⌜ length (now z) ≡ length (now y) ⌝ }
+    ensures { λ r. ⌜ Climbs (now (widths .entry)) (now (names .entry)) (now (columns .entry)) (now (x .entry)) end hi tail (now (y .entry)) at u r (now (y .exit)) ⌝ }
+{
+    let mut m = end;
+    let mut n = u;
+    while m < hi {
+        if y.len() < n {
+            return n;
+        }
+        let v = stream::finish(x, m, m + 6, y, at, n);
+        m += 6;
+        n = short_circuit_node(y, at, v, tail + (hi - m), z, widths, names, columns);
+    }
+    n
+}
+
 // The pass on the node from lo to hi of x, with tail words of the plan left to read behind it, and `at` words written to y before it.
+// A chain of bare nodes is gone through without a frame for each.
 pub fn short_circuit(
     x: &[usize],
     lo: usize,
@@ -85,31 +118,25 @@ pub fn short_circuit(
         return short_circuit_node(y, at, end, tail, z, widths, names, columns);
     }
     let m = nodes::own_start(x, lo, hi);
+    let back = tail + (hi - m);
     if n == 1 {
-        let u = short_circuit(x, lo, m, tail + (hi - m), y, at, z, widths, names, columns);
-        if y.len() < u {
-            return u;
+        let end = chain::descend_bare(x, lo, m);
+        let behind = back + (m - end);
+        let u = short_circuit(x, lo, end, behind, y, at, z, widths, names, columns);
+        let v = climb(x, end, m, back, y, at, u, z, widths, names, columns);
+        if y.len() < v {
+            return v;
         }
-        let end = stream::finish(x, m, hi, y, at, u);
+        let end = stream::finish(x, m, hi, y, at, v);
         return short_circuit_node(y, at, end, tail, z, widths, names, columns);
     }
     let mid = cells::start(x, m);
-    let u = short_circuit(
-        x,
-        lo,
-        mid,
-        tail + (hi - mid),
-        y,
-        at,
-        z,
-        widths,
-        names,
-        columns,
-    );
+    let behind = tail + (hi - mid);
+    let u = short_circuit(x, lo, mid, behind, y, at, z, widths, names, columns);
     if y.len() < u {
         return u;
     }
-    let v = short_circuit(x, mid, m, tail + (hi - m), y, u, z, widths, names, columns);
+    let v = short_circuit(x, mid, m, back, y, u, z, widths, names, columns);
     if y.len() < v {
         return v;
     }

@@ -7,9 +7,9 @@ use mathlib.Core.Bool.{Bool, true, false, not, _||_, cond}
 use mathlib.Core.List.{List, [], _∷_}
 use mathlib.Core.Option.{Option, none, some}
 use lib.Dec.{eqb, ltb}
-use Rattle.value.specs.Value.{Value, datum, float, null}
+use Rattle.value.specs.Value.{Value, datum, float, null, the-nan}
 use Rattle.value.specs.Undefined.{is-undefined}
-use Rattle.sql.specs.Expression.{And, Or, Function1, IsNull, IsNaN, Identity, Negate, Not, logical, Equal, function, Expression, constant, column, unary, binary, and, contains-column, map-columns, replace-column, into-nnf, into-nnf-not, into-nnf-operands, Conjuncts, single, both, or-right, or-both, distribute, conjuncts, into-cnf, ands, into-cnf-vec, and-all, and-vec, is-column, is-constant, is-equal-lookup, is-function-lookup, same-column, is-column-lookup, the-nan, equal-values, into-column-values}
+use Rattle.sql.specs.Expression.{And, Or, Function1, IsNull, IsNaN, Identity, Negate, Not, logical, Equal, function, Expression, constant, column, unary, binary, and, contains-column, map-columns, replace-column, into-nnf, into-nnf-not, into-nnf-operands, Conjuncts, single, both, or-right, or-both, distribute, conjuncts, into-cnf, ands, into-cnf-vec, and-all, and-vec, is-column, is-constant, is-equal-lookup, is-function-lookup, same-column, is-column-lookup, equal-values, into-column-values}
 use Rattle.sql.specs.Optimizer.{ref-left, ref-right, ordered, equijoin}
 use Rattle.sheet_laws.specs.Fits.{All, Optional}
 use Rattle.sound.specs.Lists.{or-false, none-some, some-same, all-append}

@@ -39,7 +39,8 @@ module _ (s : List ℕ) (b : Bytes s) (n : Node) (h : plan s ≡ done n) where
       let a = accepted s n h in
       record { fits = plan-fits s b n h; in-scope = a .scope-is; targets = a .targets-are }
 
-  names-inside : Named (schema s) (length (text s))
+  -- the names of its tables and columns lie inside the text
+  pub names-inside : Named (schema s) (length (text s))
   names-inside =
       let a = accepted s n h in
       subst (Named (schema s)) (sym (text-length s (parts-of a)))

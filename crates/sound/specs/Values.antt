@@ -12,13 +12,12 @@ use lib.Ieee as Ieee
 use lib.Ieee.{Float, nan, inf, fin, binary64}
 use lib.Ieee.Fits.{add-fits, div-fits, neg-fits}
 use lib.Ieee.Bits.{toBits-lt, ofBits-toBits, ofBits-fits, nanBits-is}
-use Rattle.value.specs.Value.{Truth, False, Unknown, True, Datum, integer, float, string, Value, truth, datum, Result, ok, err, overflow}
+use Rattle.value.specs.Value.{Truth, False, Unknown, True, Datum, integer, float, string, Value, truth, datum, Result, ok, err, overflow, the-nan}
 use Rattle.value.specs.Comparison.{Finding, Less, Equal, Greater, Unordered, NotComparable, compare, compared, against-datum, answer, number-of, rounded, is-equal, is-greater, is-less}
 use Rattle.value.specs.Arithmetic.{checked, written, add-integers, divide-integers, of-data, with-datum, of-truths, arithmetic, of-truth}
 use Rattle.value.specs.Logic as Logic
-use Rattle.sql.specs.Expression.{And, Or, IsNull, IsNaN, Identity, Negate, GreaterThan, LessThan, Add, Divide, Unary, Not, Binary, logical, function, Expression, constant, column, unary, binary, evaluate-unary, evaluate-binary, evaluate, the-nan}
+use Rattle.sql.specs.Expression.{And, Or, IsNull, IsNaN, Identity, Negate, GreaterThan, LessThan, Add, Divide, Unary, Not, Binary, logical, function, Expression, constant, column, unary, binary, evaluate-unary, evaluate-binary, evaluate}
 use Rattle.sql.specs.Expression
-use Rattle.sheet.specs.Cell
 use Rattle.sheet_laws.specs.Fits.{Value-fits}
 use Rattle.sound.specs.Answers.{Valued, valued-bind}
 use Rattle.sound.specs.Expressions.{Made-of}
@@ -26,7 +25,7 @@ use Rattle.sound.specs.Expressions.{Made-of}
 -- ---- what is written of a Float
 
 abbrev one-nan : ℕ → Bool
-one-nan b = not (Ieee.nanBits binary64 b) || eqb b Cell.the-nan
+one-nan b = not (Ieee.nanBits binary64 b) || eqb b the-nan
 
 no-other-nan : (x : Float) (b : ℕ) → Ieee.toBits binary64 x ≡ b → Ieee.nanBits binary64 b ≡ Ieee.isNan x → one-nan b ≡ true
 unfolding Ieee.toBits Ieee.isNan

@@ -1,11 +1,11 @@
--- What the functions of the split have written, from what their calls have.
-use Prim.Native.Nat.{ℕ, _+_, _-_, _≤_, _<_}
+-- What the functions that write the new predicate and cell have written, from what their calls have, and what the split makes of the join.
+use Prim.Native.Nat.{ℕ, _-_, _≤_, _<_}
 use native.Mathlib.Omega.{arith}
 use mathlib.Core.Bool.{Bool, true, false}
 use mathlib.Core.Option.{Option, none, some}
 use mathlib.Core.Path.{_≡_, refl, sym, ap, _∙_, subst}
-use mathlib.Core.List.{List, [], _∷_, _++_, map, append-assoc}
-use lib.ListN.{length, length-append}
+use mathlib.Core.List.{List, [], _∷_, _++_, map}
+use lib.ListN.{length}
 use Rattle.sql.specs.Expression.{Expression, ands, and-vec, shift-column-down, shift-column-up}
 use Rattle.sql.specs.Plan.{scan, lookup, nothing, values, filter, other, nested-loop, hash, Node, leaf, over, join}
 use Rattle.sql.specs.Optimizer.{ref-left, for-both, push-right, map-optional, push-part, split}
@@ -13,23 +13,23 @@ use Rattle.sql.specs.Room.{join-predicate}
 use Rattle.literal.specs.Shift.{up-down}
 use Rattle.sheet.specs.Cells.{present}
 use Rattle.cells.specs.declared.Cell.{Cell}
-use Rattle.cells.specs.Cells.{words, sized, cell-at, start-at, Sized}
+use Rattle.cells.specs.Cells.{sized, cell-at}
 use Rattle.cells.specs.Room.{Wrote, Seals}
 use Rattle.cells.proofs.Laws.{then, wrote-up}
-use Rattle.words.specs.Words.{cell, optional-words, node-words, join-cell}
+use Rattle.words.specs.Words.{cell, optional-words, join-cell}
 use Rattle.words.specs.Place.{ExpressionHere, ExpressionAt, NodeHere, NodeAt}
-use Rattle.words.proofs.Nodes.{node-cell-is, own-part, sources-sized, join-left, join-right, node-in, node-long}
+use Rattle.words.proofs.Nodes.{node-cell-is, own-part, node-in}
+use Rattle.words.proofs.Sizes.{sized-long}
 use Rattle.nodes.specs.Own.{OwnStart}
-use Rattle.nodes.specs.Columns.{Narrow, ColumnsAt, ColumnCount}
 use Rattle.nodes.proofs.Widths.{flag-here}
 use Rattle.conjuncts.specs.Conjuncts.{AppendsEach}
 use Rattle.conjuncts.proofs.Lists.{shift-none}
 use Rattle.conjuncts.proofs.Appending.{words-long, appends-then, appends-vec}
 use Rattle.copied_lookups.specs.declared.Source.the-variants.{Left, Right}
 use Rattle.copied_lookups.proofs.Refers.{right-refers}
-use Rattle.push_into.proofs.Taking.{no-true}
-use Rattle.push_part.specs.Part.{part-for, PushesPart, ComesBack}
-use Rattle.split_join.specs.Split.{stays, HasPredicate, Stays, Rejoins, Splits}
+use Rattle.push_into.proofs.Taking.{no-true, put-long}
+use Rattle.push_part.specs.Part.{part-for, ComesBack}
+use Rattle.split_join.specs.Split.{stays, new-left, new-right, joined, PredicateAt, HasPredicate, Stays, Rejoins}
 
 -- ---- a join with a predicate
 
@@ -43,62 +43,30 @@ by-split P f (join outer (hash i j) l r) h = no-true h
 pub is-known : {s : List ℕ} {lo hi : ℕ} {b : Bool} → HasPredicate s lo hi b → b ≡ true → HasPredicate s lo hi true
 is-known f h p u = sym h ∙ f p u
 
-pub columns-node : {widths s : List ℕ} {lo hi : ℕ} → ColumnsAt widths s lo hi → NodeAt s lo hi
-columns-node t = record { p = t .p; here = t .here }
-
--- ---- where its parts stand
+-- ---- where its predicate stands
 
 module _ {s : List ℕ} {lo hi m : ℕ} (own : OwnStart s lo hi m) where
   pub predicate-here : (outer : Bool) (e : Expression) (l r : Node) → NodeHere s lo hi (join outer (nested-loop (some e)) l r) → ExpressionHere s m (hi - 6) e
   predicate-here outer e l r u =
       record { part = own-part (join outer (nested-loop (some e)) l r) u (own (join outer (nested-loop (some e)) l r) u) }
 
-  module _ (f : HasPredicate s lo hi true) where
-    pub predicate-at : NodeAt s lo hi → ExpressionAt s m (hi - 6)
-    predicate-at t =
-        by-split (λ p. NodeHere s lo hi p → ExpressionAt s m (hi - 6)) (λ outer e l r u. record { e = e; here = predicate-here outer e l r u }) (t .p) (sym (f (t .p) (t .here)))
-        (t .here)
-
-    pub right-sized : NodeAt s lo hi → Sized s m
-    right-sized t =
-        by-split (λ p. NodeHere s lo hi p → Sized s m)
-        (λ outer e l r u. sources-sized outer (nested-loop (some e)) l r u (own (join outer (nested-loop (some e)) l r) u)) (t .p) (sym (f (t .p) (t .here))) (t .here)
-
-    module _ {mid : ℕ} (st : mid ≡ start-at s m) where
-      pub left-columns : {widths : List ℕ} → ColumnsAt widths s lo hi → ColumnsAt widths s lo mid
-      left-columns {widths} t =
-          by-split (λ p. NodeHere s lo hi p → Narrow p → ColumnsAt widths s lo mid)
-          (λ outer e l r u k.
-          let x = join-left outer (nested-loop (some e)) l r u (own (join outer (nested-loop (some e)) l r) u) st in
-          let y = join-right outer (nested-loop (some e)) l r u (own (join outer (nested-loop (some e)) l r) u) st in
-          record {
-            schema = t .schema;
-            tables = t .tables;
-            p = l;
-            here = x;
-            narrow = k .0;
-            short = omega (arith, node-in r y .0, own (join outer (nested-loop (some e)) l r) u, node-long (join outer (nested-loop (some e)) l r) u, t .short);
-          })
-          (t .p) (sym (f (t .p) (t .here))) (t .here) (t .narrow)
-
-      pub right-node : NodeAt s lo hi → NodeAt s mid m
-      right-node t =
-          by-split (λ p. NodeHere s lo hi p → NodeAt s mid m)
-          (λ outer e l r u. record { p = r; here = join-right outer (nested-loop (some e)) l r u (own (join outer (nested-loop (some e)) l r) u) st }) (t .p) (sym (f (t .p) (t .here)))
-          (t .here)
+  pub predicate-at : HasPredicate s lo hi true → NodeAt s lo hi → ExpressionAt s m (hi - 6)
+  predicate-at f t =
+      by-split (λ p. NodeHere s lo hi p → ExpressionAt s m (hi - 6)) (λ outer e l r u. record { e = e; here = predicate-here outer e l r u }) (t .p) (sym (f (t .p) (t .here)))
+      (t .here)
 
 -- ---- the new predicate
 
-pub joined : (n : ℕ) {s : List ℕ} {lo mid m : ℕ} {cnf : List ℕ} {end : ℕ} {d : List ℕ} {at i j q : ℕ} {d₁ d₂ d₃ : List ℕ} → length d₁ ≡ length d → length d₂ ≡ length d₁
+pub stays-wrote : (n : ℕ) {s : List ℕ} {lo mid m : ℕ} {cnf : List ℕ} {end : ℕ} {d : List ℕ} {at i j q : ℕ} {d₁ d₂ d₃ : List ℕ} → length d₁ ≡ length d → length d₂ ≡ length d₁
     → AppendsEach (λ e. for-both n (ands e)) cnf 0 end d at at i d₁ → ComesBack Left n s lo mid cnf end d₁ at i j d₂ → ComesBack Right n s mid m cnf end d₂ at j q d₃
     → Stays n s lo mid m cnf end d at q d₃
-joined n k₁ k₂ f g h l r x y e u =
+stays-wrote n k₁ k₂ f g h l r x y e u =
     let back-left = push-part (part-for Left n 0 (ands e)) l .1 in
     let back-right = push-part (part-for Right n 0 (ands e)) r .1 in
     appends-vec (for-both n (ands e) ++ (back-left ++ back-right))
     (appends-then k₁ (for-both n (ands e)) (back-left ++ back-right) (f e u) (appends-then k₂ back-left back-right (g l x e u) (h r y e u)))
 
--- ---- the join's cell over its new sources and predicate
+-- ---- the join's cell over it
 
 -- the cell of a join that has lost its predicate
 abbrev pub cleared : Cell → Cell
@@ -109,39 +77,45 @@ unfolding cell
 cleared-is false e = refl
 cleared-is true e = refl
 
-pub flag-least : {s : List ℕ} {lo hi : ℕ} {c : Cell} → c ≡ cell-at s hi → HasPredicate s lo hi true → NodeAt s lo hi → 1 ≤ c .flag
-flag-least {s} {lo} {hi} {c} q f t =
-    by-split (λ p. NodeHere s lo hi p → 1 ≤ c .flag) (λ outer e l r u. omega (arith, flag-here q (join outer (nested-loop (some e)) l r) u)) (t .p) (sym (f (t .p) (t .here))) (t .here)
+pub cell-there : {s : List ℕ} {lo hi : ℕ} → PredicateAt s lo hi → (6 ≤ hi) × (hi ≤ length s)
+cell-there g = let (i, j) = node-in (join (g .outer) (nested-loop (some (g .p))) (g .l) (g .r)) (g .here) in (omega arith, j)
 
--- the words of the join, by the sources together
-join-shape : (outer : Bool) (o : Option Expression) (l r : Node)
-    → node-words (join outer (nested-loop o) l r) ≡ sized ((node-words l ++ node-words r) ++ optional-words o) (cell (join-cell outer (nested-loop o)))
-unfolding node-words
-join-shape outer o l r = rw (append-assoc (node-words l) (node-words r) (optional-words o))
+pub flag-least : {s : List ℕ} {lo hi : ℕ} {c : Cell} → c ≡ cell-at s hi → PredicateAt s lo hi → 1 ≤ c .flag
+flag-least q g = omega (arith, flag-here q (join (g .outer) (nested-loop (some (g .p))) (g .l) (g .r)) (g .here))
 
 module _ {s : List ℕ} {lo hi : ℕ} {d : List ℕ} {mid at : ℕ} where
   pub rejoin-full : length d < at → Rejoins s lo hi d mid at at d
-  rejoin-full z outer e l r u l′ r′ o d₀ d₁ k₁ k₂ v w =
-      let b = (node-words l′ ++ node-words r′) ++ optional-words o in
-      let f = then k₁ v w in
-      let i = ap length (join-shape outer o l′ r′) in
-      let j = length-append b (words (cell (join-cell outer (nested-loop o))) (length b + 6)) in
-      record { fits = λ h. absurd (let (x, y) = f .fits (omega arith) in omega arith); full = λ h. omega arith }
+  rejoin-full z =
+      record {
+        long = λ h. absurd (omega arith);
+        writes = λ outer e l r u o d₀ d₁ b k₁ k v w.
+            let f = then k₁ v w in
+            let i = sized-long (b ++ optional-words o) (cell (join-cell outer (nested-loop o))) in
+            record { fits = λ h. absurd (let (x, y) = f .fits (omega arith) in omega arith); full = λ h. omega arith };
+      }
 
   module _ (z : at ≤ length d) {c : Cell} (q : c ≡ cell-at s hi) {n : ℕ} {d′ : List ℕ} where
     pub rejoin-none : at ≡ mid → Seals d 0 at (cleared c) n d′ → Rejoins s lo hi d mid at n d′
-    rejoin-none i f outer e l r u l′ r′ none d₀ d₁ k₁ k₂ v w =
-        rw (join-shape outer none l′ r′)
-        (subst (λ (k : Cell). Wrote d₀ 0 (sized ((node-words l′ ++ node-words r′) ++ []) k) n d′)
-        (ap cleared (q ∙ node-cell-is (join outer (nested-loop (some e)) l r) u) ∙ cleared-is outer e) (f d₀ ((node-words l′ ++ node-words r′) ++ []) (k₂ ∙ k₁) (then k₁ v w)))
-    rejoin-none i f outer e l r u l′ r′ (some x) d₀ d₁ k₁ k₂ v w = absurd (omega (arith, wrote-up w (omega arith), words-long x))
+    rejoin-none i f = record { long = put-long (cleared c) f; writes = writes }
+      where
+        writes : (outer : Bool) (p : Expression) (l r : Node) → NodeHere s lo hi (join outer (nested-loop (some p)) l r)
+            → (o : Option Expression) (d₀ d₁ b : List ℕ) → length d₁ ≡ length d₀ → length d ≡ length d₁ → Wrote d₀ 0 b mid d₁ → Wrote d₁ mid (optional-words o) at d
+            → Wrote d₀ 0 (joined b outer o) n d′
+        writes outer e l r u none d₀ d₁ b k₁ k v w =
+            subst (λ (a : Cell). Wrote d₀ 0 (sized (b ++ []) a) n d′) (ap cleared (q ∙ node-cell-is (join outer (nested-loop (some e)) l r) u) ∙ cleared-is outer e)
+            (f d₀ (b ++ []) (k ∙ k₁) (then k₁ v w))
+        writes outer e l r u (some x) d₀ d₁ b k₁ k v w = absurd (omega (arith, wrote-up w (omega arith), words-long x))
 
     pub rejoin-some : (at ≡ mid → ⊥) → Seals d 0 at c n d′ → Rejoins s lo hi d mid at n d′
-    rejoin-some i f outer e l r u l′ r′ none d₀ d₁ k₁ k₂ v w = absurd (i (omega (arith, wrote-up w (omega arith))))
-    rejoin-some i f outer e l r u l′ r′ (some x) d₀ d₁ k₁ k₂ v w =
-        rw (join-shape outer (some x) l′ r′)
-        (subst (λ (k : Cell). Wrote d₀ 0 (sized ((node-words l′ ++ node-words r′) ++ optional-words (some x)) k) n d′) (q ∙ node-cell-is (join outer (nested-loop (some e)) l r) u)
-        (f d₀ ((node-words l′ ++ node-words r′) ++ optional-words (some x)) (k₂ ∙ k₁) (then k₁ v w)))
+    rejoin-some i f = record { long = put-long c f; writes = writes }
+      where
+        writes : (outer : Bool) (p : Expression) (l r : Node) → NodeHere s lo hi (join outer (nested-loop (some p)) l r)
+            → (o : Option Expression) (d₀ d₁ b : List ℕ) → length d₁ ≡ length d₀ → length d ≡ length d₁ → Wrote d₀ 0 b mid d₁ → Wrote d₁ mid (optional-words o) at d
+            → Wrote d₀ 0 (joined b outer o) n d′
+        writes outer e l r u none d₀ d₁ b k₁ k v w = absurd (i (omega (arith, wrote-up w (omega arith))))
+        writes outer e l r u (some x) d₀ d₁ b k₁ k v w =
+            subst (λ (a : Cell). Wrote d₀ 0 (sized (b ++ optional-words (some x)) a) n d′) (q ∙ node-cell-is (join outer (nested-loop (some e)) l r) u)
+            (f d₀ (b ++ optional-words (some x)) (k ∙ k₁) (then k₁ v w))
 
 -- ---- the split
 
@@ -165,20 +139,8 @@ back-again n es p = go (and-vec (push-right n es)) (right-refers n es)
     go none h = refl
     go (some x) h = returned (shift-column-up n) (shift-column-down 0 x) (shift-column-down n x) (shift-none x ∙ sym (up-down n x (h x refl))) p
 
-split-is : (n : ℕ) (outer : Bool) (es : List Expression) (l r : Node)
-    → join outer (nested-loop (stays n es l r)) (push-part (part-for Left n 0 es) l .0) (push-part (part-for Right n n es) r .0) ≡ split n outer es l r
+pub split-is : (n : ℕ) (outer : Bool) (es : List Expression) (l r : Node)
+    → join outer (nested-loop (stays n es l r)) (new-left n es l) (new-right n es r) ≡ split n outer es l r
 split-is n outer es l r =
-    ap (λ (xs : List Expression). join outer (nested-loop (and-vec (for-both n es ++ (push-part (part-for Left n 0 es) l .1 ++ xs)))) (push-part (part-for Left n 0 es) l .0) (push-part (part-for Right n n es) r .0))
+    ap (λ (xs : List Expression). join outer (nested-loop (and-vec (for-both n es ++ (push-part (part-for Left n 0 es) l .1 ++ xs)))) (new-left n es l) (new-right n es r))
     (back-again n es r)
-
-pub splits : {widths s : List ℕ} {lo hi m mid : ℕ} → OwnStart s lo hi m → mid ≡ start-at s m → {n : ℕ} → ColumnCount widths s lo mid n
-    → {cnf : List ℕ} {end : ℕ} {d : List ℕ} {a b at q : ℕ} {d₁ d₂ d₃ d₄ : List ℕ} → length d₁ ≡ length d → length d₂ ≡ length d₁ → length d₃ ≡ length d₂
-    → PushesPart Left n 0 s lo mid cnf end d 0 a d₁ → PushesPart Right n n s mid m cnf end d₁ a b d₂ → Stays n s lo mid m cnf end d₂ b at d₃ → Rejoins s lo hi d₃ b at q d₄
-    → Splits widths s lo hi cnf end d q d₄
-splits own st {n} count {d = d} {q = q} {d₂ = d₂} {d₄ = d₄} k₁ k₂ k₃ f g h j schema tables outer p l r u e v =
-    let x = join-left outer (nested-loop (some p)) l r u (own (join outer (nested-loop (some p)) l r) u) st in
-    let y = join-right outer (nested-loop (some p)) l r u (own (join outer (nested-loop (some p)) l r) u) st in
-    subst (λ (i : ℕ). Wrote d 0 (node-words (split i outer (ands e) l r)) q d₄) (count schema l tables x)
-    (subst (λ (t : Node). Wrote d 0 (node-words t) q d₄) (split-is n outer (ands e) l r)
-    (j outer p l r u (push-part (part-for Left n 0 (ands e)) l .0) (push-part (part-for Right n n (ands e)) r .0) (stays n (ands e) l r) d d₂ (k₂ ∙ k₁) k₃
-    (then k₁ (f l x e v) (g r y e v)) (h l r x y e v)))

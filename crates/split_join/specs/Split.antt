@@ -1,20 +1,22 @@
 -- The split of a join's predicate in slices of words: Optimizer.split. The predicate's normal form stands in `cnf` up to `end`.
-use Prim.Native.Nat.{ℕ}
+use Prim.Native.Nat.{ℕ, _+_, _≤_}
 use mathlib.Core.Bool.{Bool}
 use mathlib.Core.Path.{_≡_}
 use mathlib.Core.List.{List, _++_}
 use mathlib.Core.Option.{Option, some}
-use lib.ListN.{length}
+use lib.ListN.{length, take}
 use Rattle.sql.specs.Schema.{Schema}
 use Rattle.sql.specs.Expression.{Expression, ands, and-vec}
 use Rattle.sql.specs.Plan.{nested-loop, Node, join, columns}
 use Rattle.sql.specs.Optimizer.{for-both, push-part, split}
 use Rattle.sql.specs.Room.{join-predicate}
 use Rattle.sheet.specs.Cells.{present}
+use Rattle.cells.specs.Cells.{sized}
 use Rattle.cells.specs.Room.{Wrote}
-use Rattle.words.specs.Words.{optional-words, node-words}
+use Rattle.words.specs.Words.{cell, optional-words, node-words, join-cell}
 use Rattle.words.specs.Place.{ExpressionHere, NodeHere}
-use Rattle.nodes.specs.Columns.{Tables}
+use Rattle.nodes.specs.Columns.{Tables, Narrow}
+use Rattle.edit.specs.Edit.{Holds, Placed}
 use Rattle.copied_lookups.specs.declared.Source.the-variants.{Left, Right}
 use Rattle.push_part.specs.Part.{part-for}
 
@@ -22,25 +24,96 @@ use Rattle.push_part.specs.Part.{part-for}
 abbrev pub stays : ℕ → List Expression → Node → Node → Option Expression
 stays n cnf l r = and-vec (for-both n cnf ++ (push-part (part-for Left n 0 cnf) l .1 ++ push-part (part-for Right n 0 cnf) r .1))
 
+-- the left and the right source after the split
+abbrev pub new-left : ℕ → List Expression → Node → Node
+new-left n cnf l = push-part (part-for Left n 0 cnf) l .0
+
+abbrev pub new-right : ℕ → List Expression → Node → Node
+new-right n cnf r = push-part (part-for Right n n cnf) r .0
+
+-- A join's predicate and its cell, behind the words b, which the cell is over too. Where b are the words of its sources, that is the whole join.
+abbrev pub joined : List ℕ → Bool → Option Expression → List ℕ
+joined b outer o = sized (b ++ optional-words o) (cell (join-cell outer (nested-loop o)))
+
+-- ---- what stands where
+
+-- A join with a predicate stands in x from lo up to t − tail, between the words `pre` and `post`; its left source ends at mid, its right source at m.
+pub record JoinHere (x : List ℕ) (t lo mid m tail : ℕ) (pre post : List ℕ) (outer : Bool) (p : Expression) (l r : Node) : Type 0 where
+  pub holds : Holds x t lo tail pre post (join outer (nested-loop (some p)) l r)
+  pub left : lo + length (node-words l) ≡ mid
+  pub right : mid + length (node-words r) ≡ m
+
+pub record JoinAt (x : List ℕ) (t lo mid m tail : ℕ) : Type 0 where
+  pub pre : List ℕ
+  pub post : List ℕ
+  pub outer : Bool
+  pub p : Expression
+  pub l : Node
+  pub r : Node
+  pub here : JoinHere x t lo mid m tail pre post outer p l r
+
+-- Some join with a predicate stands there.
+pub record PredicateAt (s : List ℕ) (lo hi : ℕ) : Type 0 where
+  pub outer : Bool
+  pub p : Expression
+  pub l : Node
+  pub r : Node
+  pub here : NodeHere s lo hi (join outer (nested-loop (some p)) l r)
+
+-- What the split asks for: some join with a predicate stands there, and its left source's columns can be counted (crate nodes, Columns).
+pub record SplitAt (widths x : List ℕ) (t lo tail : ℕ) : Type 0 where
+  pub schema : Schema
+  pub tables : Tables schema widths
+  pub pre : List ℕ
+  pub post : List ℕ
+  pub outer : Bool
+  pub p : Expression
+  pub l : Node
+  pub r : Node
+  pub holds : Holds x t lo tail pre post (join outer (nested-loop (some p)) l r)
+  pub narrow : Narrow l
+  pub short : length x ≤ 16777216
+
 -- ---- contracts
 
 -- b tells whether the node there is a join with a predicate.
 abbrev pub HasPredicate : List ℕ → ℕ → ℕ → Bool → Type 0
 HasPredicate s lo hi b = (p : Node) → NodeHere s lo hi p → b ≡ present (join-predicate p)
 
--- The new predicate, if there is one, is appended or has no room.
+-- The new predicate, if there is one, is appended to the first `at` words of d or has no room.
 abbrev pub Stays : ℕ → List ℕ → ℕ → ℕ → ℕ → List ℕ → ℕ → List ℕ → ℕ → ℕ → List ℕ → Type 0
 Stays n s lo mid m cnf end d at q d′ = (l r : Node) → NodeHere s lo mid l → NodeHere s mid m r → (e : Expression) → ExpressionHere cnf 0 end e
     → Wrote d at (optional-words (stays n (ands e) l r)) q d′
 
--- Whatever sources were written to d up to mid, and whatever predicate behind them, the join of the kind that stands in s is over them.
-abbrev pub Rejoins : List ℕ → ℕ → ℕ → List ℕ → ℕ → ℕ → ℕ → List ℕ → Type 0
-Rejoins s lo hi d mid at q d′ = (outer : Bool) (e : Expression) (l r : Node) → NodeHere s lo hi (join outer (nested-loop (some e)) l r)
-    → (l′ r′ : Node) (o : Option Expression) (d₀ d₁ : List ℕ) → length d₁ ≡ length d₀ → length d ≡ length d₁
-    → Wrote d₀ 0 (node-words l′ ++ node-words r′) mid d₁ → Wrote d₁ mid (optional-words o) at d → Wrote d₀ 0 (node-words (join outer (nested-loop o) l′ r′)) q d′
+-- Whatever words were written to the first words of d, up to mid, and whatever predicate behind them, the cell of a join of the kind that stands in s is over them.
+pub record Rejoins (s : List ℕ) (lo hi : ℕ) (d : List ℕ) (mid at q : ℕ) (d′ : List ℕ) : Type 0 where
+  pub long : q ≤ length d → 6 ≤ q
+  pub writes : (outer : Bool) (p : Expression) (l r : Node) → NodeHere s lo hi (join outer (nested-loop (some p)) l r)
+      → (o : Option Expression) (d₀ d₁ b : List ℕ) → length d₁ ≡ length d₀ → length d ≡ length d₁ → Wrote d₀ 0 b mid d₁ → Wrote d₁ mid (optional-words o) at d
+      → Wrote d₀ 0 (joined b outer o) q d′
 
--- The join after the split is written to the first words of d, or has no room.
-abbrev pub Splits : List ℕ → List ℕ → ℕ → ℕ → List ℕ → ℕ → List ℕ → ℕ → List ℕ → Type 0
-Splits widths s lo hi cnf end d q d′ = (schema : Schema) → Tables schema widths → (outer : Bool) (p : Expression) (l r : Node)
-    → NodeHere s lo hi (join outer (nested-loop (some p)) l r) → (e : Expression) → ExpressionHere cnf 0 end e
-    → Wrote d 0 (node-words (split (columns schema l) outer (ands e) l r)) q d′
+-- Whatever was written to the first `at` words of y: it, the new predicate and the cell take the place of the join's words behind `kept`, the first words of its
+-- sources, or have no room.
+abbrev pub ReplacesEnd : ℕ → (x y : List ℕ) (t lo mid m tail : ℕ) → List ℕ → ℕ → ℕ → ℕ → ℕ → List ℕ → Type 0
+ReplacesEnd n x y t lo mid m tail cnf end from at q x′ =
+    (pre post : List ℕ) (outer : Bool) (p : Expression) (l r : Node) → JoinHere x t lo mid m tail pre post outer p l r → (e : Expression) → ExpressionHere cnf 0 end e
+    → (kept gone : List ℕ) → node-words l ++ node-words r ≡ kept ++ gone → lo + length kept ≡ from
+    → (y₀ w : List ℕ) → length y ≡ length y₀ → Wrote y₀ 0 w at y → Placed x′ q pre post (joined (kept ++ w) outer (stays n (ands e) l r))
+
+-- The join with the new predicate and with the right source after the split takes the join's place, or has no room.
+abbrev pub SplitsRight : ℕ → (x : List ℕ) (t lo mid m tail : ℕ) → List ℕ → ℕ → ℕ → List ℕ → Type 0
+SplitsRight n x t lo mid m tail cnf end q x′ =
+    (pre post : List ℕ) (outer : Bool) (p : Expression) (l r : Node) → JoinHere x t lo mid m tail pre post outer p l r → (e : Expression) → ExpressionHere cnf 0 end e
+    → Placed x′ q pre post (node-words (join outer (nested-loop (stays n (ands e) l r)) l (new-right n (ands e) r)))
+
+-- The join with the new predicate and with both sources after the split takes the join's place, or has no room.
+abbrev pub SplitsBoth : ℕ → (x : List ℕ) (t lo mid m tail : ℕ) → List ℕ → ℕ → ℕ → List ℕ → Type 0
+SplitsBoth n x t lo mid m tail cnf end q x′ =
+    (pre post : List ℕ) (outer : Bool) (p : Expression) (l r : Node) → JoinHere x t lo mid m tail pre post outer p l r → (e : Expression) → ExpressionHere cnf 0 end e
+    → Placed x′ q pre post (node-words (join outer (nested-loop (stays n (ands e) l r)) (new-left n (ands e) l) (new-right n (ands e) r)))
+
+-- The join after the split takes the join's place, or has no room.
+abbrev pub Splits : (widths x : List ℕ) (t lo tail : ℕ) → List ℕ → ℕ → ℕ → List ℕ → Type 0
+Splits widths x t lo tail cnf end q x′ = (schema : Schema) → Tables schema widths → (pre post : List ℕ) (outer : Bool) (p : Expression) (l r : Node)
+    → Holds x t lo tail pre post (join outer (nested-loop (some p)) l r) → (e : Expression) → ExpressionHere cnf 0 end e
+    → Placed x′ q pre post (node-words (split (columns schema l) outer (ands e) l r))

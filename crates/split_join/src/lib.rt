@@ -1,16 +1,17 @@
 // optimizer.rs, maybe_push_join: a join after one split of its predicate. The conjuncts of the predicate are pushed into the join's sources, as far as these take
-// them. The join stands in a plan in its working form, the predicate's normal form in a slice of its own, and the new join is written to a third one.
+// them. The plan is edited in place (crate edit): it stands in the first t words of x, the join from lo up to t - tail. What stands before the first word that
+// changes stays where it is; what comes behind that word, up to the join's end, is written to the scratch y and takes its place at once. So where the join
+// is as long as before, which it often is, the words behind it stay where they are too.
 use copied_lookups::Source;
 ghost use mathlib.Core.Path.{_≡_};
-ghost use mathlib.Core.Bool.{true};
+ghost use Prim.Native.Nat.{_-_, _≤_};
 ghost use lib.ListN.{length};
 ghost use Rattle.words.specs.Place.{ExpressionAt, NodeAt};
 ghost use Rattle.nodes.specs.Own.{OwnStart};
-ghost use Rattle.nodes.specs.Columns.{ColumnsAt};
-ghost use Rattle.split_join.specs.Split.{HasPredicate, Stays, Rejoins, Splits};
+ghost use Rattle.split_join.specs.Split.{PredicateAt, JoinAt, SplitAt, Stays, Rejoins, ReplacesEnd, SplitsRight, SplitsBoth, Splits};
 
-// The new predicate of a join of the sources from lo to mid and from mid to m: the conjuncts that stay, and behind them what comes back from each source. The
-// left source has n columns.
+// The new predicate of a join of the sources from lo to mid and from mid to m, behind the first `at` words of d: the conjuncts that stay, and behind them what
+// comes back from each source. The left source has n columns.
 fn joined_predicate(
     s: &[usize],
     lo: usize,
@@ -34,10 +35,9 @@ fn joined_predicate(
     push_part::come_back(s, mid, m, cnf, end, g, d, at, j, Source::Right, n)
 }
 
-// The cell of the join from lo to hi, which has a predicate, over the words of d: the new sources up to mid, and from there up to at the new predicate, or none.
+// The cell of the join from lo to hi, which has a predicate, over the first `at` words of d: from mid on they are the new predicate, or nothing.
 fn rejoin(s: &[usize], lo: usize, hi: usize, d: &mut [usize], mid: usize, at: usize) -> usize
-    requires { ⌜ NodeAt (now s) lo hi ⌝ }
-    requires { ⌜ HasPredicate (now s) lo hi true ⌝ }
+    requires { ⌜ PredicateAt (now s) lo hi ⌝ }
     ensures { λ r. ⌜ Rejoins (now (s .entry)) lo hi (now (d .entry)) mid at r (now (d .exit)) ⌝ }
 {
     if d.len() < at {
@@ -61,30 +61,122 @@ fn rejoin(s: &[usize], lo: usize, hi: usize, d: &mut [usize], mid: usize, at: us
     cells::put(d, 0, at, c)
 }
 
-// The join from lo to hi, whose predicate starts at m, after the split of its predicate, in the first words of d. The predicate's normal form stands in cnf up to
-// word `end`; g is lent for the conjuncts of one source at a time, and widths[t] is the number of columns of table t.
-pub fn split(
-    s: &[usize],
-    lo: usize,
-    hi: usize,
-    m: usize,
+// The first `at` words of y, the new predicate and the join's cell in the place of the join's words from word `from` on, which is one of its sources' words or m.
+// The sources end at mid and at m, and the left one has n columns. The predicate's normal form stands in cnf up to word `end`; g is lent for the conjuncts of
+// one source at a time.
+fn replace_end(
+    x: &mut [usize],
+    y: &mut [usize],
     cnf: &[usize],
     end: usize,
     g: &mut [usize],
-    d: &mut [usize],
-    widths: &[usize],
+    t: usize,
+    lo: usize,
+    mid: usize,
+    m: usize,
+    tail: usize,
+    n: usize,
+    from: usize,
+    at: usize,
 ) -> usize
-    requires { ⌜ ColumnsAt (now widths) (now s) lo hi ⌝ }
-    requires { ⌜ HasPredicate (now s) lo hi true ⌝ }
-    requires { ⌜ OwnStart (now s) lo hi m ⌝ }
+    requires { ⌜ JoinAt (now x) t lo mid m tail ⌝ }
+    requires { ⌜ (lo ≤ from) × (from ≤ m) ⌝ }
+    requires { ⌜ length (now y) ≡ length (now x) ⌝ }
     requires { ⌜ ExpressionAt (now cnf) 0 end ⌝ }
     requires { ⌜ length (now g) ≡ length (now cnf) ⌝ }
-    ensures { λ r. ⌜ Splits (now (widths .entry)) (now (s .entry)) lo hi (now (cnf .entry)) end (now (d .entry)) r (now (d .exit)) ⌝ }
+    ensures { λ r. ⌜ ReplacesEnd n (now (x .entry)) (now (y .entry)) t lo mid m tail (now (cnf .entry)) end from at r (now (x .exit)) ⌝ }
 {
-    let mid = cells::start(s, m);
-    let n = nodes::columns(s, lo, mid, widths);
-    let a = push_part::push_part(s, lo, mid, cnf, end, g, d, 0, Source::Left, n, 0);
-    let b = push_part::push_part(s, mid, m, cnf, end, g, d, a, Source::Right, n, n);
-    let at = joined_predicate(s, lo, mid, m, cnf, end, g, d, b, n);
-    rejoin(s, lo, hi, d, b, at)
+    let b = joined_predicate(x, lo, mid, m, cnf, end, g, y, at, n);
+    let c = rejoin(x, lo, t - tail, y, at, b);
+    edit::replace_own(x, y, c, t, lo, from, tail)
+}
+
+// The join with the new predicate, and with the right source's part in that source. The left source stays where it is, as it is.
+fn split_right(
+    x: &mut [usize],
+    y: &mut [usize],
+    cnf: &[usize],
+    end: usize,
+    g: &mut [usize],
+    t: usize,
+    lo: usize,
+    mid: usize,
+    m: usize,
+    tail: usize,
+    n: usize,
+) -> usize
+    requires { ⌜ JoinAt (now x) t lo mid m tail ⌝ }
+    requires { ⌜ length (now y) ≡ length (now x) ⌝ }
+    requires { ⌜ ExpressionAt (now cnf) 0 end ⌝ }
+    requires { ⌜ length (now g) ≡ length (now cnf) ⌝ }
+    ensures { λ r. ⌜ SplitsRight n (now (x .entry)) t lo mid m tail (now (cnf .entry)) end r (now (x .exit)) ⌝ }
+{
+    let k = push_part::own_part(x, mid, m, cnf, end, g, y, Source::Right, n, n);
+    if k == 0 {
+        return replace_end(x, y, cnf, end, g, t, lo, mid, m, tail, n, m, 0);
+    }
+    let own = nodes::own_start(x, mid, m);
+    let u = replace_end(x, y, cnf, end, g, t, lo, mid, m, tail, n, own, k);
+    if x.len() < u {
+        return u;
+    }
+    edit::reseal(x, u, mid, u - own - k)
+}
+
+// The join with the new predicate, and with each source's part in that source. If the left source takes a part, the right one is written again behind it.
+fn split_both(
+    x: &mut [usize],
+    y: &mut [usize],
+    cnf: &[usize],
+    end: usize,
+    g: &mut [usize],
+    t: usize,
+    lo: usize,
+    mid: usize,
+    m: usize,
+    tail: usize,
+    n: usize,
+) -> usize
+    requires { ⌜ JoinAt (now x) t lo mid m tail ⌝ }
+    requires { ⌜ length (now y) ≡ length (now x) ⌝ }
+    requires { ⌜ ExpressionAt (now cnf) 0 end ⌝ }
+    requires { ⌜ length (now g) ≡ length (now cnf) ⌝ }
+    ensures { λ r. ⌜ SplitsBoth n (now (x .entry)) t lo mid m tail (now (cnf .entry)) end r (now (x .exit)) ⌝ }
+{
+    let k = push_part::own_part(x, lo, mid, cnf, end, g, y, Source::Left, n, 0);
+    if k == 0 {
+        return split_right(x, y, cnf, end, g, t, lo, mid, m, tail, n);
+    }
+    let own = nodes::own_start(x, lo, mid);
+    let b = push_part::push_part(x, mid, m, cnf, end, g, y, k, Source::Right, n, n);
+    let u = replace_end(x, y, cnf, end, g, t, lo, mid, m, tail, n, own, b);
+    if x.len() < u {
+        return u;
+    }
+    edit::reseal(x, u, lo, u - own - k)
+}
+
+// The join, whose predicate starts at m, after the split of its predicate. widths[i] is the number of columns of table i.
+pub fn split(
+    x: &mut [usize],
+    y: &mut [usize],
+    cnf: &[usize],
+    end: usize,
+    g: &mut [usize],
+    t: usize,
+    lo: usize,
+    m: usize,
+    tail: usize,
+    widths: &[usize],
+) -> usize
+    requires { ⌜ SplitAt (now widths) (now x) t lo tail ⌝ }
+    requires { ⌜ OwnStart (now x) lo (t - tail) m ⌝ }
+    requires { ⌜ length (now y) ≡ length (now x) ⌝ }
+    requires { ⌜ ExpressionAt (now cnf) 0 end ⌝ }
+    requires { ⌜ length (now g) ≡ length (now cnf) ⌝ }
+    ensures { λ r. ⌜ Splits (now (widths .entry)) (now (x .entry)) t lo tail (now (cnf .entry)) end r (now (x .exit)) ⌝ }
+{
+    let mid = cells::start(x, m);
+    let n = nodes::columns(x, lo, mid, widths);
+    split_both(x, y, cnf, end, g, t, lo, mid, m, tail, n)
 }

@@ -5,7 +5,7 @@ use mathlib.Core.List.{List, [], _∷_, _++_}
 use mathlib.Core.Option.{Option, none, some}
 use lib.Dec.{eqb}
 use lib.ListN.{getD}
-use Rattle.value.specs.Value.{Value, datum, float, null, Result, ok, err}
+use Rattle.value.specs.Value.{Value, datum, float, the-nan, null, Result, ok, err}
 use Rattle.value.specs.Logic.{logical-and, logical-or, logical-not}
 use Rattle.value.specs.Comparison.{equal, greater-than, less-than}
 use Rattle.value.specs.Arithmetic.{checked-add, checked-div, identity, negate}
@@ -253,16 +253,12 @@ is-column-lookup (binary (logical Or) l r) = same-column (is-column-lookup l) (i
 is-column-lookup (binary Equal l r) = is-equal-lookup l r
 is-column-lookup (binary (function f) l r) = none
 
--- The one NaN that a sheet may hold, 7FF8000000000000 (hex); Is NaN looks it up.
-abbrev pub the-nan : ℕ
-the-nan = 0x7ff8000000000000
-
 -- = NULL and = NaN give no value.
 abbrev pub equal-values : Option Value → List Value
 equal-values none = []
 equal-values (some v) = cond (is-undefined v) [] (v ∷ [])
 
--- into_column_values, of an expression that is a lookup. (The Rust panics at any other.)
+-- into_column_values, of an expression that is a lookup. (The Rust panics at any other.) Is NaN looks up the one NaN that a sheet may hold.
 abbrev pub into-column-values : Expression → List Value
 into-column-values (constant v) = []
 into-column-values (column c) = []

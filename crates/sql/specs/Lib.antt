@@ -1,6 +1,7 @@
 pub mod Schema
 pub mod Expression
 pub mod Plan
+pub mod Ranges
 pub mod Answer
 pub mod Optimizer
 pub mod Room

@@ -4,6 +4,7 @@ ghost use mathlib.Core.Bool.{Bool};
 ghost use mathlib.Core.Option.{none};
 ghost use Prim.Native.Nat.{_≤_, _<_};
 ghost use lib.ListN.{length};
+ghost use Rattle.sheet.specs.Parts.{cell-count};
 ghost use Rattle.sheet.specs.Cell.{bad-cell};
 ghost use Rattle.layout.specs.Layout.{Whole, found};
 ghost use Rattle.structure.specs.Sorts as Sorts;
@@ -62,20 +63,20 @@ fn reduced(stack: &mut [u8], height: usize, k: layout::Cell) -> Found
     Found::At(rest + 1)
 }
 
-// The place of refusal 8, or nothing where the cells are one plan.
-pub fn lacking(s: &[u8]) -> Found
+// The place of refusal 8, or nothing where the cells are one plan; with a stack that is lent.
+fn lacking_in(s: &[u8], stack: &mut [u8]) -> Found
     requires { ⌜ Whole (now s) × (bad-cell (now s) ≡ none) ⌝ }
+    requires { ⌜ cell-count (now s) ≤ length (now stack) ⌝ }
     ensures { λ r. ⌜ found r ≡ place (plan-of (now (s .entry))) ⌝ }
 {
     let parts = layout::parts_of(s);
     let count = parts.cells.count;
     let at = parts.cells.at;
-    let mut stack = [0u8; 2048];
     let mut height: usize = 0;
     let mut i: usize = 0;
     while i < count {
         let k = layout::cell_from(s, at + i * 16);
-        let Found::At(next) = reduced(&mut stack, height, k) else {
+        let Found::At(next) = reduced(stack, height, k) else {
             return Found::At(i);
         };
         height = next;
@@ -88,4 +89,18 @@ pub fn lacking(s: &[u8]) -> Found
         return Found::At(count);
     }
     Found::Nothing
+}
+
+// The same with a stack of its own. Most plans are small, and a small stack is made faster.
+pub fn lacking(s: &[u8]) -> Found
+    requires { ⌜ Whole (now s) × (bad-cell (now s) ≡ none) ⌝ }
+    ensures { λ r. ⌜ found r ≡ place (plan-of (now (s .entry))) ⌝ }
+{
+    let parts = layout::parts_of(s);
+    if parts.cells.count <= 64 {
+        let mut few = [0u8; 64];
+        return lacking_in(s, &mut few);
+    }
+    let mut many = [0u8; 2048];
+    lacking_in(s, &mut many)
 }

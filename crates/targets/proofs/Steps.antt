@@ -1,5 +1,5 @@
 -- One law for each step of the walk over a sheet's cells.
-use Prim.Native.Nat.{ℕ, suc, _+_, _≤_, _<_}
+use Prim.Native.Nat.{ℕ, zero, suc, _+_, _≤_, _<_}
 use native.Mathlib.Omega.{arith}
 use native.Mathlib.Numerals.{add-one}
 use mathlib.Core.Path.{_≡_, refl, sym, ap, _∙_}
@@ -20,10 +20,10 @@ use Rattle.sheet_laws.specs.Fits.{All, Each, Each-over, Exact-cell}
 use Rattle.sheet_laws.specs.Plan.{Bytes}
 use Rattle.layout.specs.declared.Found.{Found}
 use Rattle.layout.specs.Layout.{found}
-use Rattle.node_scope.specs.Own.{segment}
+use Rattle.node_scope.specs.Own.{is-node, segment}
 use Rattle.node_scope.proofs.Steps.{segment-first, segment-all, segment-end}
 use Rattle.scope.proofs.Reading.{indexes, stands}
-use Rattle.targets.specs.Targets.{target-number, Repeats}
+use Rattle.targets.specs.Targets.{target-number, Untargeted, Repeats}
 use Rattle.targets.proofs.Walk.{walk, Below, Below-over, Below-node, walked}
 
 -- ---- one cell
@@ -50,17 +50,56 @@ pub record Walked (s last : List ℕ) (own i : ℕ) : Type 0 where
   pub marks : (t : ℕ) → t < 256 → ltb own (getD last t 0) ≡ member t before
   pub same : walk i before (segment s i (cell-count s)) ≡ walk 0 [] (cells-of s)
 
+-- ---- before the first Target
+
 module _ (s : List ℕ) where
-  pub start : Walked s (replicate 256 0) 0 0
-  start =
+  pub none-yet : Untargeted s 0
+  none-yet = record { within = omega arith; none-before = λ i h. absurd (omega arith) }
+
+  pub none-here : {n number : ℕ} {k : Cell} → Untargeted s n → n < cell-count s → k ≡ cell s n → number ≡ target-number k → 256 ≤ number → Untargeted s (n + 1)
+  none-here {n} {number} u h is e g =
+      record {
+        within = omega arith;
+        none-before = λ i j. go i j (eqb i n) refl;
+      }
+    where
+      go : (i : ℕ) → i < n + 1 → (b : Bool) → eqb i n ≡ b → 256 ≤ target-number (cell s i)
+      go i j true f = rw (eqb-true i n f, sym is, sym e) g
+      go i j false f = u .none-before i (let d = eqb-false i n f in omega arith)
+
+  either-way : (b : Bool) (x y : Option ℕ) → cond b x (cond true x y) ≡ x
+  either-way true x y = refl
+  either-way false x y = refl
+
+  past-one : (n : ℕ) (k : Cell) (ks : List Cell) → 256 ≤ target-number k → walk n [] (k ∷ ks) ≡ walk (suc n) [] ks
+  past-one n k ks h = rw (le-leb 256 (target-number k) h) (either-way (is-node (k .tag)) (walk (suc n) [] ks) (walk (suc n) (target-number k ∷ []) ks))
+
+  -- Such cells are passed over, and no number has been met.
+  passed : (n : ℕ) → Untargeted s n → walk n [] (segment s n (cell-count s)) ≡ walk 0 [] (cells-of s)
+  passed zero u = rw (segment-all s) refl
+  passed (suc n) u =
+      let before : Untargeted s n = record { within = omega (arith, u .within); none-before = λ i j. u .none-before i (omega arith) } in
+      ap (λ (i : ℕ). walk (suc n) [] (segment s i (cell-count s))) (sym (add-one n))
+      ∙ sym (past-one n (cell s n) (segment s (n + 1) (cell-count s)) (u .none-before n (omega arith)))
+      ∙ ap (walk n []) (sym (segment-first s (omega (arith, u .within))))
+      ∙ passed n before
+
+  pub untargeted : {n : ℕ} → Untargeted s n → cell-count s ≤ n → none ≡ walk 0 [] (cells-of s)
+  untargeted {n} u h = rw (segment-end s (u .within) h) at (passed n u)
+
+-- ---- from there on
+
+module _ (s : List ℕ) where
+  pub start : (from : ℕ) → Untargeted s from → Walked s (replicate 256 0) from from
+  start from u =
       record {
         before = [];
         order = omega arith;
-        within = omega arith;
+        within = u .within;
         room = refl;
         past = λ t h. rw (getD-replicate {A = ℕ} 256 t 0 0 h) (omega arith);
-        marks = λ t h. rw (getD-replicate {A = ℕ} 256 t 0 0 h) refl;
-        same = rw (segment-all s) refl;
+        marks = λ t h. rw (getD-replicate {A = ℕ} 256 t 0 0 h) (le-ltb from 0 (omega arith));
+        same = passed s from u;
       }
 
   module _ {last : List ℕ} {own i : ℕ} (w : Walked s last own i) (h : i < cell-count s) {k : Cell} (is : k ≡ cell s i) where

@@ -2,7 +2,7 @@
 // node before it.
 ghost use mathlib.Core.Path.{_≡_};
 ghost use Rattle.layout.specs.Layout.{Whole, as-cell};
-ghost use Rattle.targets.specs.Targets.{target-number, Repeats};
+ghost use Rattle.targets.specs.Targets.{target-number, Untargeted, Repeats};
 use layout::Cell;
 use layout::Found;
 use layout::cell_at;
@@ -20,17 +20,17 @@ fn target_number(k: Cell) -> usize
     256
 }
 
-// The lowest Target that equals one before it in the same Remap. `last` holds, for each number, one past the last Target with that number, and `own` is the
-// first cell since the last node: a Target before it belongs to another Remap.
-pub fn target_repeated(s: &[u8]) -> Found
-    requires { ⌜ Whole (now s) ⌝ }
+// The lowest Target that equals one before it in the same Remap, of the cells from `from` on. `last` holds, for each number, one past the last Target with
+// that number, and `own` is the first cell since the last node: a Target before it belongs to another Remap.
+fn repeated_from(s: &[u8], from: usize) -> Found
+    requires { ⌜ Whole (now s) × Untargeted (now s) from ⌝ }
     ensures { λ r. ⌜ Repeats (now (s .entry)) r ⌝ }
 {
     let p = parts_of(s);
     let count = p.cells.count;
     let mut last = [0usize; 256];
-    let mut own: usize = 0;
-    let mut i: usize = 0;
+    let mut own = from;
+    let mut i = from;
     while i < count {
         let k = cell_at(s, i);
         if 50 <= k.tag {
@@ -49,6 +49,23 @@ pub fn target_repeated(s: &[u8]) -> Found
         }
         i += 1;
         last[number] = i;
+    }
+    Found::Nothing
+}
+
+// The lowest Target that equals one before it in the same Remap. Few plans have Targets: the cells before the first one are passed over.
+pub fn target_repeated(s: &[u8]) -> Found
+    requires { ⌜ Whole (now s) ⌝ }
+    ensures { λ r. ⌜ Repeats (now (s .entry)) r ⌝ }
+{
+    let p = parts_of(s);
+    let count = p.cells.count;
+    let mut i: usize = 0;
+    while i < count {
+        if target_number(cell_at(s, i)) < 256 {
+            return repeated_from(s, i);
+        }
+        i += 1;
     }
     Found::Nothing
 }

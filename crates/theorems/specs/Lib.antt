@@ -1,3 +1,3 @@
+pub mod Sizes
 pub mod Theorems
-pub mod Below
-pub mod Proofs
+pub mod ShutOut

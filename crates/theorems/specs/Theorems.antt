@@ -1,6 +1,6 @@
 -- What is promised of the three operations, in document 01's words. The exported functions equal the definitions that are used here (crate sheet):
--- plan_check returns `check s`, plan_pass `one-pass s k out`, plan_optimize `all-five s out`. Each statement is proved in Proofs.antt, under its name in
--- small letters.
+-- plan_check returns `check s`, plan_pass `one-pass s k out`, plan_optimize `all-five s out`. Each statement is proved in proofs/Proofs.antt, under its name
+-- in small letters. Which wrong programs they refuse: ShutOut.antt.
 --
 -- s               the bytes handed in; Bytes s says that each is below 256
 -- k               the number of the pass asked for
@@ -13,19 +13,22 @@
 -- success c d     check's answer to an accepted sheet: number, place and length 0, c cells and d columns
 -- refusal n p     number n, place p, and 0 for length, cells and columns
 -- refuse out n p  the same, with the output as it was
-use Prim.Native.Nat.{ℕ, suc, _≤_, _<_}
-use mathlib.Core.Bool.{true, false, _&&_}
-use mathlib.Core.List.{List, _++_}
+use Prim.Native.Nat.{ℕ, suc, _+_, _*_, _-_, _≤_, _<_}
+use mathlib.Core.Bool.{true, cond}
+use mathlib.Core.List.{List, [], _∷_, _++_}
+use mathlib.Core.Logic.{_⊎_}
 use mathlib.Core.Path.{_≡_}
 use lib.Dec.{leb}
-use lib.ListN.{length, take, drop}
+use lib.ListN.{length, take, drop, getD}
 use Rattle.value.specs.Value.{ok}
 use Rattle.sql.specs.Expression.{Row}
 use Rattle.sql.specs.Plan.{Node, columns, node-size}
-use Rattle.sql.specs.Answer.{done, refused, _>>=_}
+use Rattle.sql.specs.Answer.{Answer, done, refused, _>>=_}
 use Rattle.sql.specs.Optimizer.{ConstantFolding, pass, optimize}
-use Rattle.sheet.specs.Parts.{cells-at}
-use Rattle.sheet.specs.Check.{Numbers, refusal, schema, plan, check}
+use Rattle.sql.specs.Room.{max-cells}
+use Rattle.sheet.specs.Parts.{cells-at, table-count, column-count, cell-count}
+use Rattle.sheet.specs.Check.{Numbers, refusal, text, schema, plan, check}
+use Rattle.sheet.specs.Write.{write}
 use Rattle.sheet.specs.Operations.{Outcome, refuse, one-pass, all-five}
 use Rattle.sheet_laws.specs.Plan.{Bytes}
 use Rattle.rows.specs.Database.{Database}
@@ -34,35 +37,34 @@ use Rattle.rows.specs.Equalities.{equalities, of-one-kind, all}
 use Rattle.rows.specs.Premises.{no-outer}
 use Rattle.sound.specs.HandedOut.{success}
 use Rattle.sound.specs.Operations.{sheet-of}
+use Rattle.theorems.specs.Sizes
 
 -- ======== 1. Every list of bytes meets success or one refusal, and whatever is handed out passes check with the same counts.
 
--- A refusal: its number is from `least` to `most`, and length, cells and columns are 0.
-pub record Refusal (least most : ℕ) (numbers : Numbers) : Type 0 where
-  pub from : least ≤ numbers .number
-  pub to : numbers .number ≤ most
-  pub no-length : numbers .length ≡ 0
-  pub no-cells : numbers .cells ≡ 0
-  pub no-columns : numbers .columns ≡ 0
+-- How many places a refusal from 2 to 10 can have: 2 to 4 have place 0 alone, 5 has the records, tables counted first, 6, 7, 9 and 10 have the cells, and 8
+-- the cells and the cell count.
+abbrev pub places : List ℕ → (number : ℕ) → ℕ
+places s number =
+    let records = table-count s + column-count s in
+    let cells = cell-count s in
+    getD (1 ∷ 1 ∷ 1 ∷ records ∷ cells ∷ cells ∷ suc cells ∷ cells ∷ cells ∷ []) (number - 2) 0
 
--- Check's success: number, place and length are 0, and the counts are those of the plan that the sheet stands for.
-pub record Accepted (s : List ℕ) (numbers : Numbers) : Type 0 where
-  pub node : Node
-  pub stands-for : plan s ≡ done node
-  pub answer : numbers ≡ success (node-size node) (columns (schema s) node)
-
+-- Check accepts a sheet, with the counts of the plan that it stands for, or refuses it.
 pub data Checked (s : List ℕ) (numbers : Numbers) : Type 0 where
-  is-accepted : Accepted s numbers → Checked s numbers
-  is-refused : Refusal 2 10 numbers → Checked s numbers
+  is-accepted : (n : Node) → plan s ≡ done n → numbers ≡ success (node-size n) (columns (schema s) n) → Checked s numbers
+  is-refused : (number place : ℕ) → plan s ≡ refused number place → numbers ≡ refusal number place → 2 ≤ number → number ≤ 10 → place < places s number
+      → Checked s numbers
 
 -- A success that hands out a sheet. Number and place are 0, and check accepts the sheet with the cells and columns that were answered, the columns those of
--- the sheet handed in. Text and records, which is all up to the first cell, are copied. The sheet is as long as was answered, it fits in the output, and
--- the output's bytes after it stay.
+-- the sheet handed in. Text and records are those of the sheet handed in, and all up to the first cell is copied from it. The sheet is as long as was
+-- answered, it fits in the output, and the output's bytes after it stay.
 pub record Success (s out : List ℕ) (o : Outcome) : Type 0 where
   pub number-0 : o .numbers .number ≡ 0
   pub place-0 : o .numbers .place ≡ 0
   pub passes-check : check (sheet-of o) ≡ success (o .numbers .cells) (o .numbers .columns)
   pub same-columns : o .numbers .columns ≡ check s .columns
+  pub same-text : text (sheet-of o) ≡ text s
+  pub same-schema : schema (sheet-of o) ≡ schema s
   pub copied : take (cells-at s) (sheet-of o) ≡ take (cells-at s) s
   pub bytes : Bytes (sheet-of o)
   pub as-long : length (sheet-of o) ≡ o .numbers .length
@@ -70,85 +72,74 @@ pub record Success (s out : List ℕ) (o : Outcome) : Type 0 where
   pub rest-stays : o .output ≡ sheet-of o ++ drop (o .numbers .length) out
 
 -- A sheet is handed out, or there is a refusal and the output is as it was.
-pub data Answered (least most : ℕ) (s out : List ℕ) (o : Outcome) : Type 0 where
-  is-success : Success s out o → Answered least most s out o
-  is-refusal : Refusal least most (o .numbers) → o .output ≡ out → Answered least most s out o
+pub data Answered (s out : List ℕ) (o : Outcome) : Type 0 where
+  is-success : Success s out o → Answered s out o
+  is-refusal : (number place : ℕ) → 2 ≤ number → number ≤ 15 → o ≡ refuse out number place → Answered s out o
 
 -- Check gives success or a refusal from 2 to 10.
 abbrev pub Check-answers : Type 0
 Check-answers = (s : List ℕ) → Bytes s → Checked s (check s)
 
--- One pass, whatever its number, hands out such a sheet or gives a refusal from 1 to 15.
+-- One pass hands out such a sheet or gives a refusal from 2 to 15, if its number is 1 to 5.
 abbrev pub One-pass-answers : Type 0
-One-pass-answers = (s : List ℕ) → Bytes s → (k : ℕ) (out : List ℕ) → Answered 1 15 s out (one-pass s k out)
+One-pass-answers = (s : List ℕ) → Bytes s → (k : ℕ) → 1 ≤ k → k ≤ 5 → (out : List ℕ) → Answered s out (one-pass s k out)
 
--- A number that is not 1 to 5 gets refusal 1, whatever the bytes are.
+-- Any other number gets refusal 1, whatever the bytes are.
 abbrev pub No-such-pass : Type 0
-No-such-pass = (s : List ℕ) (k : ℕ) (out : List ℕ) → (leb 1 k && leb k 5) ≡ false → one-pass s k out ≡ refuse out 1 0
-
--- A number from 1 to 5 never does.
-abbrev pub Pass-1-to-5-answers : Type 0
-Pass-1-to-5-answers = (s : List ℕ) → Bytes s → (k : ℕ) → 1 ≤ k → k ≤ 5 → (out : List ℕ) → Answered 2 15 s out (one-pass s k out)
+No-such-pass = (s : List ℕ) (k : ℕ) (out : List ℕ) → (k < 1) ⊎ (5 < k) → one-pass s k out ≡ refuse out 1 0
 
 -- All five hand out such a sheet or give a refusal from 2 to 15.
 abbrev pub All-five-answers : Type 0
-All-five-answers = (s : List ℕ) → Bytes s → (out : List ℕ) → Answered 2 15 s out (all-five s out)
+All-five-answers = (s : List ℕ) → Bytes s → (out : List ℕ) → Answered s out (all-five s out)
 
 -- ======== 2. Each pass, and all five, give what the Rust's optimizers give.
 
--- If one pass returns number 0, the sheet handed out stands for the plan that this optimizer makes of the plan of the sheet handed in. `pass` and `optimize`
--- are optimizer.rs as defined in crate sql, to be read beside it, and know no limit of room; crate literal ties them to the Rust's own text.
+-- Room: r, unless one of these sizes is over 2,048 cells. Then it is refusal 14, with place 0.
+abbrev pub with-room : (sizes : List ℕ) → Answer Node → Answer Node
+with-room sizes r = cond (all (λ (cells : ℕ). leb cells max-cells) sizes) r (refused 14 0)
+
+-- the bytes of the sheet that is handed out for the plan m: text and records, the cells, the trailer
+abbrev pub needed : List ℕ → Node → ℕ
+needed s m = cells-at s + 16 * node-size m + 20
+
+-- The sheet handed out stands for the plan m, its bytes are what m is written as (crate sheet, Write.antt), and its length and counts are returned.
+pub record Hands-out (s : List ℕ) (m : Node) (o : Outcome) : Type 0 where
+  pub stands-for : plan (sheet-of o) ≡ done m
+  pub is-written : sheet-of o ≡ write s m
+  pub returned : o .numbers ≡ record { number = 0; place = 0; length = needed s m; cells = node-size m; columns = columns (schema s) m }
+
+-- The whole answer: a refusal is handed on, with the output as it was; a plan is handed out if the output is long enough, and otherwise it is refusal 15,
+-- with the bytes needed for its place and the output as it was.
+abbrev pub Gives : (s out : List ℕ) → Answer Node → Outcome → Type 0
+Gives s out (refused number place) o = o ≡ refuse out number place
+Gives s out (done m) o = (needed s m ≤ length out → Hands-out s m o) × (length out < needed s m → o ≡ refuse out 15 (needed s m))
+
+-- An operation is the Rust's passes: for each of the five, and every sheet and output, it gives check's refusal if there is one; then 14 if and only if one of
+-- the pass's sizes (Sizes.antt) is over 2,048 cells; then the Rust's answer. `pass` is one optimizer of optimizer.rs by its number, as defined in crate
+-- sql, to be read beside it. It knows no limit of room. Only pass 1, ConstantFolding, refuses (11 to 13), and only 2, 3 and 5 have sizes.
+abbrev pub Is-one-pass : (List ℕ → ℕ → List ℕ → Outcome) → Type 0
+Is-one-pass operation =
+    (s : List ℕ) → Bytes s → (k : ℕ) → 1 ≤ k → k ≤ 5 → (out : List ℕ)
+    → Gives s out (plan s >>= λ (n : Node). with-room (Sizes.pass (schema s) k n) (pass (schema s) k n)) (operation s k out)
+
+-- The same of all five, `Plan::optimize` in plan.rs. Where ConstantFolding refuses there are no sizes.
+abbrev pub Is-all-five : (List ℕ → List ℕ → Outcome) → Type 0
+Is-all-five operation =
+    (s : List ℕ) → Bytes s → (out : List ℕ)
+    → Gives s out (plan s >>= λ (n : Node). with-room (Sizes.optimize (schema s) n) (optimize (schema s) n)) (operation s out)
+
+-- The operations are that. So a sheet that check refuses gets its number and place from every pass; 11 to 13 come from ConstantFolding alone; passes 1 and 4
+-- never give 14; and with the bytes that 15 asks for, the sheet is handed out.
 abbrev pub One-pass-gives : Type 0
-One-pass-gives =
-    (s : List ℕ) → Bytes s → (k : ℕ) (out : List ℕ) → one-pass s k out .numbers .number ≡ 0
-    → plan (sheet-of (one-pass s k out)) ≡ (plan s >>= pass (schema s) k)
+One-pass-gives = Is-one-pass one-pass
 
--- The same of all five, `Plan::optimize` in plan.rs.
 abbrev pub All-five-gives : Type 0
-All-five-gives =
-    (s : List ℕ) → Bytes s → (out : List ℕ) → all-five s out .numbers .number ≡ 0 → plan (sheet-of (all-five s out)) ≡ (plan s >>= optimize (schema s))
+All-five-gives = Is-all-five all-five
 
--- A sheet that check refuses is refused by every pass from 1 to 5 and by all five, with check's number and place.
-abbrev pub Refused-alike : Type 0
-Refused-alike =
-    (s : List ℕ) (number place : ℕ) → plan s ≡ refused number place → (out : List ℕ)
-    → (check s ≡ refusal number place) × ((k : ℕ) → 1 ≤ k → k ≤ 5 → one-pass s k out ≡ refuse out number place) × (all-five s out ≡ refuse out number place)
-
--- A sheet that check accepts is refused by 11 to 15 only.
-abbrev pub Accepted-answers : Type 0
-Accepted-answers =
-    (s : List ℕ) → Bytes s → check s .number ≡ 0 → (out : List ℕ)
-    → ((k : ℕ) → 1 ≤ k → k ≤ 5 → Answered 11 15 s out (one-pass s k out)) × Answered 11 15 s out (all-five s out)
-
--- Where ConstantFolding refuses the plan, pass 1 and all five return its number and place.
-abbrev pub Folding-refused : Type 0
-Folding-refused =
-    (s : List ℕ) (n : Node) (number place : ℕ) → plan s ≡ done n → ConstantFolding 0 n ≡ refused number place → (out : List ℕ)
-    → (one-pass s 1 out ≡ refuse out number place) × (all-five s out ≡ refuse out number place)
-
--- Refusals 11 to 13 come from there only: of the passes, pass 1 alone gives them, and number and place are ConstantFolding's.
-abbrev pub One-pass-11-to-13 : Type 0
-One-pass-11-to-13 =
-    (s : List ℕ) (k : ℕ) (out : List ℕ) → let numbers = one-pass s k out .numbers in
-    11 ≤ numbers .number → numbers .number ≤ 13 → (k ≡ 1) × ((plan s >>= ConstantFolding 0) ≡ refused (numbers .number) (numbers .place))
-
--- The same of all five.
-abbrev pub All-five-11-to-13 : Type 0
-All-five-11-to-13 =
-    (s out : List ℕ) → let numbers = all-five s out .numbers in
-    11 ≤ numbers .number → numbers .number ≤ 13 → (plan s >>= ConstantFolding 0) ≡ refused (numbers .number) (numbers .place)
-
--- Refusal 15 gives the bytes needed for its place: the output has fewer, and into an output with that many or more a sheet of that length is handed out.
-abbrev pub One-pass-15 : Type 0
-One-pass-15 =
-    (s : List ℕ) (k : ℕ) (out : List ℕ) → one-pass s k out .numbers .number ≡ 15 → let needed = one-pass s k out .numbers .place in
-    (length out < needed) × ((wide : List ℕ) → needed ≤ length wide → (one-pass s k wide .numbers .number ≡ 0) × (one-pass s k wide .numbers .length ≡ needed))
-
--- The same of all five.
-abbrev pub All-five-15 : Type 0
-All-five-15 =
-    (s out : List ℕ) → all-five s out .numbers .number ≡ 15 → let needed = all-five s out .numbers .place in
-    (length out < needed) × ((wide : List ℕ) → needed ≤ length wide → (all-five s wide .numbers .number ≡ 0) × (all-five s wide .numbers .length ≡ needed))
+-- ConstantFolding refuses by 11 to 13, and the place is a cell of the plan.
+abbrev pub Folding-refuses : Type 0
+Folding-refuses =
+    (n : Node) (number place : ℕ) → ConstantFolding 0 n ≡ refused number place → (11 ≤ number) × (number ≤ 13) × (place < node-size n)
 
 -- ======== 3. The passes change no row, from bytes to rows.
 
@@ -174,11 +165,12 @@ Same-rows-in-turn =
     → Passes-in-turn sheet → ((k : ℕ) → k ≤ 5 → plan (sheet k) ≡ done (plans k)) → database .schema ≡ schema (sheet 0) → Readable database plans rows
     → (k : ℕ) → k ≤ 5 → (check (sheet k) .columns ≡ check (sheet 0) .columns) × (rows k ≡ rows 0)
 
--- One call of all five: plan 0 is that of the sheet handed in, and plan k + 1 is what pass k + 1 makes of plan k. The sheet handed out stands for plan 5, has
--- equally many columns and reads as the same rows.
+-- One call of all five: plan 0 is that of the sheet handed in, and plan k + 1 is what pass k + 1 makes of plan k. The sheet handed out stands for plan 5; it
+-- and all six plans have as many columns as check answers to the sheet handed in, and all six have the same rows.
 abbrev pub Same-rows-all-five : Type 0
 Same-rows-all-five =
     (s out : List ℕ) (plans : ℕ → Node) (database : Database) (rows : ℕ → List Row)
     → Bytes s → plan s ≡ done (plans 0) → all-five s out .numbers .number ≡ 0 → ((k : ℕ) → k < 5 → pass (schema s) (suc k) (plans k) ≡ done (plans (suc k)))
     → database .schema ≡ schema s → Readable database plans rows
-    → (plan (sheet-of (all-five s out)) ≡ done (plans 5)) × (check (sheet-of (all-five s out)) .columns ≡ check s .columns) × (rows 5 ≡ rows 0)
+    → (plan (sheet-of (all-five s out)) ≡ done (plans 5)) × (check (sheet-of (all-five s out)) .columns ≡ check s .columns)
+    × ((k : ℕ) → k ≤ 5 → (columns (schema s) (plans k) ≡ check s .columns) × (rows k ≡ rows 0))

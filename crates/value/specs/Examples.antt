@@ -5,7 +5,7 @@ use mathlib.Core.Bool.{true, false}
 use mathlib.Core.List.{List, [], _∷_}
 use lib.IntN.{ℤ, pos, negsuc}
 use lib.Ieee as Ieee
-use Rattle.value.specs.Value.{Value, integer, float, string, datum, null, boolean, ok, err, overflow, division-by-zero, mismatch}
+use Rattle.value.specs.Value.{Value, integer, float, string, the-nan, datum, null, boolean, ok, err, overflow, division-by-zero, mismatch}
 use Rattle.value.specs.Logic.{logical-and, logical-or}
 use Rattle.value.specs.Comparison.{compare-floats, compare-bytes, equal, less-than}
 use Rattle.value.specs.Arithmetic.{add-integers, divide-integers, checked-add, checked-div, negate, checked}
@@ -28,9 +28,6 @@ smallest = negsuc (2 ^ 63 - 1)
 
 infinity : ℕ
 infinity = 0x7FF0000000000000
-
-the-nan : ℕ
-the-nan = 0x7FF8000000000000
 
 largest-plus-one : checked-add (Integer largest) (Integer (pos 1)) ≡ err overflow
 unfolding largest add-integers
@@ -63,7 +60,7 @@ cut-toward-zero = refl
 
 -- ∞ + −∞
 nan-result : checked-add (Float infinity) (Float (2 ^ 63 + infinity)) ≡ ok (Float the-nan)
-unfolding infinity the-nan Ieee.ofBits Ieee.add Ieee.toBits
+unfolding infinity Ieee.ofBits Ieee.add Ieee.toBits
 nan-result = refl
 
 null-plus-null : checked-add null null ≡ ok null
@@ -81,7 +78,7 @@ unfolding compare-floats Ieee.ofInt Ieee.ofBits Ieee.eq Ieee.lt
 rounded-first = refl
 
 nan-equals-itself : equal (Float the-nan) (Float the-nan) ≡ ok (boolean false)
-unfolding the-nan compare-floats Ieee.ofBits Ieee.eq Ieee.lt
+unfolding compare-floats Ieee.ofBits Ieee.eq Ieee.lt
 nan-equals-itself = refl
 
 -- 'a' < 'ab'

@@ -17,9 +17,19 @@ use Rattle.value.specs.declared.Error.the-variants as Error
 use Rattle.value.specs.declared.Result.{Result}
 use Rattle.value.specs.declared.Result.the-variants as Result
 
--- The bytes that a text reference, offset + 65,536 × length, refers to.
+-- ---- text references: offset + 65,536 × length
+
+abbrev pub offset : ℕ → ℕ
+offset reference = reference % 65536
+
+abbrev pub text-length : ℕ → ℕ
+text-length reference = reference / 65536
+
+-- the bytes of a text that a reference refers to
 abbrev pub bytes-at : List ℕ → ℕ → List ℕ
-bytes-at text reference = take (reference / 65536) (drop (reference % 65536) text)
+bytes-at text reference = take (text-length reference) (drop (offset reference) text)
+
+-- ---- values and answers
 
 -- A Float's pattern is `toBits`, at a NaN the one pattern 7FF8000000000000. A String is a reference into `text`.
 abbrev pub meaning : List ℕ → Value → Defined.Value

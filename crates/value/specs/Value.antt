@@ -15,6 +15,10 @@ pub data Datum : Type 0 where
   float : ℕ → Datum
   string : ℕ → List ℕ → Datum
 
+-- the pattern of the one NaN that operators write and that a sheet may hold
+abbrev pub the-nan : ℕ
+the-nan = 0x7FF8000000000000
+
 -- The Rust's Value: Null and Boolean(b) are the three truth values.
 pub data Value : Type 0 where
   truth : Truth → Value

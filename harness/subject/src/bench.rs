@@ -46,6 +46,27 @@ fn joins(n: u32, on: bool) -> Node {
     (0..n).fold(scan(0), |left, i| join(left, scan((i + 1) % 3), on.then(|| equal(col(3 * i + 1), col(3 * i + 3)))))
 }
 
+/// The same, right-deep: each on its left source's second column.
+fn joins_to_the_right(n: u32) -> Node {
+    (0..n).fold(scan(0), |right, i| join(scan((i + 1) % 3), right, Some(equal(col(1), col(3)))))
+}
+
+/// All of the predicates in one.
+fn all(predicates: impl Iterator<Item = Rc<Expr>>) -> Rc<Expr> {
+    predicates.reduce(|l, r| two(tag::AND, l, r)).expect("a predicate")
+}
+
+/// A join of two tables on n pairs of columns, with n lookups of the left one's columns.
+fn lookups(n: u32) -> Node {
+    let wide = |first: u32| {
+        let items = (0..n).map(|i| (col((first + i) % 3), Label::None)).collect();
+        Node::Projection { source: Box::new(scan(first)), items }
+    };
+    let pairs = (0..n).map(|i| equal(col(i), col(n + i)));
+    let given = (0..n).map(|i| equal(col(i), int(i64::from(i))));
+    join(wide(0), wide(1), Some(all(pairs.chain(given))))
+}
+
 fn filters(n: usize, source: Node, predicate: impl Fn(usize) -> Rc<Expr>) -> Node {
     (0..n).fold(source, |node, i| filter(node, predicate(i)))
 }
@@ -71,6 +92,15 @@ fn shapes() -> Vec<(String, Sheet)> {
         add(&format!("{n} joins"), joins(n, true));
     }
     add("filter over 100 joins", filter(joins(100, true), equal(col(0), int(7))));
+    for n in [4, 40, 400] {
+        add(&format!("{n} right-deep joins"), joins_to_the_right(n));
+    }
+    for n in [10, 100] {
+        add(&format!("a filter for each of {n} joins"), filter(joins(n, true), all((0..n).map(|i| equal(col(3 * i), int(7))))));
+    }
+    for n in [4, 16, 64, 160] {
+        add(&format!("{n} equijoins and {n} lookups"), lookups(n));
+    }
     add("1000 Filters of a column over a Scan", filters(1000, scan(0), |_| col(0)));
     add("1000 Filters of a column over a join", filters(1000, join(scan(0), scan(1), None), |_| col(0)));
     for n in [10, 100, 400] {

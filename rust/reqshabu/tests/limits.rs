@@ -1,7 +1,7 @@
 //! The boundaries of document 01's "Run only", and the deepest and widest sheets on a thread with a stack of 1 MiB.
 mod common;
 
-use common::{cell, on_ordinary_stack, on_small_stack, output, over_table, sheet, sheet_with, LARGEST};
+use common::{cell, on_small_stack, output, over_table, sheet, sheet_with, LARGEST};
 use reqshabu::{check, optimize, pass, Accepted, Refusal, Written};
 
 type Cell = [u8; 16];
@@ -182,10 +182,10 @@ fn but(all: u64, others: &[(usize, Result<u64, u64>)]) -> [Result<u64, u64>; 6] 
     answers
 }
 
-/// The deepest plans of the optimizer: what is expected is counted from document 01. They take up to 1.5 MiB (docs/ROADMAP.md).
+/// The deepest plans of the optimizer: what is expected is counted from document 01.
 #[test]
 fn deep_optimizer() {
-    on_ordinary_stack(|| {
+    on_small_stack(|| {
         deep_filters();
         deep_expressions();
         deep_joins();

@@ -24,7 +24,7 @@ same-length-2 : tie.Need-same-length-2
 same-length-2 c = search needs
 
 returns-2 : tie.Need-returns-2
-returns-2 c = follows-done (c .before .before .before .before .before .before .before .copy .kept .1 .1 .1 .0) (c .before .before .before .before .before .before .before .copy .ensures) (c .before .before .before .before .if1 .left) (c .before .before .reseal .kept .0) (c .before .before .reseal .ensures)
+returns-2 c = follows-done (c .before .before .before .before .before .before .before .copy .kept .1 .1 .1 .0) (c .before .before .before .before .before .before .before .copy .ensures) (c .before .before .before .before .before .before .before .before .before .before .before .pre .0) (c .before .before .before .before .before .before .before .before .before .before .before .pre .1 .0) (c .before .before .before .before .if1 .left) (c .before .before .reseal .kept .0) (c .before .before .reseal .ensures)
 
 pub follow-spec : {M : Type 1} → statement M
 follow-spec =

@@ -1,14 +1,7 @@
 use Rattle.edit.proofs.Edits.{resealed}
-use Prim.Native.Nat.{ℕ, _+_, _-_, _*_, _≤_, _<_}
-use native.Mathlib.Omega.{arith}
-use mathlib.Core.Path.{_≡_, refl, sym, ap, _∙_, subst}
-use mathlib.Core.List.{List, [], _∷_, _++_}
-use lib.ListN.{length, take, drop}
 use borrow.Author.Needs.{needs}
 use Rattle.edit.proofs.reseal.Statement.{statement}
 use Rattle.edit.proofs.reseal.Tie as tie
-use Rattle.edit.proofs.reseal.Reads as reads
-use Rattle.edit.proofs.reseal.Lts as lts
 
 sub-hi : tie.Need-sub-hi
 sub-hi c = search needs

@@ -18,7 +18,7 @@ use Rattle.cells.proofs.start.Reads as start-reads
 use Rattle.chain.proofs.descend.Reads as descend-reads
 use Rattle.chain.proofs.reseal.Reads as chain-reseal-reads
 use Rattle.edit.proofs.reseal.Reads as reseal-reads
-use Rattle.push_filters.proofs.push_filters.Reads as push-filters-reads
+use Rattle.push_filters.proofs.push_filters_in_place.Reads as push-filters-in-place-reads
 use Rattle.nodes.proofs.own_start.Reads as own-start-reads
 use Rattle.nodes.proofs.source_count.Reads as source-count-reads
 use Rattle.filter_pushdown.proofs.+each_source+push_filters_from.{statement}
@@ -58,7 +58,7 @@ abbrev each-source-claims : ℕ → each-source-lts.Claims
 each-source-claims t = (source-count-reads.Asked, source-count-reads.Learnt, own-start-reads.Asked, own-start-reads.Learnt, push-filters-from-below t, push-filters-from.Post, reseal-reads.Asked, reseal-reads.Learnt, start-reads.Asked, start-reads.Learnt)
 
 abbrev push-filters-from-claims : ℕ → push-filters-from-lts.Claims
-push-filters-from-claims t = (descend-reads.Asked, descend-reads.Learnt, push-filters-reads.Asked, push-filters-reads.Learnt, each-source-below t, each-source.Post, chain-reseal-reads.Asked, chain-reseal-reads.Learnt)
+push-filters-from-claims t = (descend-reads.Asked, descend-reads.Learnt, push-filters-in-place-reads.Asked, push-filters-in-place-reads.Learnt, each-source-below t, each-source.Post, chain-reseal-reads.Asked, chain-reseal-reads.Learnt)
 
 each-source-sub-source-count : (t : ℕ) → each-source-lts.Need-sub-source-count (each-source-claims t) (each-source-at t) each-source.Post
 each-source-sub-source-count t c = pass-in (c .before .before .before .before .before .before .pre .1 .0) .0
@@ -195,29 +195,29 @@ push-filters-from-returns t c = chain-zero (c .before .before .before .before .b
 push-filters-from-sub-back : (t : ℕ) → push-filters-from-lts.Need-sub-back (push-filters-from-claims t) (push-filters-from-at t) push-filters-from.Post
 push-filters-from-sub-back t c = chain-end (c .before .before .before .before .before .before .before .before .before .before .args .n) (c .before .before .before .descend .ensures) (c .before .before .before .before .before .before .before .before .before .before .pre .1 .0)
 
-push-filters-from-push-filters-requires : (t : ℕ) → push-filters-from-lts.Need-push-filters-requires (push-filters-from-claims t) (push-filters-from-at t) push-filters-from.Post
-push-filters-from-push-filters-requires t c κs = (chain-next (c .before .before .before .before .before .before .before .before .before .before .before .before .before .before .args .n) (c .before .before .before .before .before .before .before .descend .ensures) (c .before .before .before .before .before .before .before .before .before .before .before .before .before .before .pre .1 .0), c .before .before .before .before .before .before .before .before .before .before .before .before .before .before .pre .1 .1)
+push-filters-from-push-filters-in-place-requires : (t : ℕ) → push-filters-from-lts.Need-push-filters-in-place-requires (push-filters-from-claims t) (push-filters-from-at t) push-filters-from.Post
+push-filters-from-push-filters-in-place-requires t c κs = (chain-next (c .before .before .before .before .before .before .before .before .before .before .before .before .before .before .args .n) (c .before .before .before .before .before .before .before .descend .ensures) (c .before .before .before .before .before .before .before .before .before .before .before .before .before .before .pre .1 .0), c .before .before .before .before .before .before .before .before .before .before .before .before .before .before .pre .1 .1)
 
 push-filters-from-returns-2 : (t : ℕ) → push-filters-from-lts.Need-returns-2 (push-filters-from-claims t) (push-filters-from-at t) push-filters-from.Post
-push-filters-from-returns-2 t c = chain-full (c .before .before .before .before .before .before .before .before .before .before .before .before .before .before .before .before .before .before .before .before .before .before .before .before .args .n) (c .before .before .before .before .before .before .before .before .before .before .before .before .before .before .before .before .before .descend .ensures) (from-full (c .before .before .before .before .before .before .before .before .before .before .before .before .before .before .before .before .before .descend .result .left) (c .before .before .before .before .before .before .before .before .before .before .before .before .before .before .before .if1 .left) (c .before .before .before .before .before .before .before .before .before .push-filters .ensures) (c .if2 .taken)) (c .if2 .taken)
+push-filters-from-returns-2 t c = chain-full (c .before .before .before .before .before .before .before .before .before .before .before .before .before .before .before .before .before .before .before .before .before .before .before .before .args .n) (c .before .before .before .before .before .before .before .before .before .before .before .before .before .before .before .before .before .descend .ensures) (from-full (c .before .before .before .before .before .before .before .before .before .before .before .before .before .before .before .before .before .descend .result .left) (c .before .before .before .before .before .before .before .before .before .before .before .before .before .before .before .if1 .left) (c .before .before .before .before .before .before .before .before .before .push-filters-in-place .ensures) (c .if2 .taken)) (c .if2 .taken)
 
 push-filters-from-sub-each-source : (t : ℕ) → push-filters-from-lts.Need-sub-each-source (push-filters-from-claims t) (push-filters-from-at t) push-filters-from.Post
 push-filters-from-sub-each-source t c = omega (arith, c .before .before .before .before .before .before .before .before .before .before .before .before .before .before .before .before .before .before .before .before .if1 .left)
 
 push-filters-from-each-source-requires : (t : ℕ) → push-filters-from-lts.Need-each-source-requires (push-filters-from-claims t) (push-filters-from-at t) push-filters-from.Post
-push-filters-from-each-source-requires t c κs = (omega (arith, c .before .before .before .before .before .before .before .before .before .before .before .before .before .before .before .before .before .before .before .before .before .before .before .before .before .before .before .before .before .pre .0, c .before .before .before .before .before .before .before .before .before .before .before .before .before .before .before .before .before .before .before .before .if1 .left, chain-count (c .before .before .before .before .before .before .before .before .before .before .before .before .before .before .before .before .before .before .before .before .before .before .before .before .before .before .before .before .before .args .n) (c .before .before .before .before .before .before .before .before .before .before .before .before .before .before .before .before .before .before .before .before .before .before .descend .ensures) (c .before .before .before .before .before .before .before .before .before .before .before .before .before .before .before .before .before .before .before .before .before .before .before .before .before .before .before .before .before .pre .1 .0)), (pass-next (chain-next (c .before .before .before .before .before .before .before .before .before .before .before .before .before .before .before .before .before .before .before .before .before .before .before .before .before .before .before .before .before .args .n) (c .before .before .before .before .before .before .before .before .before .before .before .before .before .before .before .before .before .before .before .before .before .before .descend .ensures) (c .before .before .before .before .before .before .before .before .before .before .before .before .before .before .before .before .before .before .before .before .before .before .before .before .before .before .before .before .before .pre .1 .0)) (λ room schema. Room.push-filters room schema (c .before .before .before .before .before .before .before .before .before .before .before .before .before .before .before .before .before .before .before .before .before .before .descend .result .left)) (c .before .before .before .before .before .before .before .before .before .before .before .before .before .before .push-filters .ensures) (c .before .before .before .before .before .if2 .left) (c .before .before .before .before .before .before .before .before .before .before .before .before .before .before .push-filters .kept .0), buffers-next (c .before .before .before .before .before .before .before .before .before .before .before .before .before .before .before .before .before .before .before .before .before .before .before .before .before .before .before .before .before .pre .1 .1) (c .before .before .before .before .before .before .before .before .before .before .before .before .before .before .push-filters .kept .0) (c .before .before .before .before .before .before .before .before .before .before .before .before .before .before .push-filters .kept .1 .0) (c .before .before .before .before .before .before .before .before .before .before .before .before .before .before .push-filters .kept .1 .1 .0) (c .before .before .before .before .before .before .before .before .before .before .before .before .before .before .push-filters .kept .1 .1 .1 .0)))
+push-filters-from-each-source-requires t c κs = (omega (arith, c .before .before .before .before .before .before .before .before .before .before .before .before .before .before .before .before .before .before .before .before .before .before .before .before .before .before .before .before .before .pre .0, c .before .before .before .before .before .before .before .before .before .before .before .before .before .before .before .before .before .before .before .before .if1 .left, chain-count (c .before .before .before .before .before .before .before .before .before .before .before .before .before .before .before .before .before .before .before .before .before .before .before .before .before .before .before .before .before .args .n) (c .before .before .before .before .before .before .before .before .before .before .before .before .before .before .before .before .before .before .before .before .before .before .descend .ensures) (c .before .before .before .before .before .before .before .before .before .before .before .before .before .before .before .before .before .before .before .before .before .before .before .before .before .before .before .before .before .pre .1 .0)), (pass-next (chain-next (c .before .before .before .before .before .before .before .before .before .before .before .before .before .before .before .before .before .before .before .before .before .before .before .before .before .before .before .before .before .args .n) (c .before .before .before .before .before .before .before .before .before .before .before .before .before .before .before .before .before .before .before .before .before .before .descend .ensures) (c .before .before .before .before .before .before .before .before .before .before .before .before .before .before .before .before .before .before .before .before .before .before .before .before .before .before .before .before .before .pre .1 .0)) (λ room schema. Room.push-filters room schema (c .before .before .before .before .before .before .before .before .before .before .before .before .before .before .before .before .before .before .before .before .before .before .descend .result .left)) (c .before .before .before .before .before .before .before .before .before .before .before .before .before .before .push-filters-in-place .ensures) (c .before .before .before .before .before .if2 .left) (c .before .before .before .before .before .before .before .before .before .before .before .before .before .before .push-filters-in-place .kept .0), buffers-next (c .before .before .before .before .before .before .before .before .before .before .before .before .before .before .before .before .before .before .before .before .before .before .before .before .before .before .before .before .before .pre .1 .1) (c .before .before .before .before .before .before .before .before .before .before .before .before .before .before .push-filters-in-place .kept .0) (c .before .before .before .before .before .before .before .before .before .before .before .before .before .before .push-filters-in-place .kept .1 .0) (c .before .before .before .before .before .before .before .before .before .before .before .before .before .before .push-filters-in-place .kept .1 .1 .0) (c .before .before .before .before .before .before .before .before .before .before .before .before .before .before .push-filters-in-place .kept .1 .1 .1 .0)))
 
 push-filters-from-returns-3 : (t : ℕ) → push-filters-from-lts.Need-returns-3 (push-filters-from-claims t) (push-filters-from-at t) push-filters-from.Post
-push-filters-from-returns-3 t c = chain-full (c .before .before .before .before .before .before .before .before .before .before .before .before .before .before .before .before .before .before .before .before .before .before .before .before .before .before .before .before .before .before .before .before .before .before .before .before .before .before .before .args .n) (c .before .before .before .before .before .before .before .before .before .before .before .before .before .before .before .before .before .before .before .before .before .before .before .before .before .before .before .before .before .before .before .before .descend .ensures) (from-again (c .before .before .before .before .before .before .before .before .before .before .before .before .before .before .before .before .before .before .before .before .before .before .before .before .before .before .before .before .before .before .before .before .descend .result .left) (c .before .before .before .before .before .before .before .before .before .before .before .before .before .before .before .before .before .before .before .before .before .before .before .before .before .before .before .before .before .before .if1 .left) (c .before .before .before .before .before .before .before .before .before .before .before .before .before .before .before .before .before .before .before .before .before .before .before .before .push-filters .ensures) (c .before .before .before .before .before .before .before .before .before .before .before .before .before .before .before .if2 .left) (c .before .before .before .before .before .before .before .before .before .before .before .before .before .before .before .before .before .before .before .before .before .before .before .before .push-filters .kept .0) (c .before .before .before .before .before .before .before .before .before .each-source .ensures)) (c .if3 .taken)
+push-filters-from-returns-3 t c = chain-full (c .before .before .before .before .before .before .before .before .before .before .before .before .before .before .before .before .before .before .before .before .before .before .before .before .before .before .before .before .before .before .before .before .before .before .before .before .before .before .before .args .n) (c .before .before .before .before .before .before .before .before .before .before .before .before .before .before .before .before .before .before .before .before .before .before .before .before .before .before .before .before .before .before .before .before .descend .ensures) (from-again (c .before .before .before .before .before .before .before .before .before .before .before .before .before .before .before .before .before .before .before .before .before .before .before .before .before .before .before .before .before .before .before .before .descend .result .left) (c .before .before .before .before .before .before .before .before .before .before .before .before .before .before .before .before .before .before .before .before .before .before .before .before .before .before .before .before .before .before .if1 .left) (c .before .before .before .before .before .before .before .before .before .before .before .before .before .before .before .before .before .before .before .before .before .before .before .before .push-filters-in-place .ensures) (c .before .before .before .before .before .before .before .before .before .before .before .before .before .before .before .if2 .left) (c .before .before .before .before .before .before .before .before .before .before .before .before .before .before .before .before .before .before .before .before .before .before .before .before .push-filters-in-place .kept .0) (c .before .before .before .before .before .before .before .before .before .each-source .ensures)) (c .if3 .taken)
 
 push-filters-from-sub-reseal : (t : ℕ) → push-filters-from-lts.Need-sub-reseal (push-filters-from-claims t) (push-filters-from-at t) push-filters-from.Post
-push-filters-from-sub-reseal t c = chain-inside (c .before .before .before .before .before .before .before .before .before .before .before .before .before .before .before .before .before .before .before .before .before .before .before .before .before .before .before .before .before .before .before .before .before .before .before .before .before .before .before .before .args .n) (c .before .before .before .before .before .before .before .before .before .before .before .before .before .before .before .before .before .before .before .before .before .before .before .before .before .before .before .before .before .before .before .before .before .descend .ensures) (from-again (c .before .before .before .before .before .before .before .before .before .before .before .before .before .before .before .before .before .before .before .before .before .before .before .before .before .before .before .before .before .before .before .before .before .descend .result .left) (c .before .before .before .before .before .before .before .before .before .before .before .before .before .before .before .before .before .before .before .before .before .before .before .before .before .before .before .before .before .before .before .if1 .left) (c .before .before .before .before .before .before .before .before .before .before .before .before .before .before .before .before .before .before .before .before .before .before .before .before .before .push-filters .ensures) (c .before .before .before .before .before .before .before .before .before .before .before .before .before .before .before .before .if2 .left) (c .before .before .before .before .before .before .before .before .before .before .before .before .before .before .before .before .before .before .before .before .before .before .before .before .before .push-filters .kept .0) (c .before .before .before .before .before .before .before .before .before .before .each-source .ensures)) (c .before .if3 .left) (c .before .before .before .before .before .before .before .before .before .before .before .before .before .before .before .before .before .before .before .before .before .before .before .before .before .before .before .before .before .before .before .before .before .before .before .before .before .before .before .before .pre .1 .0) .0
+push-filters-from-sub-reseal t c = chain-inside (c .before .before .before .before .before .before .before .before .before .before .before .before .before .before .before .before .before .before .before .before .before .before .before .before .before .before .before .before .before .before .before .before .before .before .before .before .before .before .before .before .args .n) (c .before .before .before .before .before .before .before .before .before .before .before .before .before .before .before .before .before .before .before .before .before .before .before .before .before .before .before .before .before .before .before .before .before .descend .ensures) (from-again (c .before .before .before .before .before .before .before .before .before .before .before .before .before .before .before .before .before .before .before .before .before .before .before .before .before .before .before .before .before .before .before .before .before .descend .result .left) (c .before .before .before .before .before .before .before .before .before .before .before .before .before .before .before .before .before .before .before .before .before .before .before .before .before .before .before .before .before .before .before .if1 .left) (c .before .before .before .before .before .before .before .before .before .before .before .before .before .before .before .before .before .before .before .before .before .before .before .before .before .push-filters-in-place .ensures) (c .before .before .before .before .before .before .before .before .before .before .before .before .before .before .before .before .if2 .left) (c .before .before .before .before .before .before .before .before .before .before .before .before .before .before .before .before .before .before .before .before .before .before .before .before .before .push-filters-in-place .kept .0) (c .before .before .before .before .before .before .before .before .before .before .each-source .ensures)) (c .before .if3 .left) (c .before .before .before .before .before .before .before .before .before .before .before .before .before .before .before .before .before .before .before .before .before .before .before .before .before .before .before .before .before .before .before .before .before .before .before .before .before .before .before .before .pre .1 .0) .0
 
 push-filters-from-reseal-requires : (t : ℕ) → push-filters-from-lts.Need-reseal-requires (push-filters-from-claims t) (push-filters-from-at t) push-filters-from.Post
-push-filters-from-reseal-requires t c κs = (chain-inside (c .before .before .before .before .before .before .before .before .before .before .before .before .before .before .before .before .before .before .before .before .before .before .before .before .before .before .before .before .before .before .before .before .before .before .before .before .before .before .before .before .args .n) (c .before .before .before .before .before .before .before .before .before .before .before .before .before .before .before .before .before .before .before .before .before .before .before .before .before .before .before .before .before .before .before .before .before .descend .ensures) (from-again (c .before .before .before .before .before .before .before .before .before .before .before .before .before .before .before .before .before .before .before .before .before .before .before .before .before .before .before .before .before .before .before .before .before .descend .result .left) (c .before .before .before .before .before .before .before .before .before .before .before .before .before .before .before .before .before .before .before .before .before .before .before .before .before .before .before .before .before .before .before .if1 .left) (c .before .before .before .before .before .before .before .before .before .before .before .before .before .before .before .before .before .before .before .before .before .before .before .before .before .push-filters .ensures) (c .before .before .before .before .before .before .before .before .before .before .before .before .before .before .before .before .if2 .left) (c .before .before .before .before .before .before .before .before .before .before .before .before .before .before .before .before .before .before .before .before .before .before .before .before .before .push-filters .kept .0) (c .before .before .before .before .before .before .before .before .before .before .each-source .ensures)) (c .before .if3 .left) (c .before .before .before .before .before .before .before .before .before .before .before .before .before .before .before .before .before .before .before .before .before .before .before .before .before .before .before .before .before .before .before .before .before .before .before .before .before .before .before .before .pre .1 .0) .1 .0, (chain-inside (c .before .before .before .before .before .before .before .before .before .before .before .before .before .before .before .before .before .before .before .before .before .before .before .before .before .before .before .before .before .before .before .before .before .before .before .before .before .before .before .before .args .n) (c .before .before .before .before .before .before .before .before .before .before .before .before .before .before .before .before .before .before .before .before .before .before .before .before .before .before .before .before .before .before .before .before .before .descend .ensures) (from-again (c .before .before .before .before .before .before .before .before .before .before .before .before .before .before .before .before .before .before .before .before .before .before .before .before .before .before .before .before .before .before .before .before .before .descend .result .left) (c .before .before .before .before .before .before .before .before .before .before .before .before .before .before .before .before .before .before .before .before .before .before .before .before .before .before .before .before .before .before .before .if1 .left) (c .before .before .before .before .before .before .before .before .before .before .before .before .before .before .before .before .before .before .before .before .before .before .before .before .before .push-filters .ensures) (c .before .before .before .before .before .before .before .before .before .before .before .before .before .before .before .before .if2 .left) (c .before .before .before .before .before .before .before .before .before .before .before .before .before .before .before .before .before .before .before .before .before .before .before .before .before .push-filters .kept .0) (c .before .before .before .before .before .before .before .before .before .before .each-source .ensures)) (c .before .if3 .left) (c .before .before .before .before .before .before .before .before .before .before .before .before .before .before .before .before .before .before .before .before .before .before .before .before .before .before .before .before .before .before .before .before .before .before .before .before .before .before .before .before .pre .1 .0) .1 .1, c .before .if3 .left))
+push-filters-from-reseal-requires t c κs = (chain-inside (c .before .before .before .before .before .before .before .before .before .before .before .before .before .before .before .before .before .before .before .before .before .before .before .before .before .before .before .before .before .before .before .before .before .before .before .before .before .before .before .before .args .n) (c .before .before .before .before .before .before .before .before .before .before .before .before .before .before .before .before .before .before .before .before .before .before .before .before .before .before .before .before .before .before .before .before .before .descend .ensures) (from-again (c .before .before .before .before .before .before .before .before .before .before .before .before .before .before .before .before .before .before .before .before .before .before .before .before .before .before .before .before .before .before .before .before .before .descend .result .left) (c .before .before .before .before .before .before .before .before .before .before .before .before .before .before .before .before .before .before .before .before .before .before .before .before .before .before .before .before .before .before .before .if1 .left) (c .before .before .before .before .before .before .before .before .before .before .before .before .before .before .before .before .before .before .before .before .before .before .before .before .before .push-filters-in-place .ensures) (c .before .before .before .before .before .before .before .before .before .before .before .before .before .before .before .before .if2 .left) (c .before .before .before .before .before .before .before .before .before .before .before .before .before .before .before .before .before .before .before .before .before .before .before .before .before .push-filters-in-place .kept .0) (c .before .before .before .before .before .before .before .before .before .before .each-source .ensures)) (c .before .if3 .left) (c .before .before .before .before .before .before .before .before .before .before .before .before .before .before .before .before .before .before .before .before .before .before .before .before .before .before .before .before .before .before .before .before .before .before .before .before .before .before .before .before .pre .1 .0) .1 .0, (chain-inside (c .before .before .before .before .before .before .before .before .before .before .before .before .before .before .before .before .before .before .before .before .before .before .before .before .before .before .before .before .before .before .before .before .before .before .before .before .before .before .before .before .args .n) (c .before .before .before .before .before .before .before .before .before .before .before .before .before .before .before .before .before .before .before .before .before .before .before .before .before .before .before .before .before .before .before .before .before .descend .ensures) (from-again (c .before .before .before .before .before .before .before .before .before .before .before .before .before .before .before .before .before .before .before .before .before .before .before .before .before .before .before .before .before .before .before .before .before .descend .result .left) (c .before .before .before .before .before .before .before .before .before .before .before .before .before .before .before .before .before .before .before .before .before .before .before .before .before .before .before .before .before .before .before .if1 .left) (c .before .before .before .before .before .before .before .before .before .before .before .before .before .before .before .before .before .before .before .before .before .before .before .before .before .push-filters-in-place .ensures) (c .before .before .before .before .before .before .before .before .before .before .before .before .before .before .before .before .if2 .left) (c .before .before .before .before .before .before .before .before .before .before .before .before .before .before .before .before .before .before .before .before .before .before .before .before .before .push-filters-in-place .kept .0) (c .before .before .before .before .before .before .before .before .before .before .each-source .ensures)) (c .before .if3 .left) (c .before .before .before .before .before .before .before .before .before .before .before .before .before .before .before .before .before .before .before .before .before .before .before .before .before .before .before .before .before .before .before .before .before .before .before .before .before .before .before .before .pre .1 .0) .1 .1, c .before .if3 .left))
 
 push-filters-from-returns-4 : (t : ℕ) → push-filters-from-lts.Need-returns-4 (push-filters-from-claims t) (push-filters-from-at t) push-filters-from.Post
-push-filters-from-returns-4 t c = chain-done (c .before .before .before .before .before .before .before .before .before .before .before .before .before .before .before .before .before .before .before .before .before .before .before .before .before .before .before .before .before .before .before .before .before .before .before .before .before .before .before .before .before .before .before .args .n) (c .before .before .before .before .before .before .before .before .before .before .before .before .before .before .before .before .before .before .before .before .before .before .before .before .before .before .before .before .before .before .before .before .before .before .before .before .descend .ensures) (from-again (c .before .before .before .before .before .before .before .before .before .before .before .before .before .before .before .before .before .before .before .before .before .before .before .before .before .before .before .before .before .before .before .before .before .before .before .before .descend .result .left) (c .before .before .before .before .before .before .before .before .before .before .before .before .before .before .before .before .before .before .before .before .before .before .before .before .before .before .before .before .before .before .before .before .before .before .if1 .left) (c .before .before .before .before .before .before .before .before .before .before .before .before .before .before .before .before .before .before .before .before .before .before .before .before .before .before .before .before .push-filters .ensures) (c .before .before .before .before .before .before .before .before .before .before .before .before .before .before .before .before .before .before .before .if2 .left) (c .before .before .before .before .before .before .before .before .before .before .before .before .before .before .before .before .before .before .before .before .before .before .before .before .before .before .before .before .push-filters .kept .0) (c .before .before .before .before .before .before .before .before .before .before .before .before .before .each-source .ensures)) (c .before .before .before .before .if3 .left) (c .before .before .reseal .kept .0) (c .before .before .reseal .ensures)
+push-filters-from-returns-4 t c = chain-done (c .before .before .before .before .before .before .before .before .before .before .before .before .before .before .before .before .before .before .before .before .before .before .before .before .before .before .before .before .before .before .before .before .before .before .before .before .before .before .before .before .before .before .before .args .n) (c .before .before .before .before .before .before .before .before .before .before .before .before .before .before .before .before .before .before .before .before .before .before .before .before .before .before .before .before .before .before .before .before .before .before .before .before .descend .ensures) (from-again (c .before .before .before .before .before .before .before .before .before .before .before .before .before .before .before .before .before .before .before .before .before .before .before .before .before .before .before .before .before .before .before .before .before .before .before .before .descend .result .left) (c .before .before .before .before .before .before .before .before .before .before .before .before .before .before .before .before .before .before .before .before .before .before .before .before .before .before .before .before .before .before .before .before .before .before .if1 .left) (c .before .before .before .before .before .before .before .before .before .before .before .before .before .before .before .before .before .before .before .before .before .before .before .before .before .before .before .before .push-filters-in-place .ensures) (c .before .before .before .before .before .before .before .before .before .before .before .before .before .before .before .before .before .before .before .if2 .left) (c .before .before .before .before .before .before .before .before .before .before .before .before .before .before .before .before .before .before .before .before .before .before .before .before .before .before .before .before .push-filters-in-place .kept .0) (c .before .before .before .before .before .before .before .before .before .before .before .before .before .each-source .ensures)) (c .before .before .before .before .if3 .left) (c .before .before .reseal .kept .0) (c .before .before .reseal .ensures)
 
 push-filters-from-same-length : (t : ℕ) → push-filters-from-lts.Need-same-length (push-filters-from-claims t) (push-filters-from-at t) push-filters-from.Post
 push-filters-from-same-length t c = search needs
@@ -308,7 +308,7 @@ pub +each-source+push-filters-from-spec : {M : Type 1} → statement M
     (push-filters-from-same-length t)
     (push-filters-from-returns t)
     (push-filters-from-sub-back t)
-    (push-filters-from-push-filters-requires t)
+    (push-filters-from-push-filters-in-place-requires t)
     (push-filters-from-same-length-2 t)
     (push-filters-from-same-length-3 t)
     (push-filters-from-same-length-4 t)

@@ -1,7 +1,8 @@
-use Rattle.sql.specs.Room.{IndexLookup}
-use Rattle.stream.proofs.Sources.{two-left, own-in, source-at, right-sized, mid-in, left-at, right-at}
-use Rattle.stream.proofs.Streams.{stream-node, stream-in}
+use Rattle.index_lookup.proofs.Below.{stream-up, below-in, below-at, chain-stop, chain-go}
 use Rattle.index_lookup.proofs.Walk.{no-source, one-stop, one-go, left-refused, right-refused, two-go}
+use Rattle.stream.proofs.Streams.{stream-node, stream-in}
+use Rattle.stream.proofs.Sources.{two-left, own-in, source-at, right-sized, mid-in, left-at, right-at}
+use Rattle.sql.specs.Room.{IndexLookup}
 use Prim.Native.Nat.{ℕ, _-_, _<_}
 use native.Mathlib.Omega.{arith}
 use mathlib.Core.Path.{sym, _∙_}
@@ -11,6 +12,8 @@ use Rattle.index_lookup.proofs.transform.Reads as transform
 use Rattle.index_lookup.proofs.transform.Kinds as transform-kinds
 use Rattle.index_lookup.proofs.+transform.Lts-transform as transform-lts
 use Rattle.cells.proofs.start.Reads as start-reads
+use Rattle.chain.proofs.descend.Reads as descend-reads
+use Rattle.chain.proofs.follow.Reads as follow-reads
 use Rattle.lookup_step.proofs.index_lookup.Reads as index-lookup-reads
 use Rattle.nodes.proofs.own_start.Reads as own-start-reads
 use Rattle.nodes.proofs.source_count.Reads as source-count-reads
@@ -29,37 +32,49 @@ transform-below t =
     and 7 transform-kinds.ps (falls 7 transform-kinds.ps _<_ μ-transform t) transform.Pre
 
 abbrev transform-claims : ℕ → transform-lts.Claims
-transform-claims t = (source-count-reads.Asked, source-count-reads.Learnt, index-lookup-reads.Asked, index-lookup-reads.Learnt, own-start-reads.Asked, own-start-reads.Learnt, transform-below t, transform.Post, finish-reads.Asked, finish-reads.Learnt, start-reads.Asked, start-reads.Learnt)
+transform-claims t = (descend-reads.Asked, descend-reads.Learnt, source-count-reads.Asked, source-count-reads.Learnt, index-lookup-reads.Asked, index-lookup-reads.Learnt, follow-reads.Asked, follow-reads.Learnt, own-start-reads.Asked, own-start-reads.Learnt, transform-below t, transform.Post, finish-reads.Asked, finish-reads.Learnt, start-reads.Asked, start-reads.Learnt)
+
+transform-descend-requires : (t : ℕ) → transform-lts.Need-descend-requires (transform-claims t) (transform-at t) transform.Post
+transform-descend-requires t c κs = stream-node (c .before .before .before .before .before .before .before .pre .1 .0)
+
+transform-sub-back : (t : ℕ) → transform-lts.Need-sub-back (transform-claims t) (transform-at t) transform.Post
+transform-sub-back t c = omega (arith, below-in (c .descend .ensures) (c .before .before .before .before .before .before .before .before .pre .1 .0))
+
+transform-add-back : (t : ℕ) → transform-lts.Need-add-back (transform-claims t) (transform-at t) transform.Post
+transform-add-back t c = let h = (below-at (c .descend .ensures) (c .before .before .before .before .before .before .before .before .pre .1 .0)) .reading .fits in omega (arith, (c .before .before .before .before .before .before .before .before .pre .1 .0) .short-out)
 
 transform-source-count-requires : (t : ℕ) → transform-lts.Need-source-count-requires (transform-claims t) (transform-at t) transform.Post
-transform-source-count-requires t c κs = stream-node (c .before .before .before .before .before .before .before .pre .1 .0)
+transform-source-count-requires t c κs = stream-node (below-at (c .descend .ensures) (c .before .before .before .before .before .before .before .before .pre .1 .0))
 
 transform-index-lookup-requires : (t : ℕ) → transform-lts.Need-index-lookup-requires (transform-claims t) (transform-at t) transform.Post
-transform-index-lookup-requires t c κs = (c .before .before .before .before .before .before .before .before .before .before .before .before .pre .1 .0, (no-source (c .before .before .before .if1 .taken) (c .before .before .before .before .source-count .ensures), c .before .before .before .before .before .before .before .before .before .before .before .before .pre .1 .1))
+transform-index-lookup-requires t c κs = ((below-at (c .before .before .before .before .before .descend .ensures) (c .before .before .before .before .before .before .before .before .before .before .before .before .before .pre .1 .0)), (no-source (c .before .before .before .if1 .taken) (c .before .before .before .before .source-count .ensures), c .before .before .before .before .before .before .before .before .before .before .before .before .before .pre .1 .1))
+
+transform-follow-requires : (t : ℕ) → transform-lts.Need-follow-requires (transform-claims t) (transform-at t) transform.Post
+transform-follow-requires t c κs = (below-in (c .before .before .before .before .before .before .before .before .before .before .before .before .before .descend .ensures) (c .before .before .before .before .before .before .before .before .before .before .before .before .before .before .before .before .before .before .before .before .before .pre .1 .0), (stream-in (c .before .before .before .before .before .before .before .before .before .before .before .before .before .before .before .before .before .before .before .before .before .pre .1 .0) .1, stream-up (below-at (c .before .before .before .before .before .before .before .before .before .before .before .before .before .descend .ensures) (c .before .before .before .before .before .before .before .before .before .before .before .before .before .before .before .before .before .before .before .before .before .pre .1 .0)) (c .before .before .before .before .before .before .before .index-lookup .kept .1 .1 .1 .1 .0) (c .before .before .before .before .before .before .before .index-lookup .ensures)))
 
 transform-same-length : (t : ℕ) → transform-lts.Need-same-length (transform-claims t) (transform-at t) transform.Post
-transform-same-length t c = c .before .before .before .before .before .before .index-lookup .kept .1 .1 .1 .1 .0
+transform-same-length t c = c .before .before .follow .kept .1 .1 .1 .0 ∙ c .before .before .before .before .before .before .before .before .before .before .index-lookup .kept .1 .1 .1 .1 .0
 
 transform-same-length-2 : (t : ℕ) → transform-lts.Need-same-length-2 (transform-claims t) (transform-at t) transform.Post
-transform-same-length-2 t c = c .before .before .before .before .before .before .index-lookup .kept .1 .1 .1 .1 .1 .1 .0
+transform-same-length-2 t c = c .before .before .before .before .before .before .before .before .before .before .index-lookup .kept .1 .1 .1 .1 .1 .1 .0
 
 transform-same-length-3 : (t : ℕ) → transform-lts.Need-same-length-3 (transform-claims t) (transform-at t) transform.Post
-transform-same-length-3 t c = c .before .before .before .before .before .before .index-lookup .kept .1 .1 .1 .1 .1 .1 .1 .0
+transform-same-length-3 t c = c .before .before .before .before .before .before .before .before .before .before .index-lookup .kept .1 .1 .1 .1 .1 .1 .1 .0
 
 transform-returns : (t : ℕ) → transform-lts.Need-returns (transform-claims t) (transform-at t) transform.Post
-transform-returns t c = c .before .before .before .before .before .before .index-lookup .ensures
+transform-returns t c = chain-go (c .before .before .before .before .before .before .before .before .before .before .before .before .before .before .before .before .descend .ensures) (c .before .before .before .before .before .before .before .before .before .before .index-lookup .ensures) (c .before .before .before .before .before .before .before .before .before .before .index-lookup .kept .1 .1 .1 .1 .0) (c .before .before .follow .kept .1 .1 .1 .0) (c .before .before .follow .ensures)
 
 transform-own-start-requires : (t : ℕ) → transform-lts.Need-own-start-requires (transform-claims t) (transform-at t) transform.Post
-transform-own-start-requires t c κs = stream-node (c .before .before .before .before .before .before .before .before .before .pre .1 .0)
+transform-own-start-requires t c κs = stream-node (below-at (c .before .before .descend .ensures) (c .before .before .before .before .before .before .before .before .before .before .pre .1 .0))
 
 transform-sub-transform : (t : ℕ) → transform-lts.Need-sub-transform (transform-claims t) (transform-at t) transform.Post
-transform-sub-transform t c = let (f, (h, k)) = own-in (c .before .before .before .before .before .before .before .before .before .before .before .pre .1 .0) (c .before .own-start .ensures) in omega arith
+transform-sub-transform t c = let (f, (h, k)) = own-in (below-at (c .before .before .before .before .descend .ensures) (c .before .before .before .before .before .before .before .before .before .before .before .before .pre .1 .0)) (c .before .own-start .ensures) in omega arith
 
 transform-add-transform : (t : ℕ) → transform-lts.Need-add-transform (transform-claims t) (transform-at t) transform.Post
-transform-add-transform t c = let (f, (h, k)) = own-in (c .before .before .before .before .before .before .before .before .before .before .before .pre .1 .0) (c .before .own-start .ensures) in omega arith
+transform-add-transform t c = let (f, (h, k)) = own-in (below-at (c .before .before .before .before .descend .ensures) (c .before .before .before .before .before .before .before .before .before .before .before .before .pre .1 .0)) (c .before .own-start .ensures) in omega arith
 
 transform-transform-requires : (t : ℕ) → transform-lts.Need-transform-requires (transform-claims t) (transform-at t) transform.Post
-transform-transform-requires t c κs = let (f, (h, k)) = own-in (c .before .before .before .before .before .before .before .before .before .before .before .before .before .before .pre .1 .0) (c .before .before .before .before .own-start .ensures) in (omega (arith, c .before .before .before .before .before .before .before .before .before .before .before .before .before .before .pre .0), (source-at (c .before .before .before .before .before .before .source-count .ensures) (c .before .before .before .if2 .taken) (c .before .before .before .before .own-start .ensures) (c .before .before .before .before .before .before .before .before .before .before .before .before .before .before .pre .1 .0), c .before .before .before .before .before .before .before .before .before .before .before .before .before .before .pre .1 .1))
+transform-transform-requires t c κs = let (f, (h, k)) = own-in (below-at (c .before .before .before .before .before .before .before .descend .ensures) (c .before .before .before .before .before .before .before .before .before .before .before .before .before .before .before .pre .1 .0)) (c .before .before .before .before .own-start .ensures) in (omega (arith, c .before .before .before .before .before .before .before .before .before .before .before .before .before .before .before .pre .0, below-in (c .before .before .before .before .before .before .before .descend .ensures) (c .before .before .before .before .before .before .before .before .before .before .before .before .before .before .before .pre .1 .0)), (source-at (c .before .before .before .before .before .before .source-count .ensures) (c .before .before .before .if2 .taken) (c .before .before .before .before .own-start .ensures) (below-at (c .before .before .before .before .before .before .before .descend .ensures) (c .before .before .before .before .before .before .before .before .before .before .before .before .before .before .before .pre .1 .0)), c .before .before .before .before .before .before .before .before .before .before .before .before .before .before .before .pre .1 .1))
 
 transform-same-length-4 : (t : ℕ) → transform-lts.Need-same-length-4 (transform-claims t) (transform-at t) transform.Post
 transform-same-length-4 t c = c .before .before .before .before .before .before .before .transform .kept .1 .1 .1 .1 .0
@@ -71,34 +86,37 @@ transform-same-length-6 : (t : ℕ) → transform-lts.Need-same-length-6 (transf
 transform-same-length-6 t c = c .before .before .before .before .before .before .before .transform .kept .1 .1 .1 .1 .1 .1 .1 .0
 
 transform-returns-2 : (t : ℕ) → transform-lts.Need-returns-2 (transform-claims t) (transform-at t) transform.Post
-transform-returns-2 t c = one-stop (c .before .before .before .before .before .before .before .before .before .before .before .before .before .before .before .before .before .before .before .before .before .before .args .widths .now) (c .before .before .before .before .before .before .before .before .before .before .before .before .before .before .before .before .before .before .before .before .before .before .args .keys .now) (c .before .before .before .before .before .before .before .before .before .before .before .before .before .before .before .before .before .before .before .before .before .before .args .marks .now) (c .before .before .before .before .before .before .before .before .before .before .before .before .before .before .source-count .ensures) (c .before .before .before .before .before .before .before .before .before .before .before .before .own-start .ensures) (c .before .before .before .before .before .before .before .before .before .before .before .if2 .taken) (c .before .before .before .before .before .before .before .transform .ensures) (c .if3 .taken)
+transform-returns-2 t c = chain-stop (c .before .before .before .before .before .before .before .before .before .before .before .before .before .before .before .descend .ensures) (one-stop (c .before .before .before .before .before .before .before .before .before .before .before .before .before .before .before .before .before .before .before .before .before .before .before .args .widths .now) (c .before .before .before .before .before .before .before .before .before .before .before .before .before .before .before .before .before .before .before .before .before .before .before .args .keys .now) (c .before .before .before .before .before .before .before .before .before .before .before .before .before .before .before .before .before .before .before .before .before .before .before .args .marks .now) (c .before .before .before .before .before .before .before .before .before .before .before .before .before .before .source-count .ensures) (c .before .before .before .before .before .before .before .before .before .before .before .before .own-start .ensures) (c .before .before .before .before .before .before .before .before .before .before .before .if2 .taken) (c .before .before .before .before .before .before .before .transform .ensures) (c .if3 .taken)) (c .if3 .taken)
 
 transform-finish-requires : (t : ℕ) → transform-lts.Need-finish-requires (transform-claims t) (transform-at t) transform.Post
-transform-finish-requires t c κs = (own-in (c .before .before .before .before .before .before .before .before .before .before .before .before .before .before .before .before .before .before .before .before .before .before .before .pre .1 .0) (c .before .before .before .before .before .before .before .before .before .before .before .before .before .own-start .ensures) .1 .0, stream-in (c .before .before .before .before .before .before .before .before .before .before .before .before .before .before .before .before .before .before .before .before .before .before .before .pre .1 .0) .1)
+transform-finish-requires t c κs = (own-in (below-at (c .before .before .before .before .before .before .before .before .before .before .before .before .before .before .before .before .descend .ensures) (c .before .before .before .before .before .before .before .before .before .before .before .before .before .before .before .before .before .before .before .before .before .before .before .before .pre .1 .0)) (c .before .before .before .before .before .before .before .before .before .before .before .before .before .own-start .ensures) .1 .0, stream-in (below-at (c .before .before .before .before .before .before .before .before .before .before .before .before .before .before .before .before .descend .ensures) (c .before .before .before .before .before .before .before .before .before .before .before .before .before .before .before .before .before .before .before .before .before .before .before .before .pre .1 .0)) .1)
+
+transform-follow-requires-2 : (t : ℕ) → transform-lts.Need-follow-requires-2 (transform-claims t) (transform-at t) transform.Post
+transform-follow-requires-2 t c κs = (below-in (c .before .before .before .before .before .before .before .before .before .before .before .before .before .before .before .before .before .before .before .before .descend .ensures) (c .before .before .before .before .before .before .before .before .before .before .before .before .before .before .before .before .before .before .before .before .before .before .before .before .before .before .before .before .pre .1 .0), (stream-in (c .before .before .before .before .before .before .before .before .before .before .before .before .before .before .before .before .before .before .before .before .before .before .before .before .before .before .before .before .pre .1 .0) .1, stream-up (below-at (c .before .before .before .before .before .before .before .before .before .before .before .before .before .before .before .before .before .before .before .before .descend .ensures) (c .before .before .before .before .before .before .before .before .before .before .before .before .before .before .before .before .before .before .before .before .before .before .before .before .before .before .before .before .pre .1 .0)) (c .before .before .before .finish .kept .1 .1 .1 .0 ∙ c .before .before .before .before .before .before .before .before .before .before .before .before .transform .kept .1 .1 .1 .1 .0) (one-go (c .before .before .before .before .before .before .before .before .before .before .before .before .before .before .before .before .before .before .before .before .before .before .before .before .before .before .before .before .args .widths .now) (c .before .before .before .before .before .before .before .before .before .before .before .before .before .before .before .before .before .before .before .before .before .before .before .before .before .before .before .before .args .keys .now) (c .before .before .before .before .before .before .before .before .before .before .before .before .before .before .before .before .before .before .before .before .before .before .before .before .before .before .before .before .args .marks .now) (c .before .before .before .before .before .before .before .before .before .before .before .before .before .before .before .before .before .before .before .source-count .ensures) (c .before .before .before .before .before .before .before .before .before .before .before .before .before .before .before .before .before .own-start .ensures) (c .before .before .before .before .before .before .before .before .before .before .before .before .before .before .before .before .if2 .taken) (c .before .before .before .before .before .before .before .before .before .before .before .before .transform .ensures) (c .before .before .before .before .before .if3 .left) (c .before .before .before .before .before .before .before .before .before .before .before .before .transform .kept .1 .1 .1 .1 .0) (c .before .before .before .finish .kept .1 .1 .1 .0) (c .before .before .before .finish .ensures))))
 
 transform-same-length-7 : (t : ℕ) → transform-lts.Need-same-length-7 (transform-claims t) (transform-at t) transform.Post
-transform-same-length-7 t c = c .before .before .finish .kept .1 .1 .1 .0 ∙ c .before .before .before .before .before .before .before .before .before .before .before .transform .kept .1 .1 .1 .1 .0
+transform-same-length-7 t c = c .before .before .follow2 .kept .1 .1 .1 .0 ∙ (c .before .before .before .before .before .before .finish .kept .1 .1 .1 .0 ∙ c .before .before .before .before .before .before .before .before .before .before .before .before .before .before .before .transform .kept .1 .1 .1 .1 .0)
 
 transform-same-length-8 : (t : ℕ) → transform-lts.Need-same-length-8 (transform-claims t) (transform-at t) transform.Post
-transform-same-length-8 t c = c .before .before .before .before .before .before .before .before .before .before .before .transform .kept .1 .1 .1 .1 .1 .1 .0
+transform-same-length-8 t c = c .before .before .before .before .before .before .before .before .before .before .before .before .before .before .before .transform .kept .1 .1 .1 .1 .1 .1 .0
 
 transform-same-length-9 : (t : ℕ) → transform-lts.Need-same-length-9 (transform-claims t) (transform-at t) transform.Post
-transform-same-length-9 t c = c .before .before .before .before .before .before .before .before .before .before .before .transform .kept .1 .1 .1 .1 .1 .1 .1 .0
+transform-same-length-9 t c = c .before .before .before .before .before .before .before .before .before .before .before .before .before .before .before .transform .kept .1 .1 .1 .1 .1 .1 .1 .0
 
 transform-returns-3 : (t : ℕ) → transform-lts.Need-returns-3 (transform-claims t) (transform-at t) transform.Post
-transform-returns-3 t c = one-go (c .before .before .before .before .before .before .before .before .before .before .before .before .before .before .before .before .before .before .before .before .before .before .before .before .before .before .args .widths .now) (c .before .before .before .before .before .before .before .before .before .before .before .before .before .before .before .before .before .before .before .before .before .before .before .before .before .before .args .keys .now) (c .before .before .before .before .before .before .before .before .before .before .before .before .before .before .before .before .before .before .before .before .before .before .before .before .before .before .args .marks .now) (c .before .before .before .before .before .before .before .before .before .before .before .before .before .before .before .before .before .before .source-count .ensures) (c .before .before .before .before .before .before .before .before .before .before .before .before .before .before .before .before .own-start .ensures) (c .before .before .before .before .before .before .before .before .before .before .before .before .before .before .before .if2 .taken) (c .before .before .before .before .before .before .before .before .before .before .before .transform .ensures) (c .before .before .before .before .if3 .left) (c .before .before .before .before .before .before .before .before .before .before .before .transform .kept .1 .1 .1 .1 .0) (c .before .before .finish .kept .1 .1 .1 .0) (c .before .before .finish .ensures)
+transform-returns-3 t c = chain-go (c .before .before .before .before .before .before .before .before .before .before .before .before .before .before .before .before .before .before .before .before .before .before .before .descend .ensures) (one-go (c .before .before .before .before .before .before .before .before .before .before .before .before .before .before .before .before .before .before .before .before .before .before .before .before .before .before .before .before .before .before .before .args .widths .now) (c .before .before .before .before .before .before .before .before .before .before .before .before .before .before .before .before .before .before .before .before .before .before .before .before .before .before .before .before .before .before .before .args .keys .now) (c .before .before .before .before .before .before .before .before .before .before .before .before .before .before .before .before .before .before .before .before .before .before .before .before .before .before .before .before .before .before .before .args .marks .now) (c .before .before .before .before .before .before .before .before .before .before .before .before .before .before .before .before .before .before .before .before .before .before .source-count .ensures) (c .before .before .before .before .before .before .before .before .before .before .before .before .before .before .before .before .before .before .before .before .own-start .ensures) (c .before .before .before .before .before .before .before .before .before .before .before .before .before .before .before .before .before .before .before .if2 .taken) (c .before .before .before .before .before .before .before .before .before .before .before .before .before .before .before .transform .ensures) (c .before .before .before .before .before .before .before .before .if3 .left) (c .before .before .before .before .before .before .before .before .before .before .before .before .before .before .before .transform .kept .1 .1 .1 .1 .0) (c .before .before .before .before .before .before .finish .kept .1 .1 .1 .0) (c .before .before .before .before .before .before .finish .ensures)) (c .before .before .before .before .before .before .finish .kept .1 .1 .1 .0 ∙ c .before .before .before .before .before .before .before .before .before .before .before .before .before .before .before .transform .kept .1 .1 .1 .1 .0) (c .before .before .follow2 .kept .1 .1 .1 .0) (c .before .before .follow2 .ensures)
 
 transform-start-requires : (t : ℕ) → transform-lts.Need-start-requires (transform-claims t) (transform-at t) transform.Post
-transform-start-requires t c κs = right-sized (c .before .before .before .source-count .ensures) (two-left (c .before .before .before .before .before .before .before .before .before .before .before .pre .1 .0) (c .before .before .before .source-count .ensures) (c .before .before .if1 .left) (c .if2 .left)) (c .before .own-start .ensures) (c .before .before .before .before .before .before .before .before .before .before .before .pre .1 .0)
+transform-start-requires t c κs = right-sized (c .before .before .before .source-count .ensures) (two-left (below-at (c .before .before .before .before .descend .ensures) (c .before .before .before .before .before .before .before .before .before .before .before .before .pre .1 .0)) (c .before .before .before .source-count .ensures) (c .before .before .if1 .left) (c .if2 .left)) (c .before .own-start .ensures) (below-at (c .before .before .before .before .descend .ensures) (c .before .before .before .before .before .before .before .before .before .before .before .before .pre .1 .0))
 
 transform-sub-behind : (t : ℕ) → transform-lts.Need-sub-behind (transform-claims t) (transform-at t) transform.Post
-transform-sub-behind t c = let (f, (h, k)) = own-in (c .before .before .before .before .before .before .before .before .before .before .before .before .pre .1 .0) (c .before .before .own-start .ensures) in let (p, (q, r)) = mid-in (c .before .before .before .before .source-count .ensures) (two-left (c .before .before .before .before .before .before .before .before .before .before .before .before .pre .1 .0) (c .before .before .before .before .source-count .ensures) (c .before .before .before .if1 .left) (c .before .if2 .left)) (c .before .before .own-start .ensures) (c .start .ensures) (c .before .before .before .before .before .before .before .before .before .before .before .before .pre .1 .0) in omega arith
+transform-sub-behind t c = let (f, (h, k)) = own-in (below-at (c .before .before .before .before .before .descend .ensures) (c .before .before .before .before .before .before .before .before .before .before .before .before .before .pre .1 .0)) (c .before .before .own-start .ensures) in let (p, (q, r)) = mid-in (c .before .before .before .before .source-count .ensures) (two-left (below-at (c .before .before .before .before .before .descend .ensures) (c .before .before .before .before .before .before .before .before .before .before .before .before .before .pre .1 .0)) (c .before .before .before .before .source-count .ensures) (c .before .before .before .if1 .left) (c .before .if2 .left)) (c .before .before .own-start .ensures) (c .start .ensures) (below-at (c .before .before .before .before .before .descend .ensures) (c .before .before .before .before .before .before .before .before .before .before .before .before .before .pre .1 .0)) in omega arith
 
 transform-add-behind : (t : ℕ) → transform-lts.Need-add-behind (transform-claims t) (transform-at t) transform.Post
-transform-add-behind t c = let (p, (q, r)) = mid-in (c .before .before .before .before .source-count .ensures) (two-left (c .before .before .before .before .before .before .before .before .before .before .before .before .pre .1 .0) (c .before .before .before .before .source-count .ensures) (c .before .before .before .if1 .left) (c .before .if2 .left)) (c .before .before .own-start .ensures) (c .start .ensures) (c .before .before .before .before .before .before .before .before .before .before .before .before .pre .1 .0) in omega arith
+transform-add-behind t c = let (p, (q, r)) = mid-in (c .before .before .before .before .source-count .ensures) (two-left (below-at (c .before .before .before .before .before .descend .ensures) (c .before .before .before .before .before .before .before .before .before .before .before .before .before .pre .1 .0)) (c .before .before .before .before .source-count .ensures) (c .before .before .before .if1 .left) (c .before .if2 .left)) (c .before .before .own-start .ensures) (c .start .ensures) (below-at (c .before .before .before .before .before .descend .ensures) (c .before .before .before .before .before .before .before .before .before .before .before .before .before .pre .1 .0)) in omega arith
 
 transform-transform-requires-2 : (t : ℕ) → transform-lts.Need-transform-requires-2 (transform-claims t) (transform-at t) transform.Post
-transform-transform-requires-2 t c κs = let (f, (h, k)) = own-in (c .before .before .before .before .before .before .before .before .before .before .before .before .before .before .before .pre .1 .0) (c .before .before .before .before .before .own-start .ensures) in let two = two-left (c .before .before .before .before .before .before .before .before .before .before .before .before .before .before .before .pre .1 .0) (c .before .before .before .before .before .before .before .source-count .ensures) (c .before .before .before .before .before .before .if1 .left) (c .before .before .before .before .if2 .left) in let (p, (q, r)) = mid-in (c .before .before .before .before .before .before .before .source-count .ensures) two (c .before .before .before .before .before .own-start .ensures) (c .before .before .before .start .ensures) (c .before .before .before .before .before .before .before .before .before .before .before .before .before .before .before .pre .1 .0) in (omega (arith, c .before .before .before .before .before .before .before .before .before .before .before .before .before .before .before .pre .0), (left-at (c .before .before .before .before .before .before .before .source-count .ensures) two (c .before .before .before .before .before .own-start .ensures) (c .before .before .before .start .ensures) (c .before .before .before .before .before .before .before .before .before .before .before .before .before .before .before .pre .1 .0), c .before .before .before .before .before .before .before .before .before .before .before .before .before .before .before .pre .1 .1))
+transform-transform-requires-2 t c κs = let (f, (h, k)) = own-in (below-at (c .before .before .before .before .before .before .before .before .descend .ensures) (c .before .before .before .before .before .before .before .before .before .before .before .before .before .before .before .before .pre .1 .0)) (c .before .before .before .before .before .own-start .ensures) in let two = two-left (below-at (c .before .before .before .before .before .before .before .before .descend .ensures) (c .before .before .before .before .before .before .before .before .before .before .before .before .before .before .before .before .pre .1 .0)) (c .before .before .before .before .before .before .before .source-count .ensures) (c .before .before .before .before .before .before .if1 .left) (c .before .before .before .before .if2 .left) in let (p, (q, r)) = mid-in (c .before .before .before .before .before .before .before .source-count .ensures) two (c .before .before .before .before .before .own-start .ensures) (c .before .before .before .start .ensures) (below-at (c .before .before .before .before .before .before .before .before .descend .ensures) (c .before .before .before .before .before .before .before .before .before .before .before .before .before .before .before .before .pre .1 .0)) in (omega (arith, c .before .before .before .before .before .before .before .before .before .before .before .before .before .before .before .before .pre .0, below-in (c .before .before .before .before .before .before .before .before .descend .ensures) (c .before .before .before .before .before .before .before .before .before .before .before .before .before .before .before .before .pre .1 .0)), (left-at (c .before .before .before .before .before .before .before .source-count .ensures) two (c .before .before .before .before .before .own-start .ensures) (c .before .before .before .start .ensures) (below-at (c .before .before .before .before .before .before .before .before .descend .ensures) (c .before .before .before .before .before .before .before .before .before .before .before .before .before .before .before .before .pre .1 .0)), c .before .before .before .before .before .before .before .before .before .before .before .before .before .before .before .before .pre .1 .1))
 
 transform-same-length-10 : (t : ℕ) → transform-lts.Need-same-length-10 (transform-claims t) (transform-at t) transform.Post
 transform-same-length-10 t c = c .before .before .before .before .before .before .before .transform2 .kept .1 .1 .1 .1 .0
@@ -110,16 +128,16 @@ transform-same-length-12 : (t : ℕ) → transform-lts.Need-same-length-12 (tran
 transform-same-length-12 t c = c .before .before .before .before .before .before .before .transform2 .kept .1 .1 .1 .1 .1 .1 .1 .0
 
 transform-returns-4 : (t : ℕ) → transform-lts.Need-returns-4 (transform-claims t) (transform-at t) transform.Post
-transform-returns-4 t c = left-refused (c .before .before .before .before .before .before .before .before .before .before .before .before .before .before .before .before .before .before .before .before .before .before .before .args .widths .now) (c .before .before .before .before .before .before .before .before .before .before .before .before .before .before .before .before .before .before .before .before .before .before .before .args .keys .now) (c .before .before .before .before .before .before .before .before .before .before .before .before .before .before .before .before .before .before .before .before .before .before .before .args .marks .now) (c .before .before .before .before .before .before .before .before .before .before .before .before .before .before .before .source-count .ensures) (c .before .before .before .before .before .before .before .before .before .before .before .before .before .own-start .ensures) (two-left (c .before .before .before .before .before .before .before .before .before .before .before .before .before .before .before .before .before .before .before .before .before .before .before .pre .1 .0) (c .before .before .before .before .before .before .before .before .before .before .before .before .before .before .before .source-count .ensures) (c .before .before .before .before .before .before .before .before .before .before .before .before .before .before .if1 .left) (c .before .before .before .before .before .before .before .before .before .before .before .before .if2 .left)) (c .before .before .before .before .before .before .before .before .before .before .before .start .ensures) (c .before .before .before .before .before .before .before .transform2 .ensures) (c .if4 .taken)
+transform-returns-4 t c = chain-stop (c .before .before .before .before .before .before .before .before .before .before .before .before .before .before .before .before .descend .ensures) (left-refused (c .before .before .before .before .before .before .before .before .before .before .before .before .before .before .before .before .before .before .before .before .before .before .before .before .args .widths .now) (c .before .before .before .before .before .before .before .before .before .before .before .before .before .before .before .before .before .before .before .before .before .before .before .before .args .keys .now) (c .before .before .before .before .before .before .before .before .before .before .before .before .before .before .before .before .before .before .before .before .before .before .before .before .args .marks .now) (c .before .before .before .before .before .before .before .before .before .before .before .before .before .before .before .source-count .ensures) (c .before .before .before .before .before .before .before .before .before .before .before .before .before .own-start .ensures) (two-left (below-at (c .before .before .before .before .before .before .before .before .before .before .before .before .before .before .before .before .descend .ensures) (c .before .before .before .before .before .before .before .before .before .before .before .before .before .before .before .before .before .before .before .before .before .before .before .before .pre .1 .0)) (c .before .before .before .before .before .before .before .before .before .before .before .before .before .before .before .source-count .ensures) (c .before .before .before .before .before .before .before .before .before .before .before .before .before .before .if1 .left) (c .before .before .before .before .before .before .before .before .before .before .before .before .if2 .left)) (c .before .before .before .before .before .before .before .before .before .before .before .start .ensures) (c .before .before .before .before .before .before .before .transform2 .ensures) (c .if4 .taken)) (c .if4 .taken)
 
 transform-sub-transform-2 : (t : ℕ) → transform-lts.Need-sub-transform-2 (transform-claims t) (transform-at t) transform.Post
-transform-sub-transform-2 t c = let (f, (h, k)) = own-in (c .before .before .before .before .before .before .before .before .before .before .before .before .before .before .before .before .before .before .before .before .before .before .before .pre .1 .0) (c .before .before .before .before .before .before .before .before .before .before .before .before .before .own-start .ensures) in omega arith
+transform-sub-transform-2 t c = let (f, (h, k)) = own-in (below-at (c .before .before .before .before .before .before .before .before .before .before .before .before .before .before .before .before .descend .ensures) (c .before .before .before .before .before .before .before .before .before .before .before .before .before .before .before .before .before .before .before .before .before .before .before .before .pre .1 .0)) (c .before .before .before .before .before .before .before .before .before .before .before .before .before .own-start .ensures) in omega arith
 
 transform-add-transform-2 : (t : ℕ) → transform-lts.Need-add-transform-2 (transform-claims t) (transform-at t) transform.Post
-transform-add-transform-2 t c = let (f, (h, k)) = own-in (c .before .before .before .before .before .before .before .before .before .before .before .before .before .before .before .before .before .before .before .before .before .before .before .pre .1 .0) (c .before .before .before .before .before .before .before .before .before .before .before .before .before .own-start .ensures) in omega arith
+transform-add-transform-2 t c = let (f, (h, k)) = own-in (below-at (c .before .before .before .before .before .before .before .before .before .before .before .before .before .before .before .before .descend .ensures) (c .before .before .before .before .before .before .before .before .before .before .before .before .before .before .before .before .before .before .before .before .before .before .before .before .pre .1 .0)) (c .before .before .before .before .before .before .before .before .before .before .before .before .before .own-start .ensures) in omega arith
 
 transform-transform-requires-3 : (t : ℕ) → transform-lts.Need-transform-requires-3 (transform-claims t) (transform-at t) transform.Post
-transform-transform-requires-3 t c κs = let (f, (h, k)) = own-in (c .before .before .before .before .before .before .before .before .before .before .before .before .before .before .before .before .before .before .before .before .before .before .before .before .before .before .pre .1 .0) (c .before .before .before .before .before .before .before .before .before .before .before .before .before .before .before .before .own-start .ensures) in let two = two-left (c .before .before .before .before .before .before .before .before .before .before .before .before .before .before .before .before .before .before .before .before .before .before .before .before .before .before .pre .1 .0) (c .before .before .before .before .before .before .before .before .before .before .before .before .before .before .before .before .before .before .source-count .ensures) (c .before .before .before .before .before .before .before .before .before .before .before .before .before .before .before .before .before .if1 .left) (c .before .before .before .before .before .before .before .before .before .before .before .before .before .before .before .if2 .left) in let (p, (q, r)) = mid-in (c .before .before .before .before .before .before .before .before .before .before .before .before .before .before .before .before .before .before .source-count .ensures) two (c .before .before .before .before .before .before .before .before .before .before .before .before .before .before .before .before .own-start .ensures) (c .before .before .before .before .before .before .before .before .before .before .before .before .before .before .start .ensures) (c .before .before .before .before .before .before .before .before .before .before .before .before .before .before .before .before .before .before .before .before .before .before .before .before .before .before .pre .1 .0) in (omega (arith, c .before .before .before .before .before .before .before .before .before .before .before .before .before .before .before .before .before .before .before .before .before .before .before .before .before .before .pre .0), (right-at (c .before .before .before .before .before .before .before .before .before .before .before .before .before .before .before .before .before .before .source-count .ensures) two (c .before .before .before .before .before .before .before .before .before .before .before .before .before .before .before .before .own-start .ensures) (c .before .before .before .before .before .before .before .before .before .before .before .before .before .before .start .ensures) IndexLookup (c .before .before .before .before .before .before .before .before .before .before .transform2 .ensures) (c .before .before .before .before .before .before .before .before .before .before .transform2 .kept .1 .1 .1 .1 .0) (c .before .before .before .if4 .left) (c .before .before .before .before .before .before .before .before .before .before .before .before .before .before .before .before .before .before .before .before .before .before .before .before .before .before .pre .1 .0), (c .before .before .before .before .before .before .before .before .before .before .transform2 .kept .1 .1 .1 .1 .1 .1 .0 ∙ (c .before .before .before .before .before .before .before .before .before .before .before .before .before .before .before .before .before .before .before .before .before .before .before .before .before .before .pre .1 .1 .0 ∙ sym (c .before .before .before .before .before .before .before .before .before .before .transform2 .kept .1 .1 .1 .1 .0)), c .before .before .before .before .before .before .before .before .before .before .transform2 .kept .1 .1 .1 .1 .1 .1 .1 .0 ∙ (c .before .before .before .before .before .before .before .before .before .before .before .before .before .before .before .before .before .before .before .before .before .before .before .before .before .before .pre .1 .1 .1 ∙ sym (c .before .before .before .before .before .before .before .before .before .before .transform2 .kept .1 .1 .1 .1 .0)))))
+transform-transform-requires-3 t c κs = let (f, (h, k)) = own-in (below-at (c .before .before .before .before .before .before .before .before .before .before .before .before .before .before .before .before .before .before .before .descend .ensures) (c .before .before .before .before .before .before .before .before .before .before .before .before .before .before .before .before .before .before .before .before .before .before .before .before .before .before .before .pre .1 .0)) (c .before .before .before .before .before .before .before .before .before .before .before .before .before .before .before .before .own-start .ensures) in let two = two-left (below-at (c .before .before .before .before .before .before .before .before .before .before .before .before .before .before .before .before .before .before .before .descend .ensures) (c .before .before .before .before .before .before .before .before .before .before .before .before .before .before .before .before .before .before .before .before .before .before .before .before .before .before .before .pre .1 .0)) (c .before .before .before .before .before .before .before .before .before .before .before .before .before .before .before .before .before .before .source-count .ensures) (c .before .before .before .before .before .before .before .before .before .before .before .before .before .before .before .before .before .if1 .left) (c .before .before .before .before .before .before .before .before .before .before .before .before .before .before .before .if2 .left) in let (p, (q, r)) = mid-in (c .before .before .before .before .before .before .before .before .before .before .before .before .before .before .before .before .before .before .source-count .ensures) two (c .before .before .before .before .before .before .before .before .before .before .before .before .before .before .before .before .own-start .ensures) (c .before .before .before .before .before .before .before .before .before .before .before .before .before .before .start .ensures) (below-at (c .before .before .before .before .before .before .before .before .before .before .before .before .before .before .before .before .before .before .before .descend .ensures) (c .before .before .before .before .before .before .before .before .before .before .before .before .before .before .before .before .before .before .before .before .before .before .before .before .before .before .before .pre .1 .0)) in (omega (arith, c .before .before .before .before .before .before .before .before .before .before .before .before .before .before .before .before .before .before .before .before .before .before .before .before .before .before .before .pre .0, below-in (c .before .before .before .before .before .before .before .before .before .before .before .before .before .before .before .before .before .before .before .descend .ensures) (c .before .before .before .before .before .before .before .before .before .before .before .before .before .before .before .before .before .before .before .before .before .before .before .before .before .before .before .pre .1 .0)), (right-at (c .before .before .before .before .before .before .before .before .before .before .before .before .before .before .before .before .before .before .source-count .ensures) two (c .before .before .before .before .before .before .before .before .before .before .before .before .before .before .before .before .own-start .ensures) (c .before .before .before .before .before .before .before .before .before .before .before .before .before .before .start .ensures) IndexLookup (c .before .before .before .before .before .before .before .before .before .before .transform2 .ensures) (c .before .before .before .before .before .before .before .before .before .before .transform2 .kept .1 .1 .1 .1 .0) (c .before .before .before .if4 .left) (below-at (c .before .before .before .before .before .before .before .before .before .before .before .before .before .before .before .before .before .before .before .descend .ensures) (c .before .before .before .before .before .before .before .before .before .before .before .before .before .before .before .before .before .before .before .before .before .before .before .before .before .before .before .pre .1 .0)), (c .before .before .before .before .before .before .before .before .before .before .transform2 .kept .1 .1 .1 .1 .1 .1 .0 ∙ (c .before .before .before .before .before .before .before .before .before .before .before .before .before .before .before .before .before .before .before .before .before .before .before .before .before .before .before .pre .1 .1 .0 ∙ sym (c .before .before .before .before .before .before .before .before .before .before .transform2 .kept .1 .1 .1 .1 .0)), c .before .before .before .before .before .before .before .before .before .before .transform2 .kept .1 .1 .1 .1 .1 .1 .1 .0 ∙ (c .before .before .before .before .before .before .before .before .before .before .before .before .before .before .before .before .before .before .before .before .before .before .before .before .before .before .before .pre .1 .1 .1 ∙ sym (c .before .before .before .before .before .before .before .before .before .before .transform2 .kept .1 .1 .1 .1 .0)))))
 
 transform-same-length-13 : (t : ℕ) → transform-lts.Need-same-length-13 (transform-claims t) (transform-at t) transform.Post
 transform-same-length-13 t c = c .before .before .before .before .before .before .before .transform3 .kept .1 .1 .1 .1 .0 ∙ c .before .before .before .before .before .before .before .before .before .before .before .before .before .before .before .before .before .before .transform2 .kept .1 .1 .1 .1 .0
@@ -131,27 +149,34 @@ transform-same-length-15 : (t : ℕ) → transform-lts.Need-same-length-15 (tran
 transform-same-length-15 t c = c .before .before .before .before .before .before .before .transform3 .kept .1 .1 .1 .1 .1 .1 .1 .0 ∙ c .before .before .before .before .before .before .before .before .before .before .before .before .before .before .before .before .before .before .transform2 .kept .1 .1 .1 .1 .1 .1 .1 .0
 
 transform-returns-5 : (t : ℕ) → transform-lts.Need-returns-5 (transform-claims t) (transform-at t) transform.Post
-transform-returns-5 t c = right-refused (c .before .before .before .before .before .before .before .before .before .before .before .before .before .before .before .before .before .before .before .before .before .before .before .before .before .before .before .before .before .before .before .before .before .before .args .widths .now) (c .before .before .before .before .before .before .before .before .before .before .before .before .before .before .before .before .before .before .before .before .before .before .before .before .before .before .before .before .before .before .before .before .before .before .args .keys .now) (c .before .before .before .before .before .before .before .before .before .before .before .before .before .before .before .before .before .before .before .before .before .before .before .before .before .before .before .before .before .before .before .before .before .before .args .marks .now) (c .before .before .before .before .before .before .before .before .before .before .before .before .before .before .before .before .before .before .before .before .before .before .before .before .before .before .source-count .ensures) (c .before .before .before .before .before .before .before .before .before .before .before .before .before .before .before .before .before .before .before .before .before .before .before .before .own-start .ensures) (two-left (c .before .before .before .before .before .before .before .before .before .before .before .before .before .before .before .before .before .before .before .before .before .before .before .before .before .before .before .before .before .before .before .before .before .before .pre .1 .0) (c .before .before .before .before .before .before .before .before .before .before .before .before .before .before .before .before .before .before .before .before .before .before .before .before .before .before .source-count .ensures) (c .before .before .before .before .before .before .before .before .before .before .before .before .before .before .before .before .before .before .before .before .before .before .before .before .before .if1 .left) (c .before .before .before .before .before .before .before .before .before .before .before .before .before .before .before .before .before .before .before .before .before .before .before .if2 .left)) (c .before .before .before .before .before .before .before .before .before .before .before .before .before .before .before .before .before .before .before .before .before .before .start .ensures) (c .before .before .before .before .before .before .before .before .before .before .before .before .before .before .before .before .before .before .transform2 .ensures) (c .before .before .before .before .before .before .before .before .before .before .before .before .before .before .before .before .before .before .transform2 .kept .1 .1 .1 .1 .0) (c .before .before .before .before .before .before .before .before .before .before .before .if4 .left) (c .before .before .before .before .before .before .before .transform3 .ensures) (c .if5 .taken)
+transform-returns-5 t c = chain-stop (c .before .before .before .before .before .before .before .before .before .before .before .before .before .before .before .before .before .before .before .before .before .before .before .before .before .before .before .descend .ensures) (right-refused (c .before .before .before .before .before .before .before .before .before .before .before .before .before .before .before .before .before .before .before .before .before .before .before .before .before .before .before .before .before .before .before .before .before .before .before .args .widths .now) (c .before .before .before .before .before .before .before .before .before .before .before .before .before .before .before .before .before .before .before .before .before .before .before .before .before .before .before .before .before .before .before .before .before .before .before .args .keys .now) (c .before .before .before .before .before .before .before .before .before .before .before .before .before .before .before .before .before .before .before .before .before .before .before .before .before .before .before .before .before .before .before .before .before .before .before .args .marks .now) (c .before .before .before .before .before .before .before .before .before .before .before .before .before .before .before .before .before .before .before .before .before .before .before .before .before .before .source-count .ensures) (c .before .before .before .before .before .before .before .before .before .before .before .before .before .before .before .before .before .before .before .before .before .before .before .before .own-start .ensures) (two-left (below-at (c .before .before .before .before .before .before .before .before .before .before .before .before .before .before .before .before .before .before .before .before .before .before .before .before .before .before .before .descend .ensures) (c .before .before .before .before .before .before .before .before .before .before .before .before .before .before .before .before .before .before .before .before .before .before .before .before .before .before .before .before .before .before .before .before .before .before .before .pre .1 .0)) (c .before .before .before .before .before .before .before .before .before .before .before .before .before .before .before .before .before .before .before .before .before .before .before .before .before .before .source-count .ensures) (c .before .before .before .before .before .before .before .before .before .before .before .before .before .before .before .before .before .before .before .before .before .before .before .before .before .if1 .left) (c .before .before .before .before .before .before .before .before .before .before .before .before .before .before .before .before .before .before .before .before .before .before .before .if2 .left)) (c .before .before .before .before .before .before .before .before .before .before .before .before .before .before .before .before .before .before .before .before .before .before .start .ensures) (c .before .before .before .before .before .before .before .before .before .before .before .before .before .before .before .before .before .before .transform2 .ensures) (c .before .before .before .before .before .before .before .before .before .before .before .before .before .before .before .before .before .before .transform2 .kept .1 .1 .1 .1 .0) (c .before .before .before .before .before .before .before .before .before .before .before .if4 .left) (c .before .before .before .before .before .before .before .transform3 .ensures) (c .if5 .taken)) (c .if5 .taken)
 
 transform-finish-requires-2 : (t : ℕ) → transform-lts.Need-finish-requires-2 (transform-claims t) (transform-at t) transform.Post
-transform-finish-requires-2 t c κs = (own-in (c .before .before .before .before .before .before .before .before .before .before .before .before .before .before .before .before .before .before .before .before .before .before .before .before .before .before .before .before .before .before .before .before .before .before .before .pre .1 .0) (c .before .before .before .before .before .before .before .before .before .before .before .before .before .before .before .before .before .before .before .before .before .before .before .before .before .own-start .ensures) .1 .0, stream-in (c .before .before .before .before .before .before .before .before .before .before .before .before .before .before .before .before .before .before .before .before .before .before .before .before .before .before .before .before .before .before .before .before .before .before .before .pre .1 .0) .1)
+transform-finish-requires-2 t c κs = (own-in (below-at (c .before .before .before .before .before .before .before .before .before .before .before .before .before .before .before .before .before .before .before .before .before .before .before .before .before .before .before .before .descend .ensures) (c .before .before .before .before .before .before .before .before .before .before .before .before .before .before .before .before .before .before .before .before .before .before .before .before .before .before .before .before .before .before .before .before .before .before .before .before .pre .1 .0)) (c .before .before .before .before .before .before .before .before .before .before .before .before .before .before .before .before .before .before .before .before .before .before .before .before .before .own-start .ensures) .1 .0, stream-in (below-at (c .before .before .before .before .before .before .before .before .before .before .before .before .before .before .before .before .before .before .before .before .before .before .before .before .before .before .before .before .descend .ensures) (c .before .before .before .before .before .before .before .before .before .before .before .before .before .before .before .before .before .before .before .before .before .before .before .before .before .before .before .before .before .before .before .before .before .before .before .before .pre .1 .0)) .1)
+
+transform-follow-requires-3 : (t : ℕ) → transform-lts.Need-follow-requires-3 (transform-claims t) (transform-at t) transform.Post
+transform-follow-requires-3 t c κs = (below-in (c .before .before .before .before .before .before .before .before .before .before .before .before .before .before .before .before .before .before .before .before .before .before .before .before .before .before .before .before .before .before .before .before .descend .ensures) (c .before .before .before .before .before .before .before .before .before .before .before .before .before .before .before .before .before .before .before .before .before .before .before .before .before .before .before .before .before .before .before .before .before .before .before .before .before .before .before .before .pre .1 .0), (stream-in (c .before .before .before .before .before .before .before .before .before .before .before .before .before .before .before .before .before .before .before .before .before .before .before .before .before .before .before .before .before .before .before .before .before .before .before .before .before .before .before .before .pre .1 .0) .1, stream-up (below-at (c .before .before .before .before .before .before .before .before .before .before .before .before .before .before .before .before .before .before .before .before .before .before .before .before .before .before .before .before .before .before .before .before .descend .ensures) (c .before .before .before .before .before .before .before .before .before .before .before .before .before .before .before .before .before .before .before .before .before .before .before .before .before .before .before .before .before .before .before .before .before .before .before .before .before .before .before .before .pre .1 .0)) (c .before .before .before .finish2 .kept .1 .1 .1 .0 ∙ (c .before .before .before .before .before .before .before .before .before .before .before .before .transform3 .kept .1 .1 .1 .1 .0 ∙ c .before .before .before .before .before .before .before .before .before .before .before .before .before .before .before .before .before .before .before .before .before .before .before .transform2 .kept .1 .1 .1 .1 .0)) (two-go (c .before .before .before .before .before .before .before .before .before .before .before .before .before .before .before .before .before .before .before .before .before .before .before .before .before .before .before .before .before .before .before .before .before .before .before .before .before .before .before .before .args .widths .now) (c .before .before .before .before .before .before .before .before .before .before .before .before .before .before .before .before .before .before .before .before .before .before .before .before .before .before .before .before .before .before .before .before .before .before .before .before .before .before .before .before .args .keys .now) (c .before .before .before .before .before .before .before .before .before .before .before .before .before .before .before .before .before .before .before .before .before .before .before .before .before .before .before .before .before .before .before .before .before .before .before .before .before .before .before .before .args .marks .now) (c .before .before .before .before .before .before .before .before .before .before .before .before .before .before .before .before .before .before .before .before .before .before .before .before .before .before .before .before .before .before .before .source-count .ensures) (c .before .before .before .before .before .before .before .before .before .before .before .before .before .before .before .before .before .before .before .before .before .before .before .before .before .before .before .before .before .own-start .ensures) (two-left (below-at (c .before .before .before .before .before .before .before .before .before .before .before .before .before .before .before .before .before .before .before .before .before .before .before .before .before .before .before .before .before .before .before .before .descend .ensures) (c .before .before .before .before .before .before .before .before .before .before .before .before .before .before .before .before .before .before .before .before .before .before .before .before .before .before .before .before .before .before .before .before .before .before .before .before .before .before .before .before .pre .1 .0)) (c .before .before .before .before .before .before .before .before .before .before .before .before .before .before .before .before .before .before .before .before .before .before .before .before .before .before .before .before .before .before .before .source-count .ensures) (c .before .before .before .before .before .before .before .before .before .before .before .before .before .before .before .before .before .before .before .before .before .before .before .before .before .before .before .before .before .before .if1 .left) (c .before .before .before .before .before .before .before .before .before .before .before .before .before .before .before .before .before .before .before .before .before .before .before .before .before .before .before .before .if2 .left)) (c .before .before .before .before .before .before .before .before .before .before .before .before .before .before .before .before .before .before .before .before .before .before .before .before .before .before .before .start .ensures) (c .before .before .before .before .before .before .before .before .before .before .before .before .before .before .before .before .before .before .before .before .before .before .before .transform2 .ensures) (c .before .before .before .before .before .before .before .before .before .before .before .before .before .before .before .before .before .before .before .before .before .before .before .transform2 .kept .1 .1 .1 .1 .0) (c .before .before .before .before .before .before .before .before .before .before .before .before .before .before .before .before .if4 .left) (c .before .before .before .before .before .before .before .before .before .before .before .before .transform3 .ensures) (c .before .before .before .before .before .if5 .left) (c .before .before .before .before .before .before .before .before .before .before .before .before .transform3 .kept .1 .1 .1 .1 .0) (c .before .before .before .finish2 .kept .1 .1 .1 .0) (c .before .before .before .finish2 .ensures))))
 
 transform-same-length-16 : (t : ℕ) → transform-lts.Need-same-length-16 (transform-claims t) (transform-at t) transform.Post
-transform-same-length-16 t c = c .before .before .finish2 .kept .1 .1 .1 .0 ∙ (c .before .before .before .before .before .before .before .before .before .before .before .transform3 .kept .1 .1 .1 .1 .0 ∙ c .before .before .before .before .before .before .before .before .before .before .before .before .before .before .before .before .before .before .before .before .before .before .transform2 .kept .1 .1 .1 .1 .0)
+transform-same-length-16 t c = c .before .before .follow3 .kept .1 .1 .1 .0 ∙ (c .before .before .before .before .before .before .finish2 .kept .1 .1 .1 .0 ∙ (c .before .before .before .before .before .before .before .before .before .before .before .before .before .before .before .transform3 .kept .1 .1 .1 .1 .0 ∙ c .before .before .before .before .before .before .before .before .before .before .before .before .before .before .before .before .before .before .before .before .before .before .before .before .before .before .transform2 .kept .1 .1 .1 .1 .0))
 
 transform-same-length-17 : (t : ℕ) → transform-lts.Need-same-length-17 (transform-claims t) (transform-at t) transform.Post
-transform-same-length-17 t c = c .before .before .before .before .before .before .before .before .before .before .before .transform3 .kept .1 .1 .1 .1 .1 .1 .0 ∙ c .before .before .before .before .before .before .before .before .before .before .before .before .before .before .before .before .before .before .before .before .before .before .transform2 .kept .1 .1 .1 .1 .1 .1 .0
+transform-same-length-17 t c = c .before .before .before .before .before .before .before .before .before .before .before .before .before .before .before .transform3 .kept .1 .1 .1 .1 .1 .1 .0 ∙ c .before .before .before .before .before .before .before .before .before .before .before .before .before .before .before .before .before .before .before .before .before .before .before .before .before .before .transform2 .kept .1 .1 .1 .1 .1 .1 .0
 
 transform-same-length-18 : (t : ℕ) → transform-lts.Need-same-length-18 (transform-claims t) (transform-at t) transform.Post
-transform-same-length-18 t c = c .before .before .before .before .before .before .before .before .before .before .before .transform3 .kept .1 .1 .1 .1 .1 .1 .1 .0 ∙ c .before .before .before .before .before .before .before .before .before .before .before .before .before .before .before .before .before .before .before .before .before .before .transform2 .kept .1 .1 .1 .1 .1 .1 .1 .0
+transform-same-length-18 t c = c .before .before .before .before .before .before .before .before .before .before .before .before .before .before .before .transform3 .kept .1 .1 .1 .1 .1 .1 .1 .0 ∙ c .before .before .before .before .before .before .before .before .before .before .before .before .before .before .before .before .before .before .before .before .before .before .before .before .before .before .transform2 .kept .1 .1 .1 .1 .1 .1 .1 .0
 
 transform-returns-6 : (t : ℕ) → transform-lts.Need-returns-6 (transform-claims t) (transform-at t) transform.Post
-transform-returns-6 t c = two-go (c .before .before .before .before .before .before .before .before .before .before .before .before .before .before .before .before .before .before .before .before .before .before .before .before .before .before .before .before .before .before .before .before .before .before .before .before .before .before .args .widths .now) (c .before .before .before .before .before .before .before .before .before .before .before .before .before .before .before .before .before .before .before .before .before .before .before .before .before .before .before .before .before .before .before .before .before .before .before .before .before .before .args .keys .now) (c .before .before .before .before .before .before .before .before .before .before .before .before .before .before .before .before .before .before .before .before .before .before .before .before .before .before .before .before .before .before .before .before .before .before .before .before .before .before .args .marks .now) (c .before .before .before .before .before .before .before .before .before .before .before .before .before .before .before .before .before .before .before .before .before .before .before .before .before .before .before .before .before .before .source-count .ensures) (c .before .before .before .before .before .before .before .before .before .before .before .before .before .before .before .before .before .before .before .before .before .before .before .before .before .before .before .before .own-start .ensures) (two-left (c .before .before .before .before .before .before .before .before .before .before .before .before .before .before .before .before .before .before .before .before .before .before .before .before .before .before .before .before .before .before .before .before .before .before .before .before .before .before .pre .1 .0) (c .before .before .before .before .before .before .before .before .before .before .before .before .before .before .before .before .before .before .before .before .before .before .before .before .before .before .before .before .before .before .source-count .ensures) (c .before .before .before .before .before .before .before .before .before .before .before .before .before .before .before .before .before .before .before .before .before .before .before .before .before .before .before .before .before .if1 .left) (c .before .before .before .before .before .before .before .before .before .before .before .before .before .before .before .before .before .before .before .before .before .before .before .before .before .before .before .if2 .left)) (c .before .before .before .before .before .before .before .before .before .before .before .before .before .before .before .before .before .before .before .before .before .before .before .before .before .before .start .ensures) (c .before .before .before .before .before .before .before .before .before .before .before .before .before .before .before .before .before .before .before .before .before .before .transform2 .ensures) (c .before .before .before .before .before .before .before .before .before .before .before .before .before .before .before .before .before .before .before .before .before .before .transform2 .kept .1 .1 .1 .1 .0) (c .before .before .before .before .before .before .before .before .before .before .before .before .before .before .before .if4 .left) (c .before .before .before .before .before .before .before .before .before .before .before .transform3 .ensures) (c .before .before .before .before .if5 .left) (c .before .before .before .before .before .before .before .before .before .before .before .transform3 .kept .1 .1 .1 .1 .0) (c .before .before .finish2 .kept .1 .1 .1 .0) (c .before .before .finish2 .ensures)
+transform-returns-6 t c = chain-go (c .before .before .before .before .before .before .before .before .before .before .before .before .before .before .before .before .before .before .before .before .before .before .before .before .before .before .before .before .before .before .before .before .before .before .before .descend .ensures) (two-go (c .before .before .before .before .before .before .before .before .before .before .before .before .before .before .before .before .before .before .before .before .before .before .before .before .before .before .before .before .before .before .before .before .before .before .before .before .before .before .before .before .before .before .before .args .widths .now) (c .before .before .before .before .before .before .before .before .before .before .before .before .before .before .before .before .before .before .before .before .before .before .before .before .before .before .before .before .before .before .before .before .before .before .before .before .before .before .before .before .before .before .before .args .keys .now) (c .before .before .before .before .before .before .before .before .before .before .before .before .before .before .before .before .before .before .before .before .before .before .before .before .before .before .before .before .before .before .before .before .before .before .before .before .before .before .before .before .before .before .before .args .marks .now) (c .before .before .before .before .before .before .before .before .before .before .before .before .before .before .before .before .before .before .before .before .before .before .before .before .before .before .before .before .before .before .before .before .before .before .source-count .ensures) (c .before .before .before .before .before .before .before .before .before .before .before .before .before .before .before .before .before .before .before .before .before .before .before .before .before .before .before .before .before .before .before .before .own-start .ensures) (two-left (below-at (c .before .before .before .before .before .before .before .before .before .before .before .before .before .before .before .before .before .before .before .before .before .before .before .before .before .before .before .before .before .before .before .before .before .before .before .descend .ensures) (c .before .before .before .before .before .before .before .before .before .before .before .before .before .before .before .before .before .before .before .before .before .before .before .before .before .before .before .before .before .before .before .before .before .before .before .before .before .before .before .before .before .before .before .pre .1 .0)) (c .before .before .before .before .before .before .before .before .before .before .before .before .before .before .before .before .before .before .before .before .before .before .before .before .before .before .before .before .before .before .before .before .before .before .source-count .ensures) (c .before .before .before .before .before .before .before .before .before .before .before .before .before .before .before .before .before .before .before .before .before .before .before .before .before .before .before .before .before .before .before .before .before .if1 .left) (c .before .before .before .before .before .before .before .before .before .before .before .before .before .before .before .before .before .before .before .before .before .before .before .before .before .before .before .before .before .before .before .if2 .left)) (c .before .before .before .before .before .before .before .before .before .before .before .before .before .before .before .before .before .before .before .before .before .before .before .before .before .before .before .before .before .before .start .ensures) (c .before .before .before .before .before .before .before .before .before .before .before .before .before .before .before .before .before .before .before .before .before .before .before .before .before .before .transform2 .ensures) (c .before .before .before .before .before .before .before .before .before .before .before .before .before .before .before .before .before .before .before .before .before .before .before .before .before .before .transform2 .kept .1 .1 .1 .1 .0) (c .before .before .before .before .before .before .before .before .before .before .before .before .before .before .before .before .before .before .before .if4 .left) (c .before .before .before .before .before .before .before .before .before .before .before .before .before .before .before .transform3 .ensures) (c .before .before .before .before .before .before .before .before .if5 .left) (c .before .before .before .before .before .before .before .before .before .before .before .before .before .before .before .transform3 .kept .1 .1 .1 .1 .0) (c .before .before .before .before .before .before .finish2 .kept .1 .1 .1 .0) (c .before .before .before .before .before .before .finish2 .ensures)) (c .before .before .before .before .before .before .finish2 .kept .1 .1 .1 .0 ∙ (c .before .before .before .before .before .before .before .before .before .before .before .before .before .before .before .transform3 .kept .1 .1 .1 .1 .0 ∙ c .before .before .before .before .before .before .before .before .before .before .before .before .before .before .before .before .before .before .before .before .before .before .before .before .before .before .transform2 .kept .1 .1 .1 .1 .0)) (c .before .before .follow3 .kept .1 .1 .1 .0) (c .before .before .follow3 .ensures)
 
 pub +transform-spec : {M : Type 1} → statement M
 +transform-spec = close μ-transform λ t. transform-lts.spec (transform-claims t) (transform-at t) transform.Post
+    (transform-descend-requires t)
+    (transform-sub-back t)
+    (transform-add-back t)
     (transform-source-count-requires t)
     (transform-index-lookup-requires t)
+    (transform-follow-requires t)
     (transform-same-length t)
     (transform-same-length-2 t)
     (transform-same-length-3 t)
@@ -165,6 +190,7 @@ pub +transform-spec : {M : Type 1} → statement M
     (transform-same-length-6 t)
     (transform-returns-2 t)
     (transform-finish-requires t)
+    (transform-follow-requires-2 t)
     (transform-same-length-7 t)
     (transform-same-length-8 t)
     (transform-same-length-9 t)
@@ -185,6 +211,7 @@ pub +transform-spec : {M : Type 1} → statement M
     (transform-same-length-15 t)
     (transform-returns-5 t)
     (transform-finish-requires-2 t)
+    (transform-follow-requires-3 t)
     (transform-same-length-16 t)
     (transform-same-length-17 t)
     (transform-same-length-18 t)

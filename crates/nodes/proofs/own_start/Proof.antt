@@ -1,4 +1,4 @@
-use Rattle.nodes.proofs.Own.{at-in, leaf-start, own-at, own-start-said}
+use Rattle.nodes.proofs.Own.{at-in, leaf-start, own-at, own-start-said, targets-fit, remap-start}
 use Prim.Native.Nat.{ℕ, _+_, _-_, _*_, _≤_, _<_}
 use native.Mathlib.Omega.{arith}
 use mathlib.Core.Path.{_≡_, refl, sym, ap, _∙_, subst}
@@ -17,14 +17,29 @@ returns c = leaf-start (c .before .source-count .ensures) (c .if1 .taken)
 own-trees-requires : tie.Need-own-trees-requires
 own-trees-requires c κs = c .before .before .before .pre
 
-sub-trees-start : tie.Need-sub-trees-start
-sub-trees-start c = omega (arith, at-in (c .before .before .before .before .pre) .0)
+tag-at-requires : tie.Need-tag-at-requires
+tag-at-requires c κs = let (h, k) = at-in (c .before .before .before .before .pre) in (omega arith, k)
 
-trees-start-requires : tie.Need-trees-start-requires
-trees-start-requires c κs = own-at (c .before .before .source-count .ensures) (c .before .if1 .left) (c .own-trees .ensures) (c .before .before .before .before .pre)
+sub-result : tie.Need-sub-result
+sub-result c = omega (arith, at-in (c .before .before .before .before .before .before .pre) .0)
+
+mul-result : tie.Need-mul-result
+mul-result c = omega (arith, targets-fit (c .before .before .own-trees .ensures) (sym (c .before .tag-at .ensures) ∙ c .if2 .taken) (c .before .before .before .before .before .before .pre), at-in (c .before .before .before .before .before .before .pre) .1, c .before .before .before .before .before .before .fits)
+
+sub-result-2 : tie.Need-sub-result-2
+sub-result-2 c = omega (arith, targets-fit (c .before .before .own-trees .ensures) (sym (c .before .tag-at .ensures) ∙ c .if2 .taken) (c .before .before .before .before .before .before .pre))
 
 returns-2 : tie.Need-returns-2
-returns-2 c = own-start-said (c .before .before .before .source-count .ensures) (c .before .before .if1 .left) (c .before .own-trees .ensures) (c .trees-start .ensures)
+returns-2 c = remap-start (c .before .before .own-trees .ensures) (sym (c .before .tag-at .ensures) ∙ c .if2 .taken)
+
+sub-trees-start : tie.Need-sub-trees-start
+sub-trees-start c = omega (arith, at-in (c .before .before .before .before .before .before .pre) .0)
+
+trees-start-requires : tie.Need-trees-start-requires
+trees-start-requires c κs = own-at (c .before .before .before .before .source-count .ensures) (c .before .before .before .if1 .left) (c .before .before .own-trees .ensures) (c .before .before .before .before .before .before .pre)
+
+returns-3 : tie.Need-returns-3
+returns-3 c = own-start-said (c .before .before .before .before .before .source-count .ensures) (c .before .before .before .before .if1 .left) (c .before .before .before .own-trees .ensures) (c .trees-start .ensures)
 
 pub own-start-spec : {M : Type 1} → statement M
 own-start-spec =
@@ -33,6 +48,11 @@ own-start-spec =
     source-count-requires
     returns
     own-trees-requires
+    tag-at-requires
+    sub-result
+    mul-result
+    sub-result-2
+    returns-2
     sub-trees-start
     trees-start-requires
-    returns-2)
+    returns-3)

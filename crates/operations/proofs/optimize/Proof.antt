@@ -1,4 +1,4 @@
-use Rattle.operations.proofs.Checking.{five-refused, stands, accepted-at, five-run}
+use Rattle.operations.proofs.Checking.{five-refused, stands, fits, five-run}
 use Prim.Native.Nat.{ℕ, _+_, _-_, _*_, _≤_, _<_}
 use native.Mathlib.Omega.{arith}
 use mathlib.Core.Path.{_≡_, refl, sym, ap, _∙_, subst}
@@ -19,10 +19,10 @@ returns : tie.Need-returns
 returns c = five-refused (c .before .before .before .before .before .args .s .now) (c .before .before .before .before .before .args .out .now) _ (c .before .before .check .ensures) (omega arith)
 
 run-requires : tie.Need-run-requires
-run-requires c κs = (tt, accepted-at (stands (c .before .before .before .before .before .before .args .s .now) (λ i. omega (arith, c .before .before .before .before .before .shared-slice-known .given i)) _ (c .before .before .before .check .ensures) (omega arith)))
+run-requires c κs = (tt, fits (stands (c .before .before .before .before .before .before .args .s .now) (λ i. omega (arith, c .before .before .before .before .before .shared-slice-known .given i)) _ (c .before .before .before .check .ensures) (omega arith)))
 
 same-length : tie.Need-same-length
-same-length c = search needs
+same-length c = c .before .before .run .kept .1 .1 .1 .1 .0
 
 returns-2 : tie.Need-returns-2
 returns-2 c = let t = stands (c .before .before .before .before .before .before .before .before .before .args .s .now) (λ i. omega (arith, c .before .before .before .before .before .before .before .before .shared-slice-known .given i)) _ (c .before .before .before .before .before .before .check .ensures) (omega arith) in five-run (c .before .before .before .before .before .before .before .before .before .args .s .now) (c .before .before .before .before .before .before .before .before .before .args .out .now) _ _ (t .node) (t .is) (c .before .before .run .ensures (t .node) (t .is) (t .wide))

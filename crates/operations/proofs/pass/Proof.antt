@@ -1,4 +1,4 @@
-use Rattle.operations.proofs.Checking.{no-pass-0, no-pass-6, pass-refused, stands, accepted-at, pass-run}
+use Rattle.operations.proofs.Checking.{no-pass-0, no-pass-6, pass-refused, stands, fits, pass-run}
 use Prim.Native.Nat.{ℕ, _+_, _-_, _*_, _≤_, _<_}
 use native.Mathlib.Omega.{arith}
 use mathlib.Core.Path.{_≡_, refl, sym, ap, _∙_, subst}
@@ -32,10 +32,10 @@ returns-3 : tie.Need-returns-3
 returns-3 c = pass-refused (c .before .before .before .before .before .before .before .args .s .now) (c .before .before .before .before .before .before .before .args .k) (c .before .before .before .before .before .before .before .args .out .now) _ (omega arith) (omega arith) (c .before .before .check .ensures) (omega arith)
 
 run-requires : tie.Need-run-requires
-run-requires c κs = ((omega arith, omega arith), accepted-at (stands (c .before .before .before .before .before .before .before .before .args .s .now) (λ i. omega (arith, c .before .before .before .before .before .before .before .shared-slice-known .given i)) _ (c .before .before .before .check .ensures) (omega arith)))
+run-requires c κs = ((omega arith, omega arith), fits (stands (c .before .before .before .before .before .before .before .before .args .s .now) (λ i. omega (arith, c .before .before .before .before .before .before .before .shared-slice-known .given i)) _ (c .before .before .before .check .ensures) (omega arith)))
 
 same-length : tie.Need-same-length
-same-length c = search needs
+same-length c = c .before .before .run .kept .1 .1 .1 .1 .0
 
 returns-4 : tie.Need-returns-4
 returns-4 c = let t = stands (c .before .before .before .before .before .before .before .before .before .before .before .args .s .now) (λ i. omega (arith, c .before .before .before .before .before .before .before .before .before .before .shared-slice-known .given i)) _ (c .before .before .before .before .before .before .check .ensures) (omega arith) in pass-run (c .before .before .before .before .before .before .before .before .before .before .before .args .s .now) (c .before .before .before .before .before .before .before .before .before .before .before .args .k) (c .before .before .before .before .before .before .before .before .before .before .before .args .out .now) _ _ (omega arith) (omega arith) (t .node) (t .is) (c .before .before .run .ensures (t .node) (t .is) (t .wide))

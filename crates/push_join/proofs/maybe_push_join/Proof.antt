@@ -1,6 +1,6 @@
 use Rattle.push_into.proofs.Taking.{node-at-in}
-use Rattle.edit.proofs.Edits.{held-at, held-in, held-standing}
-use Rattle.push_join.proofs.Passing.{pass-columns, nnf-at, cnf-at, pass-same, nnf-over, cnf-over, pass-split}
+use Rattle.edit.proofs.Edits.{held-at, held-in}
+use Rattle.push_join.proofs.Passing.{split-at, nnf-at, cnf-at, pass-same, nnf-over, cnf-over, pass-split}
 use Rattle.split_join.proofs.Splitting.{is-known, predicate-at}
 use mathlib.Core.Path.{refl, sym, _∙_}
 use Rattle.push_join.proofs.maybe_push_join.Statement.{statement}
@@ -46,25 +46,22 @@ returns-2 : tie.Need-returns-2
 returns-2 c = cnf-over (is-known (c .before .before .before .before .before .before .before .before .before .before .before .before .before .before .before .has-predicate .ensures) (c .before .before .before .before .before .before .before .before .before .before .before .before .before .before .if1 .taken)) (c .before .before .before .before .before .before .before .before .before .before .before .before .own-start .ensures) (c .before .before .before .before .before .before .before .before .before .before .before .before .before .before .before .before .before .before .before .before .before .before .pre .1 .1 .0) (c .before .before .before .before .before .before .before .before .before .into-nnf .kept .1 .1 .1 .0) (c .before .before .before .before .before .before .before .before .before .into-nnf .ensures) (c .before .before .before .before .before .before .if2 .left) (c .before .before .before .before .before .before .before .before .before .before .before .before .before .before .before .before .before .before .before .before .before .before .pre .1 .1 .1) (c .before .before .before .distribute .kept .1 .1 .1 .0) (c .before .before .before .distribute .ensures) (c .if3 .taken)
 
 split-requires : tie.Need-split-requires
-split-requires c κs = (pass-columns (c .before .before .before .before .before .before .before .before .before .before .before .before .before .before .before .before .before .before .before .before .before .before .before .before .before .before .pre .0), (is-known (c .before .before .before .before .before .before .before .before .before .before .before .before .before .before .before .before .before .before .before .has-predicate .ensures) (c .before .before .before .before .before .before .before .before .before .before .before .before .before .before .before .before .before .before .if1 .taken), (c .before .before .before .before .before .before .before .before .before .before .before .before .before .before .before .before .own-start .ensures, (cnf-at (c .before .before .before .before .before .before .before .before .before .before .before .before .before .before .before .before .own-start .ensures) (c .before .before .before .before .before .before .before .before .before .before .before .before .before .into-nnf .kept .1 .1 .1 .0) (c .before .before .before .before .before .before .before .before .before .before .before .before .before .into-nnf .ensures) (c .before .before .before .before .before .before .before .before .before .before .if2 .left) (c .before .before .before .before .before .before .before .distribute .kept .1 .1 .1 .0) (c .before .before .before .before .before .before .before .distribute .ensures) (c .before .before .before .before .if3 .left) (is-known (c .before .before .before .before .before .before .before .before .before .before .before .before .before .before .before .before .before .before .before .has-predicate .ensures) (c .before .before .before .before .before .before .before .before .before .before .before .before .before .before .before .before .before .before .if1 .taken)) (held-at (c .before .before .before .before .before .before .before .before .before .before .before .before .before .before .before .before .before .before .before .before .before .before .before .before .before .before .pre .0 .held)), c .before .before .before .before .before .before .before .before .before .before .before .before .before .into-nnf .kept .1 .1 .1 .0 ∙ (c .before .before .before .before .before .before .before .before .before .before .before .before .before .before .before .before .before .before .before .before .before .before .before .before .before .before .pre .1 .1 .0 ∙ sym (c .before .before .before .before .before .before .before .distribute .kept .1 .1 .1 .0 ∙ c .before .before .before .before .before .before .before .before .before .before .before .before .before .before .before .before .before .before .before .before .before .before .before .before .before .before .pre .1 .1 .1))))))
-
-finish-requires : tie.Need-finish-requires
-finish-requires c κs = held-standing (c .before .before .before .before .before .before .before .before .before .before .before .before .before .before .before .before .before .before .before .before .before .before .before .before .before .before .before .before .before .before .before .before .before .pre .0 .held)
+split-requires c κs = (split-at (is-known (c .before .before .before .before .before .before .before .before .before .before .before .before .before .before .before .before .before .before .before .has-predicate .ensures) (c .before .before .before .before .before .before .before .before .before .before .before .before .before .before .before .before .before .before .if1 .taken)) (c .before .before .before .before .before .before .before .before .before .before .before .before .before .before .before .before .before .before .before .before .before .before .before .before .before .before .pre .0), (c .before .before .before .before .before .before .before .before .before .before .before .before .before .before .before .before .own-start .ensures, (c .before .before .before .before .before .before .before .before .before .before .before .before .before .before .before .before .before .before .before .before .before .before .before .before .before .before .pre .1 .0, (cnf-at (c .before .before .before .before .before .before .before .before .before .before .before .before .before .before .before .before .own-start .ensures) (c .before .before .before .before .before .before .before .before .before .before .before .before .before .into-nnf .kept .1 .1 .1 .0) (c .before .before .before .before .before .before .before .before .before .before .before .before .before .into-nnf .ensures) (c .before .before .before .before .before .before .before .before .before .before .if2 .left) (c .before .before .before .before .before .before .before .distribute .kept .1 .1 .1 .0) (c .before .before .before .before .before .before .before .distribute .ensures) (c .before .before .before .before .if3 .left) (is-known (c .before .before .before .before .before .before .before .before .before .before .before .before .before .before .before .before .before .before .before .has-predicate .ensures) (c .before .before .before .before .before .before .before .before .before .before .before .before .before .before .before .before .before .before .if1 .taken)) (held-at (c .before .before .before .before .before .before .before .before .before .before .before .before .before .before .before .before .before .before .before .before .before .before .before .before .before .before .pre .0 .held)), c .before .before .before .before .before .before .before .before .before .before .before .before .before .into-nnf .kept .1 .1 .1 .0 ∙ (c .before .before .before .before .before .before .before .before .before .before .before .before .before .before .before .before .before .before .before .before .before .before .before .before .before .before .pre .1 .1 .0 ∙ sym (c .before .before .before .before .before .before .before .distribute .kept .1 .1 .1 .0 ∙ c .before .before .before .before .before .before .before .before .before .before .before .before .before .before .before .before .before .before .before .before .before .before .before .before .before .before .pre .1 .1 .1))))))
 
 same-length-6 : tie.Need-same-length-6
-same-length-6 c = c .before .before .before .before .finish .kept .0
+same-length-6 c = c .before .before .before .before .before .before .split .kept .0
 
 same-length-7 : tie.Need-same-length-7
-same-length-7 c = c .before .before .before .before .finish .kept .1 .0 ∙ c .before .before .before .before .before .before .before .before .before .before .before .split .kept .1 .1 .1 .1 .1 .1 .1 .0
+same-length-7 c = c .before .before .before .before .before .before .split .kept .1 .0
 
 same-length-8 : tie.Need-same-length-8
-same-length-8 c = c .before .before .before .before .before .before .before .before .before .before .before .split .kept .1 .1 .1 .1 .1 .1 .0 ∙ c .before .before .before .before .before .before .before .before .before .before .before .before .before .before .before .before .before .before .before .before .before .before .before .before .before .into-nnf .kept .1 .1 .1 .0
+same-length-8 c = c .before .before .before .before .before .before .split .kept .1 .1 .1 .1 .0 ∙ c .before .before .before .before .before .before .before .before .before .before .before .before .before .before .before .before .before .before .before .before .into-nnf .kept .1 .1 .1 .0
 
 same-length-9 : tie.Need-same-length-9
-same-length-9 c = c .before .before .before .before .before .before .before .before .before .before .before .before .before .before .before .before .before .before .before .distribute .kept .1 .1 .1 .0
+same-length-9 c = c .before .before .before .before .before .before .before .before .before .before .before .before .before .before .distribute .kept .1 .1 .1 .0
 
 returns-3 : tie.Need-returns-3
-returns-3 c = pass-split (is-known (c .before .before .before .before .before .before .before .before .before .before .before .before .before .before .before .before .before .before .before .before .before .before .before .before .before .before .before .before .before .before .before .has-predicate .ensures) (c .before .before .before .before .before .before .before .before .before .before .before .before .before .before .before .before .before .before .before .before .before .before .before .before .before .before .before .before .before .before .if1 .taken)) (c .before .before .before .before .before .before .before .before .before .before .before .before .before .before .before .before .before .before .before .before .before .before .before .before .before .before .before .before .own-start .ensures) (c .before .before .before .before .before .before .before .before .before .before .before .before .before .before .before .before .before .before .before .before .before .before .before .before .before .before .before .before .before .before .before .before .before .before .before .before .before .before .pre .1 .1 .0) (c .before .before .before .before .before .before .before .before .before .before .before .before .before .before .before .before .before .before .before .before .before .before .before .before .before .into-nnf .kept .1 .1 .1 .0) (c .before .before .before .before .before .before .before .before .before .before .before .before .before .before .before .before .before .before .before .before .before .before .before .before .before .into-nnf .ensures) (c .before .before .before .before .before .before .before .before .before .before .before .before .before .before .before .before .before .before .before .before .before .before .if2 .left) (c .before .before .before .before .before .before .before .before .before .before .before .before .before .before .before .before .before .before .before .before .before .before .before .before .before .before .before .before .before .before .before .before .before .before .before .before .before .before .pre .1 .1 .1) (c .before .before .before .before .before .before .before .before .before .before .before .before .before .before .before .before .before .before .before .distribute .kept .1 .1 .1 .0) (c .before .before .before .before .before .before .before .before .before .before .before .before .before .before .before .before .before .before .before .distribute .ensures) (c .before .before .before .before .before .before .before .before .before .before .before .before .before .before .before .before .if3 .left) (c .before .before .before .before .before .before .before .before .before .before .before .before .before .before .before .before .before .before .before .before .before .before .before .before .before .before .before .before .before .before .before .before .before .before .before .before .before .before .pre .1 .0) (c .before .before .before .before .before .before .before .before .before .before .before .split .kept .1 .1 .1 .1 .1 .1 .1 .0) (c .before .before .before .before .finish .kept .0) (c .before .before .before .before .before .before .before .before .before .before .before .split .ensures) (c .before .before .before .before .finish .ensures)
+returns-3 c = pass-split (is-known (c .before .before .before .before .before .before .before .before .before .before .before .before .before .before .before .before .before .before .before .before .before .before .before .before .before .before .has-predicate .ensures) (c .before .before .before .before .before .before .before .before .before .before .before .before .before .before .before .before .before .before .before .before .before .before .before .before .before .if1 .taken)) (c .before .before .before .before .before .before .before .before .before .before .before .before .before .before .before .before .before .before .before .before .before .before .before .own-start .ensures) (c .before .before .before .before .before .before .before .before .before .before .before .before .before .before .before .before .before .before .before .before .before .before .before .before .before .before .before .before .before .before .before .before .before .pre .1 .1 .0) (c .before .before .before .before .before .before .before .before .before .before .before .before .before .before .before .before .before .before .before .before .into-nnf .kept .1 .1 .1 .0) (c .before .before .before .before .before .before .before .before .before .before .before .before .before .before .before .before .before .before .before .before .into-nnf .ensures) (c .before .before .before .before .before .before .before .before .before .before .before .before .before .before .before .before .before .if2 .left) (c .before .before .before .before .before .before .before .before .before .before .before .before .before .before .before .before .before .before .before .before .before .before .before .before .before .before .before .before .before .before .before .before .before .pre .1 .1 .1) (c .before .before .before .before .before .before .before .before .before .before .before .before .before .before .distribute .kept .1 .1 .1 .0) (c .before .before .before .before .before .before .before .before .before .before .before .before .before .before .distribute .ensures) (c .before .before .before .before .before .before .before .before .before .before .before .if3 .left) (c .before .before .before .before .before .before .split .kept .0) (c .before .before .before .before .before .before .split .ensures)
 
 same-length-10 : tie.Need-same-length-10
 same-length-10 c = refl
@@ -90,7 +87,6 @@ maybe-push-join-spec =
     same-length-5
     returns-2
     split-requires
-    finish-requires
     same-length-6
     same-length-7
     same-length-8

@@ -1,15 +1,21 @@
 -- `scope::width_at` meets its contract: below the top, or past it.
-use Prim.Native.Nat.{_-_}
-use borrow.Author.Needs.{needs}
 use Rattle.scope.proofs.Stack.{width-below, width-past}
+use Prim.Native.Nat.{ℕ, _+_, _-_, _*_, _≤_, _<_}
+use native.Mathlib.Omega.{arith}
+use mathlib.Core.Path.{_≡_, refl, sym, ap, _∙_, subst}
+use mathlib.Core.List.{List, [], _∷_, _++_}
+use lib.ListN.{length, take, drop}
+use borrow.Author.Needs.{needs}
 use Rattle.scope.proofs.width_at.Statement.{statement}
 use Rattle.scope.proofs.width_at.Tie as tie
+use Rattle.scope.proofs.width_at.Reads as reads
+use Rattle.scope.proofs.width_at.Lts as lts
 
 mul-result : tie.Need-mul-result
 mul-result c = search needs
 
-element-copy-out-result : tie.Need-element-copy-out-result
-element-copy-out-result c = search needs
+shared-slice-read-result : tie.Need-shared-slice-read-result
+shared-slice-read-result c = search needs
 
 returns : tie.Need-returns
 returns c = width-below (c .before .before .args .widths .now) _ _ (c .before .if1 .taken)
@@ -18,4 +24,4 @@ returns-2 : tie.Need-returns-2
 returns-2 c = width-past (c .before .args .widths .now) _ _ (c .if1 .left)
 
 pub width-at-spec : {M : Type 1} → statement M
-width-at-spec = tie.close (tie.spec mul-result element-copy-out-result returns returns-2)
+width-at-spec = tie.close (tie.spec mul-result shared-slice-read-result returns returns-2)

@@ -1,5 +1,7 @@
-use lib.Seq.{length-take-le}
-use Rattle.sheet_passes.proofs.Accepting.{whole-recorded, few-tables, few-columns}
+use Rattle.sheet_passes.proofs.Accepting.{tables-fit, columns-fit}
+use Rattle.layout.proofs.Laws.{columns-are}
+use lib.ListN.{length-replicate}
+use mathlib.Core.Bool.{Bool, false}
 use Prim.Native.Nat.{ℕ, _+_, _-_, _*_, _≤_, _<_}
 use native.Mathlib.Omega.{arith}
 use mathlib.Core.Path.{_≡_, refl, sym, ap, _∙_, subst}
@@ -10,122 +12,86 @@ use Rattle.sheet_passes.proofs.run.Statement.{statement}
 use Rattle.sheet_passes.proofs.run.Tie as tie
 use Rattle.sheet_passes.proofs.run.Reads as reads
 use Rattle.sheet_passes.proofs.run.Lts as lts
-use Rattle.schema.proofs.column_names.Reads as column-names-reads
-use Rattle.schema.proofs.lookup_marks.Reads as lookup-marks-reads
-use Rattle.schema.proofs.primary_keys.Reads as primary-keys-reads
-use Rattle.schema.proofs.table_names.Reads as table-names-reads
-use Rattle.schema.proofs.widths.Reads as widths-reads
-use Rattle.sheet_passes.proofs.run_with.Reads as run-with-reads
+use Rattle.layout.proofs.parts_of.Reads as parts-of-reads
+use Rattle.sheet_passes.proofs.run_in.Reads as run-in-reads
 
-slice-aggregate-widths : tie.Need-slice-aggregate-widths
-slice-aggregate-widths c = search needs
+parts-of-requires : tie.Need-parts-of-requires
+parts-of-requires c κs = tables-fit (c .before .before .before .before .before .before .args .s .now) (λ i. omega (arith, c .before .before .before .before .before .shared-slice-known .given i)) (c .before .before .before .before .before .before .pre .1) .0
 
-widths-requires : tie.Need-widths-requires
-widths-requires c κs = (whole-recorded (c .before .before .before .before .before .before .before .args .s .now) (λ i. omega (arith, c .before .before .before .before .before .before .shared-slice-known .given i)) (c .before .before .before .before .before .before .before .pre .1 .node) (c .before .before .before .before .before .before .before .pre .1 .is) .whole, few-tables (c .before .before .before .before .before .before .before .args .s .now) (λ i. omega (arith, c .before .before .before .before .before .before .shared-slice-known .given i)) (c .before .before .before .before .before .before .before .pre .1 .node) (c .before .before .before .before .before .before .before .pre .1 .is))
+slice-aggregate-run-in : tie.Need-slice-aggregate-run-in
+slice-aggregate-run-in c = search needs
 
-slice-aggregate-table-names : tie.Need-slice-aggregate-table-names
-slice-aggregate-table-names c = search needs
+slice-aggregate-run-in-2 : tie.Need-slice-aggregate-run-in-2
+slice-aggregate-run-in-2 c = search needs
 
-table-names-requires : tie.Need-table-names-requires
-table-names-requires c κs = (whole-recorded (c .before .before .before .before .before .before .before .before .before .before .args .s .now) (λ i. omega (arith, c .before .before .before .before .before .before .before .before .before .shared-slice-known .given i)) (c .before .before .before .before .before .before .before .before .before .before .pre .1 .node) (c .before .before .before .before .before .before .before .before .before .before .pre .1 .is) .whole, few-tables (c .before .before .before .before .before .before .before .before .before .before .args .s .now) (λ i. omega (arith, c .before .before .before .before .before .before .before .before .before .shared-slice-known .given i)) (c .before .before .before .before .before .before .before .before .before .before .pre .1 .node) (c .before .before .before .before .before .before .before .before .before .before .pre .1 .is))
-
-slice-aggregate-primary-keys : tie.Need-slice-aggregate-primary-keys
-slice-aggregate-primary-keys c = search needs
-
-primary-keys-requires : tie.Need-primary-keys-requires
-primary-keys-requires c κs = (whole-recorded (c .before .before .before .before .before .before .before .before .before .before .before .before .before .args .s .now) (λ i. omega (arith, c .before .before .before .before .before .before .before .before .before .before .before .before .shared-slice-known .given i)) (c .before .before .before .before .before .before .before .before .before .before .before .before .before .pre .1 .node) (c .before .before .before .before .before .before .before .before .before .before .before .before .before .pre .1 .is) .whole, few-tables (c .before .before .before .before .before .before .before .before .before .before .before .before .before .args .s .now) (λ i. omega (arith, c .before .before .before .before .before .before .before .before .before .before .before .before .shared-slice-known .given i)) (c .before .before .before .before .before .before .before .before .before .before .before .before .before .pre .1 .node) (c .before .before .before .before .before .before .before .before .before .before .before .before .before .pre .1 .is))
-
-slice-aggregate-column-names : tie.Need-slice-aggregate-column-names
-slice-aggregate-column-names c = search needs
-
-column-names-requires : tie.Need-column-names-requires
-column-names-requires c κs = (whole-recorded (c .before .before .before .before .before .before .before .before .before .before .before .before .before .before .before .before .args .s .now) (λ i. omega (arith, c .before .before .before .before .before .before .before .before .before .before .before .before .before .before .before .shared-slice-known .given i)) (c .before .before .before .before .before .before .before .before .before .before .before .before .before .before .before .before .pre .1 .node) (c .before .before .before .before .before .before .before .before .before .before .before .before .before .before .before .before .pre .1 .is), few-columns (c .before .before .before .before .before .before .before .before .before .before .before .before .before .before .before .before .args .s .now) (λ i. omega (arith, c .before .before .before .before .before .before .before .before .before .before .before .before .before .before .before .shared-slice-known .given i)) (c .before .before .before .before .before .before .before .before .before .before .before .before .before .before .before .before .pre .1 .node) (c .before .before .before .before .before .before .before .before .before .before .before .before .before .before .before .before .pre .1 .is))
-
-slice-aggregate-lookup-marks : tie.Need-slice-aggregate-lookup-marks
-slice-aggregate-lookup-marks c = search needs
-
-lookup-marks-requires : tie.Need-lookup-marks-requires
-lookup-marks-requires c κs = (whole-recorded (c .before .before .before .before .before .before .before .before .before .before .before .before .before .before .before .before .before .before .before .args .s .now) (λ i. omega (arith, c .before .before .before .before .before .before .before .before .before .before .before .before .before .before .before .before .before .before .shared-slice-known .given i)) (c .before .before .before .before .before .before .before .before .before .before .before .before .before .before .before .before .before .before .before .pre .1 .node) (c .before .before .before .before .before .before .before .before .before .before .before .before .before .before .before .before .before .before .before .pre .1 .is), few-columns (c .before .before .before .before .before .before .before .before .before .before .before .before .before .before .before .before .before .before .before .args .s .now) (λ i. omega (arith, c .before .before .before .before .before .before .before .before .before .before .before .before .before .before .before .before .before .before .shared-slice-known .given i)) (c .before .before .before .before .before .before .before .before .before .before .before .before .before .before .before .before .before .before .before .pre .1 .node) (c .before .before .before .before .before .before .before .before .before .before .before .before .before .before .before .before .before .before .before .pre .1 .is))
-
-array-share-prefix-widths : tie.Need-array-share-prefix-widths
-array-share-prefix-widths c = search needs
-
-slice-aggregate-run-with : tie.Need-slice-aggregate-run-with
-slice-aggregate-run-with c = sym (length-take-le _ _ (c .before .before .before .before .before .before .before .before .before .before .before .before .before .before .before .before .before .before .before .widths2 .ensures .inside))
-
-array-share-prefix-names : tie.Need-array-share-prefix-names
-array-share-prefix-names c = search needs
-
-slice-aggregate-run-with-2 : tie.Need-slice-aggregate-run-with-2
-slice-aggregate-run-with-2 c = sym (length-take-le _ _ (c .before .before .before .before .before .before .before .before .before .before .before .before .before .before .before .before .before .table-names .ensures .inside))
-
-array-share-prefix-columns : tie.Need-array-share-prefix-columns
-array-share-prefix-columns c = search needs
-
-slice-aggregate-run-with-3 : tie.Need-slice-aggregate-run-with-3
-slice-aggregate-run-with-3 c = sym (length-take-le _ _ (c .before .before .before .before .before .before .before .before .before .before .before .before .column-names .ensures .inside))
-
-array-share-prefix-keys : tie.Need-array-share-prefix-keys
-array-share-prefix-keys c = search needs
-
-slice-aggregate-run-with-4 : tie.Need-slice-aggregate-run-with-4
-slice-aggregate-run-with-4 c = sym (length-take-le _ _ (c .before .before .before .before .before .before .before .before .before .before .before .before .before .before .before .before .primary-keys .ensures .inside))
-
-array-share-prefix-marks : tie.Need-array-share-prefix-marks
-array-share-prefix-marks c = search needs
-
-slice-aggregate-run-with-5 : tie.Need-slice-aggregate-run-with-5
-slice-aggregate-run-with-5 c = sym (length-take-le _ _ (c .before .before .before .before .before .before .before .before .before .before .before .lookup-marks .ensures .inside))
-
-run-with-requires : tie.Need-run-with-requires
-run-with-requires c κs = (c .before .before .before .before .before .before .before .before .before .before .before .before .before .before .before .before .before .before .before .before .before .before .before .before .before .before .before .before .before .before .before .pre .0, (c .before .before .before .before .before .before .before .before .before .before .before .before .before .before .before .before .before .before .before .before .before .before .before .before .before .before .before .before .before .before .before .pre .1, record { widths-are = c .before .before .before .before .before .before .before .before .before .before .before .before .before .before .before .before .before .before .before .before .before .before .before .widths2 .ensures .is; names-are = c .before .before .before .before .before .before .before .before .before .before .before .before .before .before .before .before .before .before .before .before .table-names .ensures .is; columns-are = c .before .before .before .before .before .before .before .before .before .before .before .before .before .before .column-names .ensures .is; keys-are = c .before .before .before .before .before .before .before .before .before .before .before .before .before .before .before .before .before .primary-keys .ensures .is; marks-are = c .before .before .before .before .before .before .before .before .before .before .before .lookup-marks .ensures .is }))
+run-in-requires : tie.Need-run-in-requires
+run-in-requires c κs = (c .before .before .before .before .before .before .before .before .before .before .before .before .before .before .before .before .pre .0, (c .before .before .before .before .before .before .before .before .before .before .before .before .before .before .before .before .pre .1, (omega (arith, columns-are (c .before .before .before .before .before .before .before .before .before .parts-of .ensures), c .before .before .before .before .before .before .before .if1 .taken, length-replicate {A = ℕ} 32 0), omega (arith, columns-are (c .before .before .before .before .before .before .before .before .before .parts-of .ensures), c .before .before .before .before .before .before .before .if1 .taken, length-replicate {A = Bool} 32 false))))
 
 same-length : tie.Need-same-length
-same-length c = search needs
+same-length c = c .before .before .before .before .before .before .before .before .before .before .before .before .run-in .kept .1 .1 .1 .0
 
 same-length-2 : tie.Need-same-length-2
-same-length-2 c = search needs
+same-length-2 c = c .before .before .before .before .before .before .before .before .before .before .before .before .run-in .kept .1 .1 .1 .1 .0
 
 same-length-3 : tie.Need-same-length-3
-same-length-3 c = search needs
+same-length-3 c = c .before .before .before .before .before .before .before .before .before .before .before .before .run-in .kept .1 .1 .1 .1 .1 .0
 
 same-length-4 : tie.Need-same-length-4
-same-length-4 c = search needs
+same-length-4 c = c .before .before .before .before .before .before .before .before .before .before .before .before .run-in .kept .1 .1 .1 .1 .1 .1 .0
 
 same-length-5 : tie.Need-same-length-5
-same-length-5 c = search needs
+same-length-5 c = c .before .before .before .before .before .before .before .before .before .before .before .before .run-in .kept .1 .1 .1 .1 .1 .1 .1 .0
 
 returns : tie.Need-returns
-returns c = c .before .before .before .before .before .before .before .before .before .before .run-with .ensures
+returns c = c .before .before .before .before .before .before .before .before .before .before .before .before .run-in .ensures
+
+slice-aggregate-run-in-3 : tie.Need-slice-aggregate-run-in-3
+slice-aggregate-run-in-3 c = search needs
+
+slice-aggregate-run-in-4 : tie.Need-slice-aggregate-run-in-4
+slice-aggregate-run-in-4 c = search needs
+
+run-in-requires-2 : tie.Need-run-in-requires-2
+run-in-requires-2 c κs = (c .before .before .before .before .before .before .before .before .before .before .before .before .before .before .before .before .pre .0, (c .before .before .before .before .before .before .before .before .before .before .before .before .before .before .before .before .pre .1, (omega (arith, columns-fit (c .before .before .before .before .before .before .before .before .before .before .before .before .before .before .before .before .args .s .now) (λ i. omega (arith, c .before .before .before .before .before .before .before .before .before .before .before .before .before .before .before .shared-slice-known .given i)) (c .before .before .before .before .before .before .before .before .before .before .before .before .before .before .before .before .pre .1), length-replicate {A = ℕ} 256 0), omega (arith, columns-fit (c .before .before .before .before .before .before .before .before .before .before .before .before .before .before .before .before .args .s .now) (λ i. omega (arith, c .before .before .before .before .before .before .before .before .before .before .before .before .before .before .before .shared-slice-known .given i)) (c .before .before .before .before .before .before .before .before .before .before .before .before .before .before .before .before .pre .1), length-replicate {A = Bool} 256 false))))
+
+same-length-6 : tie.Need-same-length-6
+same-length-6 c = c .before .before .before .before .before .before .before .before .before .before .before .before .run-in2 .kept .1 .1 .1 .0
+
+same-length-7 : tie.Need-same-length-7
+same-length-7 c = c .before .before .before .before .before .before .before .before .before .before .before .before .run-in2 .kept .1 .1 .1 .1 .0
+
+same-length-8 : tie.Need-same-length-8
+same-length-8 c = c .before .before .before .before .before .before .before .before .before .before .before .before .run-in2 .kept .1 .1 .1 .1 .1 .0
+
+same-length-9 : tie.Need-same-length-9
+same-length-9 c = c .before .before .before .before .before .before .before .before .before .before .before .before .run-in2 .kept .1 .1 .1 .1 .1 .1 .0
+
+same-length-10 : tie.Need-same-length-10
+same-length-10 c = c .before .before .before .before .before .before .before .before .before .before .before .before .run-in2 .kept .1 .1 .1 .1 .1 .1 .1 .0
+
+returns-2 : tie.Need-returns-2
+returns-2 c = c .before .before .before .before .before .before .before .before .before .before .before .before .run-in2 .ensures
 
 pub run-spec : {M : Type 1} → statement M
 run-spec =
     tie.close
     (tie.spec
-    slice-aggregate-widths
-    widths-requires
-    slice-aggregate-table-names
-    table-names-requires
-    slice-aggregate-primary-keys
-    primary-keys-requires
-    slice-aggregate-column-names
-    column-names-requires
-    slice-aggregate-lookup-marks
-    lookup-marks-requires
-    array-share-prefix-widths
-    slice-aggregate-run-with
-    array-share-prefix-names
-    slice-aggregate-run-with-2
-    array-share-prefix-columns
-    slice-aggregate-run-with-3
-    array-share-prefix-keys
-    slice-aggregate-run-with-4
-    array-share-prefix-marks
-    slice-aggregate-run-with-5
-    run-with-requires
+    parts-of-requires
+    slice-aggregate-run-in
+    slice-aggregate-run-in-2
+    run-in-requires
     same-length
     same-length-2
     same-length-3
     same-length-4
     same-length-5
-    returns)
+    returns
+    slice-aggregate-run-in-3
+    slice-aggregate-run-in-4
+    run-in-requires-2
+    same-length-6
+    same-length-7
+    same-length-8
+    same-length-9
+    same-length-10
+    returns-2)

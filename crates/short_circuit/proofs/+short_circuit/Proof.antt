@@ -1,10 +1,11 @@
-use Rattle.short_circuit.proofs.Pass.{names-at, leaf-ready, source-at, over-ready, left-at, right-at, join-ready, leaf-circuits, over-stop, over-circuits, left-stop, right-stop, join-circuits, node-there, node-inside}
-use Rattle.stream.proofs.Sources.{own-in, mid-in}
+use Rattle.short_circuit.proofs.Climbing.{below-at}
+use Rattle.chain.proofs.Bare.{bare-in}
 use Rattle.nodes.proofs.Widths.{counted-as, two-left, join-sized}
+use Rattle.stream.proofs.Sources.{own-in, mid-in}
+use Rattle.short_circuit.proofs.Pass.{names-at, leaf-ready, source-at, over-ready, left-at, right-at, join-ready, leaf-circuits, over-stop, over-circuits, left-stop, right-stop, join-circuits, node-there, node-inside}
 use Prim.Native.Nat.{ℕ, _-_, _<_}
 use native.Mathlib.Omega.{arith}
 use mathlib.Core.Path.{refl, sym, _∙_}
-use borrow.Author.Needs.{needs}
 use borrow.Fn.Kinds.{In}
 use borrow.Fn.PlainCycle.{Measures, is, falls, and}
 use Rattle.short_circuit.proofs.short_circuit.Reads as short-circuit
@@ -12,10 +13,12 @@ use Rattle.short_circuit.proofs.short_circuit.Kinds as short-circuit-ki
 use Rattle.short_circuit.proofs.+short_circuit.Lts-short_circuit as short-circuit-lts
 use Rattle.cells.proofs.copy.Reads as copy-reads
 use Rattle.cells.proofs.start.Reads as start-reads
+use Rattle.chain.proofs.descend_bare.Reads as descend-bare-reads
 use Rattle.nodes.proofs.own_start.Reads as own-start-reads
 use Rattle.nodes.proofs.source_count.Reads as source-count-reads
-use Rattle.stream.proofs.finish.Reads as finish-reads
+use Rattle.short_circuit.proofs.climb.Reads as climb-reads
 use Rattle.short_circuit.proofs.short_circuit_node.Reads as short-circuit-node-reads
+use Rattle.stream.proofs.finish.Reads as finish-reads
 use Rattle.short_circuit.proofs.+short_circuit.{statement}
 use Rattle.short_circuit.proofs.+short_circuit.Tie.{close}
 
@@ -23,13 +26,19 @@ abbrev μ-short-circuit : Measures 6 short-circuit-kinds.ps ℕ
 μ-short-circuit κs a = a .1 .1 .0 - a .1 .0
 
 abbrev short-circuit-at : ℕ → In 6 short-circuit-kinds.ps
-short-circuit-at t = and 6 short-circuit-kinds.ps (is 6 short-circuit-kinds.ps μ-short-circuit t) short-circuit.Pre
+short-circuit-at t =
+    and 6 short-circuit-kinds.ps (is 6 short-circuit-kinds.ps μ-short-circuit t) short-circuit.Pre
 
 abbrev short-circuit-below : ℕ → In 6 short-circuit-kinds.ps
-short-circuit-below t = and 6 short-circuit-kinds.ps (falls 6 short-circuit-kinds.ps _<_ μ-short-circuit t) short-circuit.Pre
+short-circuit-below t =
+    and
+    6
+    short-circuit-kinds.ps
+    (falls 6 short-circuit-kinds.ps _<_ μ-short-circuit t)
+    short-circuit.Pre
 
 abbrev short-circuit-claims : ℕ → short-circuit-lts.Claims
-short-circuit-claims t = (source-count-reads.Asked, source-count-reads.Learnt, copy-reads.Asked, copy-reads.Learnt, short-circuit-node-reads.Asked, short-circuit-node-reads.Learnt, own-start-reads.Asked, own-start-reads.Learnt, short-circuit-below t, short-circuit.Post, finish-reads.Asked, finish-reads.Learnt, start-reads.Asked, start-reads.Learnt)
+short-circuit-claims t = (source-count-reads.Asked, source-count-reads.Learnt, copy-reads.Asked, copy-reads.Learnt, short-circuit-node-reads.Asked, short-circuit-node-reads.Learnt, own-start-reads.Asked, own-start-reads.Learnt, descend-bare-reads.Asked, descend-bare-reads.Learnt, short-circuit-below t, short-circuit.Post, climb-reads.Asked, climb-reads.Learnt, finish-reads.Asked, finish-reads.Learnt, start-reads.Asked, start-reads.Learnt)
 
 short-circuit-source-count-requires : (t : ℕ) → short-circuit-lts.Need-source-count-requires (short-circuit-claims t) (short-circuit-at t) short-circuit.Post
 short-circuit-source-count-requires t c κs = node-there (c .before .before .before .before .before .before .pre .1 .0)
@@ -41,10 +50,10 @@ short-circuit-short-circuit-node-requires : (t : ℕ) → short-circuit-lts.Need
 short-circuit-short-circuit-node-requires t c κs = let (a, b) = leaf-ready (c .before .before .before .before .before .before .before .before .before .before .before .before .before .before .pre .1 .0) (counted-as (c .before .before .before .before .before .before .before .source-count .ensures) (c .before .before .before .before .before .before .if1 .taken)) (c .before .before .before .before .copy .kept .1 .1 .1 .0) (c .before .before .before .before .copy .ensures) in (a, (names-at (c .before .before .before .before .before .before .before .before .before .before .before .before .before .before .pre .1 .0), (c .before .before .before .before .before .before .before .before .before .before .before .before .before .before .pre .1 .1 ∙ sym (c .before .before .before .before .copy .kept .1 .1 .1 .0), b)))
 
 short-circuit-same-length : (t : ℕ) → short-circuit-lts.Need-same-length (short-circuit-claims t) (short-circuit-at t) short-circuit.Post
-short-circuit-same-length t c = search needs
+short-circuit-same-length t c = c .before .before .before .before .short-circuit-node .kept .0 ∙ c .before .before .before .before .before .before .before .before .before .copy .kept .1 .1 .1 .0
 
 short-circuit-same-length-2 : (t : ℕ) → short-circuit-lts.Need-same-length-2 (short-circuit-claims t) (short-circuit-at t) short-circuit.Post
-short-circuit-same-length-2 t c = search needs
+short-circuit-same-length-2 t c = c .before .before .before .before .short-circuit-node .kept .1 .1 .1 .1 .0
 
 short-circuit-returns : (t : ℕ) → short-circuit-lts.Need-returns (short-circuit-claims t) (short-circuit-at t) short-circuit.Post
 short-circuit-returns t c = leaf-circuits (counted-as (c .before .before .before .before .before .before .before .before .before .before .before .before .source-count .ensures) (c .before .before .before .before .before .before .before .before .before .before .before .if1 .taken)) (c .before .before .before .before .before .before .before .before .before .copy .kept .1 .1 .1 .0) (c .before .before .before .before .before .before .before .before .before .copy .ensures) (c .before .before .before .before .short-circuit-node .kept .0) (c .before .before .before .before .short-circuit-node .ensures)
@@ -52,74 +61,80 @@ short-circuit-returns t c = leaf-circuits (counted-as (c .before .before .before
 short-circuit-own-start-requires : (t : ℕ) → short-circuit-lts.Need-own-start-requires (short-circuit-claims t) (short-circuit-at t) short-circuit.Post
 short-circuit-own-start-requires t c κs = node-there (c .before .before .before .before .before .before .before .before .pre .1 .0)
 
-short-circuit-sub-short-circuit : (t : ℕ) → short-circuit-lts.Need-sub-short-circuit (short-circuit-claims t) (short-circuit-at t) short-circuit.Post
-short-circuit-sub-short-circuit t c = omega (arith, (own-in (c .before .before .before .before .before .before .before .before .before .before .pre .1 .0 .stream) (c .before .own-start .ensures)) .1 .0)
+short-circuit-sub-back : (t : ℕ) → short-circuit-lts.Need-sub-back (short-circuit-claims t) (short-circuit-at t) short-circuit.Post
+short-circuit-sub-back t c = omega (arith, (own-in (c .before .before .before .before .before .before .before .before .before .pre .1 .0 .stream) (c .own-start .ensures)) .1 .0)
 
-short-circuit-add-short-circuit : (t : ℕ) → short-circuit-lts.Need-add-short-circuit (short-circuit-claims t) (short-circuit-at t) short-circuit.Post
-short-circuit-add-short-circuit t c = record { fits = omega (arith, (own-in (c .before .before .before .before .before .before .before .before .before .before .pre .1 .0 .stream) (c .before .own-start .ensures)) .1 .1) }
+short-circuit-add-back : (t : ℕ) → short-circuit-lts.Need-add-back (short-circuit-claims t) (short-circuit-at t) short-circuit.Post
+short-circuit-add-back t c = record { fits = omega (arith, (own-in (c .before .before .before .before .before .before .before .before .before .pre .1 .0 .stream) (c .own-start .ensures)) .1 .1) }
+
+short-circuit-descend-bare-requires : (t : ℕ) → short-circuit-lts.Need-descend-bare-requires (short-circuit-claims t) (short-circuit-at t) short-circuit.Post
+short-circuit-descend-bare-requires t c κs = node-there (source-at (c .before .before .before .before .before .before .before .before .before .before .pre .1 .0) (counted-as (c .before .before .before .source-count .ensures) (c .if2 .taken)) (c .before .own-start .ensures))
+
+short-circuit-sub-behind : (t : ℕ) → short-circuit-lts.Need-sub-behind (short-circuit-claims t) (short-circuit-at t) short-circuit.Post
+short-circuit-sub-behind t c = bare-in (c .descend-bare .ensures .down)
+
+short-circuit-add-behind : (t : ℕ) → short-circuit-lts.Need-add-behind (short-circuit-claims t) (short-circuit-at t) short-circuit.Post
+short-circuit-add-behind t c = let h = below-at (c .descend-bare .ensures .down) (source-at (c .before .before .before .before .before .before .before .before .before .before .before .pre .1 .0) (counted-as (c .before .before .before .before .source-count .ensures) (c .before .if2 .taken)) (c .before .before .own-start .ensures)) .stream .reading .fits in omega (arith, c .before .before .before .before .before .before .before .before .before .before .before .pre .1 .0 .stream .short-out)
 
 short-circuit-short-circuit-requires : (t : ℕ) → short-circuit-lts.Need-short-circuit-requires (short-circuit-claims t) (short-circuit-at t) short-circuit.Post
-short-circuit-short-circuit-requires t c κs = (omega (arith, c .before .before .before .before .before .before .before .before .before .before .before .before .pre .0, (own-in (c .before .before .before .before .before .before .before .before .before .before .before .before .pre .1 .0 .stream) (c .before .before .before .own-start .ensures)) .0, (own-in (c .before .before .before .before .before .before .before .before .before .before .before .before .pre .1 .0 .stream) (c .before .before .before .own-start .ensures)) .1 .0), (source-at (c .before .before .before .before .before .before .before .before .before .before .before .before .pre .1 .0) (counted-as (c .before .before .before .before .before .source-count .ensures) (c .before .before .if2 .taken)) (c .before .before .before .own-start .ensures), c .before .before .before .before .before .before .before .before .before .before .before .before .pre .1 .1))
+short-circuit-short-circuit-requires t c κs = (omega (arith, c .before .before .before .before .before .before .before .before .before .before .before .before .before .pre .0, (own-in (c .before .before .before .before .before .before .before .before .before .before .before .before .before .pre .1 .0 .stream) (c .before .before .before .before .own-start .ensures)) .0, (own-in (c .before .before .before .before .before .before .before .before .before .before .before .before .before .pre .1 .0 .stream) (c .before .before .before .before .own-start .ensures)) .1 .0, bare-in (c .before .before .descend-bare .ensures .down)), (below-at (c .before .before .descend-bare .ensures .down) (source-at (c .before .before .before .before .before .before .before .before .before .before .before .before .before .pre .1 .0) (counted-as (c .before .before .before .before .before .before .source-count .ensures) (c .before .before .before .if2 .taken)) (c .before .before .before .before .own-start .ensures)), c .before .before .before .before .before .before .before .before .before .before .before .before .before .pre .1 .1))
+
+short-circuit-climb-requires : (t : ℕ) → short-circuit-lts.Need-climb-requires (short-circuit-claims t) (short-circuit-at t) short-circuit.Post
+short-circuit-climb-requires t c κs = (record { lo = c .before .before .before .before .before .before .before .before .before .before .before .before .before .before .before .before .before .before .before .before .args .lo; y₀ = c .before .before .before .before .before .before .before .before .before .before .before .before .before .before .before .before .before .before .before .before .args .y .now; is = (record { bare = (c .before .before .before .before .before .before .before .before .before .descend-bare .ensures .down); given = (source-at (c .before .before .before .before .before .before .before .before .before .before .before .before .before .before .before .before .before .before .before .before .pre .1 .0) (counted-as (c .before .before .before .before .before .before .before .before .before .before .before .before .before .source-count .ensures) (c .before .before .before .before .before .before .before .before .before .before .if2 .taken)) (c .before .before .before .before .before .before .before .before .before .before .before .own-start .ensures)); long = c .before .before .before .before .before .before .short-circuit .kept .1 .1 .1 .1 .0; below = c .before .before .before .before .before .before .short-circuit .ensures }) }, c .before .before .before .before .before .before .short-circuit .kept .1 .1 .1 .1 .1 .1 .0 ∙ c .before .before .before .before .before .before .before .before .before .before .before .before .before .before .before .before .before .before .before .before .pre .1 .1 ∙ sym (c .before .before .before .before .before .before .short-circuit .kept .1 .1 .1 .1 .0))
 
 short-circuit-same-length-3 : (t : ℕ) → short-circuit-lts.Need-same-length-3 (short-circuit-claims t) (short-circuit-at t) short-circuit.Post
-short-circuit-same-length-3 t c = search needs
+short-circuit-same-length-3 t c = c .before .before .before .before .before .climb .kept .1 .1 .1 .1 .0 ∙ c .before .before .before .before .before .before .before .before .before .before .before .before .short-circuit .kept .1 .1 .1 .1 .0
 
 short-circuit-same-length-4 : (t : ℕ) → short-circuit-lts.Need-same-length-4 (short-circuit-claims t) (short-circuit-at t) short-circuit.Post
-short-circuit-same-length-4 t c = search needs
+short-circuit-same-length-4 t c = c .before .before .before .before .before .climb .kept .1 .1 .1 .1 .1 .1 .1 .0 ∙ c .before .before .before .before .before .before .before .before .before .before .before .before .short-circuit .kept .1 .1 .1 .1 .1 .1 .0
 
 short-circuit-returns-2 : (t : ℕ) → short-circuit-lts.Need-returns-2 (short-circuit-claims t) (short-circuit-at t) short-circuit.Post
-short-circuit-returns-2 t c = over-stop (counted-as (c .before .before .before .before .before .before .before .before .before .before .before .source-count .ensures) (c .before .before .before .before .before .before .before .before .if2 .taken)) (c .before .before .before .before .before .before .before .before .before .own-start .ensures) (c .before .before .before .before .before .short-circuit .ensures) (c .if3 .taken)
+short-circuit-returns-2 t c = over-stop (counted-as (c .before .before .before .before .before .before .before .before .before .before .before .before .before .before .before .before .before .before .before .source-count .ensures) (c .before .before .before .before .before .before .before .before .before .before .before .before .before .before .before .before .if2 .taken)) (c .before .before .before .before .before .before .before .before .before .before .before .before .before .before .before .before .before .own-start .ensures) (c .before .before .before .before .before .climb .ensures (c .before .before .before .before .before .before .before .before .before .before .before .before .before .before .before .before .before .before .before .before .before .before .before .before .before .before .args .lo) (c .before .before .before .before .before .before .before .before .before .before .before .before .before .before .before .before .before .before .before .before .before .before .before .before .before .before .args .y .now) (record { bare = (c .before .before .before .before .before .before .before .before .before .before .before .before .before .before .before .descend-bare .ensures .down); given = (source-at (c .before .before .before .before .before .before .before .before .before .before .before .before .before .before .before .before .before .before .before .before .before .before .before .before .before .before .pre .1 .0) (counted-as (c .before .before .before .before .before .before .before .before .before .before .before .before .before .before .before .before .before .before .before .source-count .ensures) (c .before .before .before .before .before .before .before .before .before .before .before .before .before .before .before .before .if2 .taken)) (c .before .before .before .before .before .before .before .before .before .before .before .before .before .before .before .before .before .own-start .ensures)); long = c .before .before .before .before .before .before .before .before .before .before .before .before .short-circuit .kept .1 .1 .1 .1 .0; below = c .before .before .before .before .before .before .before .before .before .before .before .before .short-circuit .ensures })) (c .if3 .taken)
 
 short-circuit-finish-requires : (t : ℕ) → short-circuit-lts.Need-finish-requires (short-circuit-claims t) (short-circuit-at t) short-circuit.Post
-short-circuit-finish-requires t c κs = ((own-in (c .before .before .before .before .before .before .before .before .before .before .before .before .before .before .before .before .before .before .before .pre .1 .0 .stream) (c .before .before .before .before .before .before .before .before .before .before .own-start .ensures)) .1 .0, node-inside (c .before .before .before .before .before .before .before .before .before .before .before .before .before .before .before .before .before .before .before .pre .1 .0) .1)
+short-circuit-finish-requires t c κs = ((own-in (c .before .before .before .before .before .before .before .before .before .before .before .before .before .before .before .before .before .before .before .before .before .before .before .before .before .before .before .pre .1 .0 .stream) (c .before .before .before .before .before .before .before .before .before .before .before .before .before .before .before .before .before .before .own-start .ensures)) .1 .0, node-inside (c .before .before .before .before .before .before .before .before .before .before .before .before .before .before .before .before .before .before .before .before .before .before .before .before .before .before .before .pre .1 .0) .1)
 
 short-circuit-short-circuit-node-requires-2 : (t : ℕ) → short-circuit-lts.Need-short-circuit-node-requires-2 (short-circuit-claims t) (short-circuit-at t) short-circuit.Post
-short-circuit-short-circuit-node-requires-2 t c κs = let (a, b) = over-ready (c .before .before .before .before .before .before .before .before .before .before .before .before .before .before .before .before .before .before .before .before .before .before .before .before .pre .1 .0) (counted-as (c .before .before .before .before .before .before .before .before .before .before .before .before .before .before .before .before .before .source-count .ensures) (c .before .before .before .before .before .before .before .before .before .before .before .before .before .before .if2 .taken)) (c .before .before .before .before .before .before .before .before .before .before .before .before .before .before .before .own-start .ensures) (c .before .before .before .before .before .before .before .before .before .before .before .short-circuit .kept .1 .1 .1 .1 .0) (c .before .before .before .before .before .before .before .before .before .before .before .short-circuit .ensures) (c .before .before .before .before .before .before .if3 .left) (c .before .before .before .before .finish .kept .1 .1 .1 .0) (c .before .before .before .before .finish .ensures) in (a, (names-at (c .before .before .before .before .before .before .before .before .before .before .before .before .before .before .before .before .before .before .before .before .before .before .before .before .pre .1 .0), (c .before .before .before .before .before .before .before .before .before .before .before .short-circuit .kept .1 .1 .1 .1 .1 .1 .0 ∙ c .before .before .before .before .before .before .before .before .before .before .before .before .before .before .before .before .before .before .before .before .before .before .before .before .pre .1 .1 ∙ sym ((c .before .before .before .before .finish .kept .1 .1 .1 .0) ∙ (c .before .before .before .before .before .before .before .before .before .before .before .short-circuit .kept .1 .1 .1 .1 .0)), b)))
+short-circuit-short-circuit-node-requires-2 t c κs = let (a, b) = over-ready (c .before .before .before .before .before .before .before .before .before .before .before .before .before .before .before .before .before .before .before .before .before .before .before .before .before .before .before .before .before .before .before .before .pre .1 .0) (counted-as (c .before .before .before .before .before .before .before .before .before .before .before .before .before .before .before .before .before .before .before .before .before .before .before .before .before .source-count .ensures) (c .before .before .before .before .before .before .before .before .before .before .before .before .before .before .before .before .before .before .before .before .before .before .if2 .taken)) (c .before .before .before .before .before .before .before .before .before .before .before .before .before .before .before .before .before .before .before .before .before .before .before .own-start .ensures) (c .before .before .before .before .before .before .before .before .before .before .before .climb .kept .1 .1 .1 .1 .0 ∙ c .before .before .before .before .before .before .before .before .before .before .before .before .before .before .before .before .before .before .short-circuit .kept .1 .1 .1 .1 .0) (c .before .before .before .before .before .before .before .before .before .before .before .climb .ensures (c .before .before .before .before .before .before .before .before .before .before .before .before .before .before .before .before .before .before .before .before .before .before .before .before .before .before .before .before .before .before .before .before .args .lo) (c .before .before .before .before .before .before .before .before .before .before .before .before .before .before .before .before .before .before .before .before .before .before .before .before .before .before .before .before .before .before .before .before .args .y .now) (record { bare = (c .before .before .before .before .before .before .before .before .before .before .before .before .before .before .before .before .before .before .before .before .before .descend-bare .ensures .down); given = (source-at (c .before .before .before .before .before .before .before .before .before .before .before .before .before .before .before .before .before .before .before .before .before .before .before .before .before .before .before .before .before .before .before .before .pre .1 .0) (counted-as (c .before .before .before .before .before .before .before .before .before .before .before .before .before .before .before .before .before .before .before .before .before .before .before .before .before .source-count .ensures) (c .before .before .before .before .before .before .before .before .before .before .before .before .before .before .before .before .before .before .before .before .before .before .if2 .taken)) (c .before .before .before .before .before .before .before .before .before .before .before .before .before .before .before .before .before .before .before .before .before .before .before .own-start .ensures)); long = c .before .before .before .before .before .before .before .before .before .before .before .before .before .before .before .before .before .before .short-circuit .kept .1 .1 .1 .1 .0; below = c .before .before .before .before .before .before .before .before .before .before .before .before .before .before .before .before .before .before .short-circuit .ensures })) (c .before .before .before .before .before .before .if3 .left) (c .before .before .before .before .finish .kept .1 .1 .1 .0) (c .before .before .before .before .finish .ensures) in (a, (names-at (c .before .before .before .before .before .before .before .before .before .before .before .before .before .before .before .before .before .before .before .before .before .before .before .before .before .before .before .before .before .before .before .before .pre .1 .0), (c .before .before .before .before .before .before .before .before .before .before .before .climb .kept .1 .1 .1 .1 .1 .1 .1 .0 ∙ c .before .before .before .before .before .before .before .before .before .before .before .before .before .before .before .before .before .before .short-circuit .kept .1 .1 .1 .1 .1 .1 .0 ∙ c .before .before .before .before .before .before .before .before .before .before .before .before .before .before .before .before .before .before .before .before .before .before .before .before .before .before .before .before .before .before .before .before .pre .1 .1 ∙ sym (c .before .before .before .before .finish .kept .1 .1 .1 .0 ∙ c .before .before .before .before .before .before .before .before .before .before .before .climb .kept .1 .1 .1 .1 .0 ∙ c .before .before .before .before .before .before .before .before .before .before .before .before .before .before .before .before .before .before .short-circuit .kept .1 .1 .1 .1 .0), b)))
 
 short-circuit-same-length-5 : (t : ℕ) → short-circuit-lts.Need-same-length-5 (short-circuit-claims t) (short-circuit-at t) short-circuit.Post
-short-circuit-same-length-5 t c = search needs
+short-circuit-same-length-5 t c = c .before .before .before .before .short-circuit-node2 .kept .0 ∙ c .before .before .before .before .before .before .before .before .before .finish .kept .1 .1 .1 .0 ∙ c .before .before .before .before .before .before .before .before .before .before .before .before .before .before .before .before .climb .kept .1 .1 .1 .1 .0 ∙ c .before .before .before .before .before .before .before .before .before .before .before .before .before .before .before .before .before .before .before .before .before .before .before .short-circuit .kept .1 .1 .1 .1 .0
 
 short-circuit-same-length-6 : (t : ℕ) → short-circuit-lts.Need-same-length-6 (short-circuit-claims t) (short-circuit-at t) short-circuit.Post
-short-circuit-same-length-6 t c = search needs
+short-circuit-same-length-6 t c = c .before .before .before .before .short-circuit-node2 .kept .1 .1 .1 .1 .0 ∙ c .before .before .before .before .before .before .before .before .before .before .before .before .before .before .before .before .climb .kept .1 .1 .1 .1 .1 .1 .1 .0 ∙ c .before .before .before .before .before .before .before .before .before .before .before .before .before .before .before .before .before .before .before .before .before .before .before .short-circuit .kept .1 .1 .1 .1 .1 .1 .0
 
 short-circuit-returns-3 : (t : ℕ) → short-circuit-lts.Need-returns-3 (short-circuit-claims t) (short-circuit-at t) short-circuit.Post
-short-circuit-returns-3 t c = over-circuits (counted-as (c .before .before .before .before .before .before .before .before .before .before .before .before .before .before .before .before .before .before .before .before .before .before .source-count .ensures) (c .before .before .before .before .before .before .before .before .before .before .before .before .before .before .before .before .before .before .before .if2 .taken)) (c .before .before .before .before .before .before .before .before .before .before .before .before .before .before .before .before .before .before .before .before .own-start .ensures) (c .before .before .before .before .before .before .before .before .before .before .before .before .before .before .before .before .short-circuit .ensures) (c .before .before .before .before .before .before .before .before .before .before .before .before .before .before .before .before .short-circuit .kept .1 .1 .1 .1 .0) (c .before .before .before .before .before .before .before .before .before .before .before .if3 .left) (c .before .before .before .before .before .before .before .before .before .finish .kept .1 .1 .1 .0) (c .before .before .before .before .before .before .before .before .before .finish .ensures) (c .before .before .before .before .short-circuit-node2 .kept .0) (c .before .before .before .before .short-circuit-node2 .ensures)
+short-circuit-returns-3 t c = over-circuits (counted-as (c .before .before .before .before .before .before .before .before .before .before .before .before .before .before .before .before .before .before .before .before .before .before .before .before .before .before .before .before .before .before .source-count .ensures) (c .before .before .before .before .before .before .before .before .before .before .before .before .before .before .before .before .before .before .before .before .before .before .before .before .before .before .before .if2 .taken)) (c .before .before .before .before .before .before .before .before .before .before .before .before .before .before .before .before .before .before .before .before .before .before .before .before .before .before .before .before .own-start .ensures) (c .before .before .before .before .before .before .before .before .before .before .before .before .before .before .before .before .climb .ensures (c .before .before .before .before .before .before .before .before .before .before .before .before .before .before .before .before .before .before .before .before .before .before .before .before .before .before .before .before .before .before .before .before .before .before .before .before .before .args .lo) (c .before .before .before .before .before .before .before .before .before .before .before .before .before .before .before .before .before .before .before .before .before .before .before .before .before .before .before .before .before .before .before .before .before .before .before .before .before .args .y .now) (record { bare = (c .before .before .before .before .before .before .before .before .before .before .before .before .before .before .before .before .before .before .before .before .before .before .before .before .before .before .descend-bare .ensures .down); given = (source-at (c .before .before .before .before .before .before .before .before .before .before .before .before .before .before .before .before .before .before .before .before .before .before .before .before .before .before .before .before .before .before .before .before .before .before .before .before .before .pre .1 .0) (counted-as (c .before .before .before .before .before .before .before .before .before .before .before .before .before .before .before .before .before .before .before .before .before .before .before .before .before .before .before .before .before .before .source-count .ensures) (c .before .before .before .before .before .before .before .before .before .before .before .before .before .before .before .before .before .before .before .before .before .before .before .before .before .before .before .if2 .taken)) (c .before .before .before .before .before .before .before .before .before .before .before .before .before .before .before .before .before .before .before .before .before .before .before .before .before .before .before .before .own-start .ensures)); long = c .before .before .before .before .before .before .before .before .before .before .before .before .before .before .before .before .before .before .before .before .before .before .before .short-circuit .kept .1 .1 .1 .1 .0; below = c .before .before .before .before .before .before .before .before .before .before .before .before .before .before .before .before .before .before .before .before .before .before .before .short-circuit .ensures })) (c .before .before .before .before .before .before .before .before .before .before .before .before .before .before .before .before .climb .kept .1 .1 .1 .1 .0 ∙ c .before .before .before .before .before .before .before .before .before .before .before .before .before .before .before .before .before .before .before .before .before .before .before .short-circuit .kept .1 .1 .1 .1 .0) (c .before .before .before .before .before .before .before .before .before .before .before .if3 .left) (c .before .before .before .before .before .before .before .before .before .finish .kept .1 .1 .1 .0) (c .before .before .before .before .before .before .before .before .before .finish .ensures) (c .before .before .before .before .short-circuit-node2 .kept .0) (c .before .before .before .before .short-circuit-node2 .ensures)
 
 short-circuit-start-requires : (t : ℕ) → short-circuit-lts.Need-start-requires (short-circuit-claims t) (short-circuit-at t) short-circuit.Post
 short-circuit-start-requires t c κs = join-sized (two-left (c .before .before .before .source-count .ensures) (c .before .before .if1 .left) (c .if2 .left)) (c .before .own-start .ensures) (node-there (c .before .before .before .before .before .before .before .before .before .before .pre .1 .0))
 
-short-circuit-sub-short-circuit-2 : (t : ℕ) → short-circuit-lts.Need-sub-short-circuit-2 (short-circuit-claims t) (short-circuit-at t) short-circuit.Post
-short-circuit-sub-short-circuit-2 t c = omega (arith, (mid-in (two-left (c .before .before .before .before .source-count .ensures) (c .before .before .before .if1 .left) (c .before .if2 .left)) refl (c .before .before .own-start .ensures) (c .start .ensures) (c .before .before .before .before .before .before .before .before .before .before .before .pre .1 .0 .stream)) .1 .0, (own-in (c .before .before .before .before .before .before .before .before .before .before .before .pre .1 .0 .stream) (c .before .before .own-start .ensures)) .1 .0)
+short-circuit-sub-behind-2 : (t : ℕ) → short-circuit-lts.Need-sub-behind-2 (short-circuit-claims t) (short-circuit-at t) short-circuit.Post
+short-circuit-sub-behind-2 t c = omega (arith, (mid-in (two-left (c .before .before .before .before .source-count .ensures) (c .before .before .before .if1 .left) (c .before .if2 .left)) refl (c .before .before .own-start .ensures) (c .start .ensures) (c .before .before .before .before .before .before .before .before .before .before .before .pre .1 .0 .stream)) .1 .0, (own-in (c .before .before .before .before .before .before .before .before .before .before .before .pre .1 .0 .stream) (c .before .before .own-start .ensures)) .1 .0)
 
-short-circuit-add-short-circuit-2 : (t : ℕ) → short-circuit-lts.Need-add-short-circuit-2 (short-circuit-claims t) (short-circuit-at t) short-circuit.Post
-short-circuit-add-short-circuit-2 t c = record { fits = omega (arith, (mid-in (two-left (c .before .before .before .before .source-count .ensures) (c .before .before .before .if1 .left) (c .before .if2 .left)) refl (c .before .before .own-start .ensures) (c .start .ensures) (c .before .before .before .before .before .before .before .before .before .before .before .pre .1 .0 .stream)) .1 .1) }
+short-circuit-add-behind-2 : (t : ℕ) → short-circuit-lts.Need-add-behind-2 (short-circuit-claims t) (short-circuit-at t) short-circuit.Post
+short-circuit-add-behind-2 t c = record { fits = omega (arith, (mid-in (two-left (c .before .before .before .before .source-count .ensures) (c .before .before .before .if1 .left) (c .before .if2 .left)) refl (c .before .before .own-start .ensures) (c .start .ensures) (c .before .before .before .before .before .before .before .before .before .before .before .pre .1 .0 .stream)) .1 .1) }
 
 short-circuit-short-circuit-requires-2 : (t : ℕ) → short-circuit-lts.Need-short-circuit-requires-2 (short-circuit-claims t) (short-circuit-at t) short-circuit.Post
 short-circuit-short-circuit-requires-2 t c κs = (omega (arith, c .before .before .before .before .before .before .before .before .before .before .before .before .before .pre .0, (mid-in (two-left (c .before .before .before .before .before .before .source-count .ensures) (c .before .before .before .before .before .if1 .left) (c .before .before .before .if2 .left)) refl (c .before .before .before .before .own-start .ensures) (c .before .before .start .ensures) (c .before .before .before .before .before .before .before .before .before .before .before .before .before .pre .1 .0 .stream)) .0, (mid-in (two-left (c .before .before .before .before .before .before .source-count .ensures) (c .before .before .before .before .before .if1 .left) (c .before .before .before .if2 .left)) refl (c .before .before .before .before .own-start .ensures) (c .before .before .start .ensures) (c .before .before .before .before .before .before .before .before .before .before .before .before .before .pre .1 .0 .stream)) .1 .0, (own-in (c .before .before .before .before .before .before .before .before .before .before .before .before .before .pre .1 .0 .stream) (c .before .before .before .before .own-start .ensures)) .1 .0), (left-at (c .before .before .before .before .before .before .before .before .before .before .before .before .before .pre .1 .0) (two-left (c .before .before .before .before .before .before .source-count .ensures) (c .before .before .before .before .before .if1 .left) (c .before .before .before .if2 .left)) (c .before .before .before .before .own-start .ensures) (c .before .before .start .ensures), c .before .before .before .before .before .before .before .before .before .before .before .before .before .pre .1 .1))
 
 short-circuit-same-length-7 : (t : ℕ) → short-circuit-lts.Need-same-length-7 (short-circuit-claims t) (short-circuit-at t) short-circuit.Post
-short-circuit-same-length-7 t c = search needs
+short-circuit-same-length-7 t c = c .before .before .before .before .before .short-circuit2 .kept .1 .1 .1 .1 .0
 
 short-circuit-same-length-8 : (t : ℕ) → short-circuit-lts.Need-same-length-8 (short-circuit-claims t) (short-circuit-at t) short-circuit.Post
-short-circuit-same-length-8 t c = search needs
+short-circuit-same-length-8 t c = c .before .before .before .before .before .short-circuit2 .kept .1 .1 .1 .1 .1 .1 .0
 
 short-circuit-returns-4 : (t : ℕ) → short-circuit-lts.Need-returns-4 (short-circuit-claims t) (short-circuit-at t) short-circuit.Post
 short-circuit-returns-4 t c = left-stop (two-left (c .before .before .before .before .before .before .before .before .before .before .before .before .source-count .ensures) (c .before .before .before .before .before .before .before .before .before .before .before .if1 .left) (c .before .before .before .before .before .before .before .before .before .if2 .left)) (c .before .before .before .before .before .before .before .before .before .before .own-start .ensures) (c .before .before .before .before .before .before .before .before .start .ensures) (c .before .before .before .before .before .short-circuit2 .ensures) (c .if4 .taken)
-
-short-circuit-sub-short-circuit-3 : (t : ℕ) → short-circuit-lts.Need-sub-short-circuit-3 (short-circuit-claims t) (short-circuit-at t) short-circuit.Post
-short-circuit-sub-short-circuit-3 t c = omega (arith, (own-in (c .before .before .before .before .before .before .before .before .before .before .before .before .before .before .before .before .before .before .before .pre .1 .0 .stream) (c .before .before .before .before .before .before .before .before .before .before .own-start .ensures)) .1 .0)
-
-short-circuit-add-short-circuit-3 : (t : ℕ) → short-circuit-lts.Need-add-short-circuit-3 (short-circuit-claims t) (short-circuit-at t) short-circuit.Post
-short-circuit-add-short-circuit-3 t c = record { fits = omega (arith, (own-in (c .before .before .before .before .before .before .before .before .before .before .before .before .before .before .before .before .before .before .before .pre .1 .0 .stream) (c .before .before .before .before .before .before .before .before .before .before .own-start .ensures)) .1 .1) }
 
 short-circuit-short-circuit-requires-3 : (t : ℕ) → short-circuit-lts.Need-short-circuit-requires-3 (short-circuit-claims t) (short-circuit-at t) short-circuit.Post
 short-circuit-short-circuit-requires-3 t c κs = (omega (arith, c .before .before .before .before .before .before .before .before .before .before .before .before .before .before .before .before .before .before .before .before .before .pre .0, (mid-in (two-left (c .before .before .before .before .before .before .before .before .before .before .before .before .before .before .source-count .ensures) (c .before .before .before .before .before .before .before .before .before .before .before .before .before .if1 .left) (c .before .before .before .before .before .before .before .before .before .before .before .if2 .left)) refl (c .before .before .before .before .before .before .before .before .before .before .before .before .own-start .ensures) (c .before .before .before .before .before .before .before .before .before .before .start .ensures) (c .before .before .before .before .before .before .before .before .before .before .before .before .before .before .before .before .before .before .before .before .before .pre .1 .0 .stream)) .0, (mid-in (two-left (c .before .before .before .before .before .before .before .before .before .before .before .before .before .before .source-count .ensures) (c .before .before .before .before .before .before .before .before .before .before .before .before .before .if1 .left) (c .before .before .before .before .before .before .before .before .before .before .before .if2 .left)) refl (c .before .before .before .before .before .before .before .before .before .before .before .before .own-start .ensures) (c .before .before .before .before .before .before .before .before .before .before .start .ensures) (c .before .before .before .before .before .before .before .before .before .before .before .before .before .before .before .before .before .before .before .before .before .pre .1 .0 .stream)) .1 .0, (own-in (c .before .before .before .before .before .before .before .before .before .before .before .before .before .before .before .before .before .before .before .before .before .pre .1 .0 .stream) (c .before .before .before .before .before .before .before .before .before .before .before .before .own-start .ensures)) .1 .0), (right-at (c .before .before .before .before .before .before .before .before .before .before .before .before .before .before .before .before .before .before .before .before .before .pre .1 .0) (two-left (c .before .before .before .before .before .before .before .before .before .before .before .before .before .before .source-count .ensures) (c .before .before .before .before .before .before .before .before .before .before .before .before .before .if1 .left) (c .before .before .before .before .before .before .before .before .before .before .before .if2 .left)) (c .before .before .before .before .before .before .before .before .before .before .before .before .own-start .ensures) (c .before .before .before .before .before .before .before .before .before .before .start .ensures) (c .before .before .before .before .before .before .before .short-circuit2 .kept .1 .1 .1 .1 .0) (c .before .before .before .before .before .before .before .short-circuit2 .ensures) (c .before .before .if4 .left), c .before .before .before .before .before .before .before .short-circuit2 .kept .1 .1 .1 .1 .1 .1 .0 ∙ c .before .before .before .before .before .before .before .before .before .before .before .before .before .before .before .before .before .before .before .before .before .pre .1 .1 ∙ sym (c .before .before .before .before .before .before .before .short-circuit2 .kept .1 .1 .1 .1 .0)))
 
 short-circuit-same-length-9 : (t : ℕ) → short-circuit-lts.Need-same-length-9 (short-circuit-claims t) (short-circuit-at t) short-circuit.Post
-short-circuit-same-length-9 t c = search needs
+short-circuit-same-length-9 t c = c .before .before .before .before .before .short-circuit3 .kept .1 .1 .1 .1 .0 ∙ c .before .before .before .before .before .before .before .before .before .before .before .before .before .short-circuit2 .kept .1 .1 .1 .1 .0
 
 short-circuit-same-length-10 : (t : ℕ) → short-circuit-lts.Need-same-length-10 (short-circuit-claims t) (short-circuit-at t) short-circuit.Post
-short-circuit-same-length-10 t c = search needs
+short-circuit-same-length-10 t c = c .before .before .before .before .before .short-circuit3 .kept .1 .1 .1 .1 .1 .1 .0 ∙ c .before .before .before .before .before .before .before .before .before .before .before .before .before .short-circuit2 .kept .1 .1 .1 .1 .1 .1 .0
 
 short-circuit-returns-5 : (t : ℕ) → short-circuit-lts.Need-returns-5 (short-circuit-claims t) (short-circuit-at t) short-circuit.Post
 short-circuit-returns-5 t c = right-stop (two-left (c .before .before .before .before .before .before .before .before .before .before .before .before .before .before .before .before .before .before .before .before .source-count .ensures) (c .before .before .before .before .before .before .before .before .before .before .before .before .before .before .before .before .before .before .before .if1 .left) (c .before .before .before .before .before .before .before .before .before .before .before .before .before .before .before .before .before .if2 .left)) (c .before .before .before .before .before .before .before .before .before .before .before .before .before .before .before .before .before .before .own-start .ensures) (c .before .before .before .before .before .before .before .before .before .before .before .before .before .before .before .before .start .ensures) (c .before .before .before .before .before .before .before .before .before .before .before .before .before .short-circuit2 .ensures) (c .before .before .before .before .before .before .before .before .before .before .before .before .before .short-circuit2 .kept .1 .1 .1 .1 .0) (c .before .before .before .before .before .before .before .before .if4 .left) (c .before .before .before .before .before .short-circuit3 .ensures) (c .if5 .taken)
@@ -131,10 +146,10 @@ short-circuit-short-circuit-node-requires-3 : (t : ℕ) → short-circuit-lts.Ne
 short-circuit-short-circuit-node-requires-3 t c κs = let (a, b) = join-ready (c .before .before .before .before .before .before .before .before .before .before .before .before .before .before .before .before .before .before .before .before .before .before .before .before .before .before .before .before .before .before .before .before .before .pre .1 .0) (two-left (c .before .before .before .before .before .before .before .before .before .before .before .before .before .before .before .before .before .before .before .before .before .before .before .before .before .before .source-count .ensures) (c .before .before .before .before .before .before .before .before .before .before .before .before .before .before .before .before .before .before .before .before .before .before .before .before .before .if1 .left) (c .before .before .before .before .before .before .before .before .before .before .before .before .before .before .before .before .before .before .before .before .before .before .before .if2 .left)) (c .before .before .before .before .before .before .before .before .before .before .before .before .before .before .before .before .before .before .before .before .before .before .before .before .own-start .ensures) (c .before .before .before .before .before .before .before .before .before .before .before .before .before .before .before .before .before .before .before .before .before .before .start .ensures) (c .before .before .before .before .before .before .before .before .before .before .before .before .before .before .before .before .before .before .before .short-circuit2 .kept .1 .1 .1 .1 .0) (c .before .before .before .before .before .before .before .before .before .before .before .before .before .before .before .before .before .before .before .short-circuit2 .ensures) (c .before .before .before .before .before .before .before .before .before .before .before .before .before .before .if4 .left) (c .before .before .before .before .before .before .before .before .before .before .before .short-circuit3 .kept .1 .1 .1 .1 .0) (c .before .before .before .before .before .before .before .before .before .before .before .short-circuit3 .ensures) (c .before .before .before .before .before .before .if5 .left) (c .before .before .before .before .finish2 .kept .1 .1 .1 .0) (c .before .before .before .before .finish2 .ensures) in (a, (names-at (c .before .before .before .before .before .before .before .before .before .before .before .before .before .before .before .before .before .before .before .before .before .before .before .before .before .before .before .before .before .before .before .before .before .pre .1 .0), (c .before .before .before .before .before .before .before .before .before .before .before .short-circuit3 .kept .1 .1 .1 .1 .1 .1 .0 ∙ c .before .before .before .before .before .before .before .before .before .before .before .before .before .before .before .before .before .before .before .short-circuit2 .kept .1 .1 .1 .1 .1 .1 .0 ∙ c .before .before .before .before .before .before .before .before .before .before .before .before .before .before .before .before .before .before .before .before .before .before .before .before .before .before .before .before .before .before .before .before .before .pre .1 .1 ∙ sym ((c .before .before .before .before .finish2 .kept .1 .1 .1 .0) ∙ (c .before .before .before .before .before .before .before .before .before .before .before .short-circuit3 .kept .1 .1 .1 .1 .0) ∙ (c .before .before .before .before .before .before .before .before .before .before .before .before .before .before .before .before .before .before .before .short-circuit2 .kept .1 .1 .1 .1 .0)), b)))
 
 short-circuit-same-length-11 : (t : ℕ) → short-circuit-lts.Need-same-length-11 (short-circuit-claims t) (short-circuit-at t) short-circuit.Post
-short-circuit-same-length-11 t c = search needs
+short-circuit-same-length-11 t c = c .before .before .before .before .short-circuit-node3 .kept .0 ∙ c .before .before .before .before .before .before .before .before .before .finish2 .kept .1 .1 .1 .0 ∙ c .before .before .before .before .before .before .before .before .before .before .before .before .before .before .before .before .short-circuit3 .kept .1 .1 .1 .1 .0 ∙ c .before .before .before .before .before .before .before .before .before .before .before .before .before .before .before .before .before .before .before .before .before .before .before .before .short-circuit2 .kept .1 .1 .1 .1 .0
 
 short-circuit-same-length-12 : (t : ℕ) → short-circuit-lts.Need-same-length-12 (short-circuit-claims t) (short-circuit-at t) short-circuit.Post
-short-circuit-same-length-12 t c = search needs
+short-circuit-same-length-12 t c = c .before .before .before .before .short-circuit-node3 .kept .1 .1 .1 .1 .0 ∙ c .before .before .before .before .before .before .before .before .before .before .before .before .before .before .before .before .short-circuit3 .kept .1 .1 .1 .1 .1 .1 .0 ∙ c .before .before .before .before .before .before .before .before .before .before .before .before .before .before .before .before .before .before .before .before .before .before .before .before .short-circuit2 .kept .1 .1 .1 .1 .1 .1 .0
 
 short-circuit-returns-6 : (t : ℕ) → short-circuit-lts.Need-returns-6 (short-circuit-claims t) (short-circuit-at t) short-circuit.Post
 short-circuit-returns-6 t c = join-circuits (two-left (c .before .before .before .before .before .before .before .before .before .before .before .before .before .before .before .before .before .before .before .before .before .before .before .before .before .before .before .before .before .before .before .source-count .ensures) (c .before .before .before .before .before .before .before .before .before .before .before .before .before .before .before .before .before .before .before .before .before .before .before .before .before .before .before .before .before .before .if1 .left) (c .before .before .before .before .before .before .before .before .before .before .before .before .before .before .before .before .before .before .before .before .before .before .before .before .before .before .before .before .if2 .left)) (c .before .before .before .before .before .before .before .before .before .before .before .before .before .before .before .before .before .before .before .before .before .before .before .before .before .before .before .before .before .own-start .ensures) (c .before .before .before .before .before .before .before .before .before .before .before .before .before .before .before .before .before .before .before .before .before .before .before .before .before .before .before .start .ensures) (c .before .before .before .before .before .before .before .before .before .before .before .before .before .before .before .before .before .before .before .before .before .before .before .before .short-circuit2 .ensures) (c .before .before .before .before .before .before .before .before .before .before .before .before .before .before .before .before .before .before .before .before .before .before .before .before .short-circuit2 .kept .1 .1 .1 .1 .0) (c .before .before .before .before .before .before .before .before .before .before .before .before .before .before .before .before .before .before .before .if4 .left) (c .before .before .before .before .before .before .before .before .before .before .before .before .before .before .before .before .short-circuit3 .ensures) (c .before .before .before .before .before .before .before .before .before .before .before .before .before .before .before .before .short-circuit3 .kept .1 .1 .1 .1 .0) (c .before .before .before .before .before .before .before .before .before .before .before .if5 .left) (c .before .before .before .before .before .before .before .before .before .finish2 .kept .1 .1 .1 .0) (c .before .before .before .before .before .before .before .before .before .finish2 .ensures) (c .before .before .before .before .short-circuit-node3 .kept .0) (c .before .before .before .before .short-circuit-node3 .ensures)
@@ -148,9 +163,13 @@ pub +short-circuit-spec : {M : Type 1} → statement M
     (short-circuit-same-length-2 t)
     (short-circuit-returns t)
     (short-circuit-own-start-requires t)
-    (short-circuit-sub-short-circuit t)
-    (short-circuit-add-short-circuit t)
+    (short-circuit-sub-back t)
+    (short-circuit-add-back t)
+    (short-circuit-descend-bare-requires t)
+    (short-circuit-sub-behind t)
+    (short-circuit-add-behind t)
     (short-circuit-short-circuit-requires t)
+    (short-circuit-climb-requires t)
     (short-circuit-same-length-3 t)
     (short-circuit-same-length-4 t)
     (short-circuit-returns-2 t)
@@ -160,14 +179,12 @@ pub +short-circuit-spec : {M : Type 1} → statement M
     (short-circuit-same-length-6 t)
     (short-circuit-returns-3 t)
     (short-circuit-start-requires t)
-    (short-circuit-sub-short-circuit-2 t)
-    (short-circuit-add-short-circuit-2 t)
+    (short-circuit-sub-behind-2 t)
+    (short-circuit-add-behind-2 t)
     (short-circuit-short-circuit-requires-2 t)
     (short-circuit-same-length-7 t)
     (short-circuit-same-length-8 t)
     (short-circuit-returns-4 t)
-    (short-circuit-sub-short-circuit-3 t)
-    (short-circuit-add-short-circuit-3 t)
     (short-circuit-short-circuit-requires-3 t)
     (short-circuit-same-length-9 t)
     (short-circuit-same-length-10 t)

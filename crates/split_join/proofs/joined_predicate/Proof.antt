@@ -1,4 +1,4 @@
-use Rattle.split_join.proofs.Splitting.{joined}
+use Rattle.split_join.proofs.Splitting.{stays-wrote}
 use mathlib.Core.Path.{_∙_}
 use Rattle.split_join.proofs.joined_predicate.Statement.{statement}
 use Rattle.split_join.proofs.joined_predicate.Tie as tie
@@ -19,7 +19,7 @@ same-length-2 : tie.Need-same-length-2
 same-length-2 c = c .before .before .before .before .come-back2 .kept .1 .1 .1 .1 .1 .1 .0 ∙ (c .before .before .before .before .before .before .before .before .before .before .before .come-back .kept .1 .1 .1 .1 .1 .1 .0 ∙ c .before .before .before .before .before .before .before .before .before .before .before .before .before .before .before .before .for-both .kept .1 .1 .1 .0)
 
 returns : tie.Need-returns
-returns c = joined (c .before .before .before .before .before .before .before .before .before .before .before .before .before .before .before .before .before .before .before .before .before .before .args .n) (c .before .before .before .before .before .before .before .before .before .before .before .before .before .before .before .before .for-both .kept .1 .1 .1 .0) (c .before .before .before .before .before .before .before .before .before .before .before .come-back .kept .1 .1 .1 .1 .1 .1 .0) (c .before .before .before .before .before .before .before .before .before .before .before .before .before .before .before .before .for-both .ensures) (c .before .before .before .before .before .before .before .before .before .before .before .come-back .ensures) (c .before .before .before .before .come-back2 .ensures)
+returns c = stays-wrote (c .before .before .before .before .before .before .before .before .before .before .before .before .before .before .before .before .before .before .before .before .before .before .args .n) (c .before .before .before .before .before .before .before .before .before .before .before .before .before .before .before .before .for-both .kept .1 .1 .1 .0) (c .before .before .before .before .before .before .before .before .before .before .before .come-back .kept .1 .1 .1 .1 .1 .1 .0) (c .before .before .before .before .before .before .before .before .before .before .before .before .before .before .before .before .for-both .ensures) (c .before .before .before .before .before .before .before .before .before .before .before .come-back .ensures) (c .before .before .before .before .come-back2 .ensures)
 
 pub joined-predicate-spec : {M : Type 1} → statement M
 joined-predicate-spec =

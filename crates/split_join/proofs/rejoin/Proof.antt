@@ -1,5 +1,4 @@
-use Rattle.push_into.proofs.Taking.{node-at-in}
-use Rattle.split_join.proofs.Splitting.{flag-least, rejoin-full, rejoin-none, rejoin-some}
+use Rattle.split_join.proofs.Splitting.{cell-there, flag-least, rejoin-full, rejoin-none, rejoin-some}
 use native.Mathlib.Omega.{arith}
 use borrow.Author.Needs.{needs}
 use Rattle.split_join.proofs.rejoin.Statement.{statement}
@@ -9,10 +8,10 @@ returns : tie.Need-returns
 returns c = rejoin-full (c .if1 .taken)
 
 cell-at-requires : tie.Need-cell-at-requires
-cell-at-requires c κs = node-at-in (c .before .before .before .pre .0)
+cell-at-requires c κs = cell-there (c .before .before .before .pre)
 
 sub-t12 : tie.Need-sub-t12
-sub-t12 c = omega (arith, flag-least (c .before .before .before .cell-at .ensures) (c .before .before .before .before .before .before .before .pre .1) (c .before .before .before .before .before .before .before .pre .0))
+sub-t12 c = omega (arith, flag-least (c .before .before .before .cell-at .ensures) (c .before .before .before .before .before .before .before .pre))
 
 put-requires : tie.Need-put-requires
 put-requires c κs = search needs

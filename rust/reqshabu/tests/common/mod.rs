@@ -86,8 +86,3 @@ pub fn listing(answer: Result<Written, Refusal>, output: &[u8]) -> String {
 pub fn on_small_stack(work: impl FnOnce() + Send + 'static) {
     std::thread::Builder::new().stack_size(1 << 20).spawn(work).unwrap().join().unwrap();
 }
-
-/// Work on a thread with a stack of 2 MiB, the size that Rust gives a thread.
-pub fn on_ordinary_stack(work: impl FnOnce() + Send + 'static) {
-    std::thread::Builder::new().stack_size(2 << 20).spawn(work).unwrap().join().unwrap();
-}

@@ -1,0 +1,96 @@
+use lib.Seq.{length-take-le}
+use Rattle.edit.proofs.Edits.{replace-long, replace-same, replace-full, replace-done}
+use native.Mathlib.Omega.{arith}
+use mathlib.Core.Path.{sym}
+use borrow.Author.Needs.{needs}
+use Rattle.edit.proofs.replace.Statement.{statement}
+use Rattle.edit.proofs.replace.Tie as tie
+
+returns : tie.Need-returns
+returns c = replace-long _ (c .before .before .before .pre .1) (c .if1 .taken)
+
+sub-end : tie.Need-sub-end
+sub-end c = search needs
+
+sub-if2 : tie.Need-sub-if2
+sub-if2 c = search needs
+
+slice-reshare-prefix-copy-all : tie.Need-slice-reshare-prefix-copy-all
+slice-reshare-prefix-copy-all c = search needs
+
+slice-aggregate-copy-all : tie.Need-slice-aggregate-copy-all
+slice-aggregate-copy-all c = sym (length-take-le _ _ (c .before .before .if1 .left))
+
+mul-copy-all : tie.Need-mul-copy-all
+mul-copy-all c = search needs
+
+sub-copy-all : tie.Need-sub-copy-all
+sub-copy-all c = search needs
+
+part-copy-all-start : tie.Need-part-copy-all-start
+part-copy-all-start c = search needs
+
+part-copy-all-end : tie.Need-part-copy-all-end
+part-copy-all-end c = search needs
+
+copy-all-requires : tie.Need-copy-all-requires
+copy-all-requires c κs = search needs
+
+same-length : tie.Need-same-length
+same-length c = search needs
+
+same-length-2 : tie.Need-same-length-2
+same-length-2 c = search needs
+
+returns-2 : tie.Need-returns-2
+returns-2 c = replace-same _ (c .before .before .before .before .before .before .before .before .before .pre .1) (omega arith) (c .before .before .before .before .before .if2 .taken) (c .before .before .copy-all .ensures) (c .before .before .copy-all .kept .1 .0)
+
+copy-requires : tie.Need-copy-requires
+copy-requires c κs = search needs
+
+same-length-3 : tie.Need-same-length-3
+same-length-3 c = search needs
+
+same-length-4 : tie.Need-same-length-4
+same-length-4 c = search needs
+
+returns-3 : tie.Need-returns-3
+returns-3 c = replace-full _ (c .before .before .before .before .before .before .before .before .before .before .pre .1) (c .before .before .before .copy .kept .1 .1 .1 .0) (c .before .before .before .copy .ensures) (c .if3 .taken)
+
+copy-requires-2 : tie.Need-copy-requires-2
+copy-requires-2 c κs = search needs
+
+same-length-5 : tie.Need-same-length-5
+same-length-5 c = search needs
+
+same-length-6 : tie.Need-same-length-6
+same-length-6 c = search needs
+
+returns-4 : tie.Need-returns-4
+returns-4 c = replace-done _ (c .before .before .before .before .before .before .before .before .before .before .before .before .before .before .before .pre .1) (c .before .before .before .before .before .before .before .before .copy .kept .1 .1 .1 .0) (c .before .before .copy2 .kept .1 .1 .1 .0) (c .before .before .before .before .before .before .before .before .copy .ensures) (c .before .before .before .before .before .if3 .left) (c .before .before .copy2 .ensures)
+
+pub replace-spec : {M : Type 1} → statement M
+replace-spec =
+    tie.close
+    (tie.spec
+    returns
+    sub-end
+    sub-if2
+    slice-reshare-prefix-copy-all
+    slice-aggregate-copy-all
+    mul-copy-all
+    sub-copy-all
+    part-copy-all-start
+    part-copy-all-end
+    copy-all-requires
+    same-length
+    same-length-2
+    returns-2
+    copy-requires
+    same-length-3
+    same-length-4
+    returns-3
+    copy-requires-2
+    same-length-5
+    same-length-6
+    returns-4)

@@ -1,0 +1,104 @@
+-- Refusal 14, as document 01 says it: "Room is refused if and only if the plan after some step, or a result of into_nnf or into_cnf, has over 2,048 cells,
+-- where a step is one visit of one node, one merge of a Filter into what is below, or one split of a join predicate."
+--
+-- Here are those sizes, in the order in which they come up. The passes are the Rust's, which know no limit (crate sql, Optimizer.antt), and each function here
+-- has the name of the one whose steps it lists. The size that counts is that of the whole plan, so each takes `rest`, the number of the plan's cells that lie
+-- outside the node at that moment: the left source is visited with the right one outside it, the right source with what the left one has become.
+use Prim.Native.Nat.{ℕ, zero, suc, _+_}
+use mathlib.Core.List.{List, [], _∷_, _++_}
+use mathlib.Core.Option.{Option, none, some}
+use lib.ListN.{getD}
+use Rattle.sql.specs.Schema.{Schema}
+use Rattle.sql.specs.Expression.{Expression, size, into-nnf, into-cnf}
+use Rattle.sql.specs.Plan.{filter, other, Node, leaf, over, join, over-size, join-size, node-size}
+use Rattle.sql.specs.Answer.{Answer, done, refused}
+use Rattle.sql.specs.Optimizer.{ConstantFolding, push-into, HashJoin}
+use Rattle.sql.specs.Optimizer
+use Rattle.sql.specs.Room.{join-predicate, scan-filter}
+
+-- the two normal forms of a predicate
+abbrev pub normal-forms : Option Expression → List ℕ
+normal-forms none = []
+normal-forms (some e) = size (into-nnf e) ∷ size (into-cnf e) ∷ []
+
+-- the plan after a step that leaves this node
+abbrev pub step : (rest : ℕ) → Node → List ℕ
+step rest node = (rest + node-size node) ∷ []
+
+abbrev pub if-pushed : (Node → List ℕ) → Option Node → List ℕ
+if-pushed f none = []
+if-pushed f (some pushed) = f pushed
+
+module _ (schema : Schema) where
+  -- ======== FilterPushdown
+
+  -- one split of a join's predicate, or the visit of another node
+  abbrev pub maybe-push-join : (rest : ℕ) → Node → List ℕ
+  maybe-push-join rest node = normal-forms (join-predicate node) ++ step rest (Optimizer.maybe-push-join schema node)
+
+  -- a merge of a Filter into what is below, which is tried again, and the join rule once more
+  unfoldable pub maybe-push-filter : ℕ → (rest : ℕ) → Node → List ℕ
+  maybe-push-filter zero rest node = []
+  maybe-push-filter (suc n) rest (leaf l) = []
+  maybe-push-filter (suc n) rest (over (filter predicate) source) =
+      if-pushed
+      (λ pushed. (step rest pushed ++ maybe-push-filter n rest pushed) ++ maybe-push-join rest (Optimizer.maybe-push-filter schema n pushed))
+      (push-into predicate source)
+  maybe-push-filter (suc n) rest (over (other o) source) = []
+  maybe-push-filter (suc n) rest (join outer j left right) = []
+
+  abbrev pub push-filters : ℕ → (rest : ℕ) → Node → List ℕ
+  push-filters n rest node = maybe-push-filter n rest node ++ maybe-push-join rest (Optimizer.maybe-push-filter schema n node)
+
+  -- the sources of a node, of which f makes something with these sizes
+  abbrev pub each-source : (f : Node → Node) (sizes : ℕ → Node → List ℕ) → (rest : ℕ) → Node → List ℕ
+  each-source f sizes rest (leaf l) = []
+  each-source f sizes rest (over o source) = sizes (rest + over-size o) source
+  each-source f sizes rest (join outer j left right) =
+      sizes (rest + (node-size right + join-size j)) left ++ sizes (rest + (node-size (f left) + join-size j)) right
+
+  unfoldable pub push-filters-from : ℕ → (rest : ℕ) → Node → List ℕ
+  push-filters-from zero rest node = []
+  push-filters-from (suc n) rest node =
+      push-filters (suc n) rest node
+      ++ each-source (Optimizer.push-filters-from schema n) (push-filters-from n) rest (Optimizer.push-filters schema (suc n) node)
+
+  abbrev pub FilterPushdown : (rest : ℕ) → Node → List ℕ
+  FilterPushdown rest node = push-filters-from (node-size node) rest node
+
+  -- ======== IndexLookup
+
+  abbrev pub IndexLookup : (rest : ℕ) → Node → List ℕ
+  IndexLookup rest (leaf l) = normal-forms (scan-filter l) ++ step rest (Optimizer.index-lookup schema l)
+  IndexLookup rest (over o source) = IndexLookup (rest + over-size o) source
+  IndexLookup rest (join outer j left right) =
+      IndexLookup (rest + (node-size right + join-size j)) left ++ IndexLookup (rest + (node-size (Optimizer.IndexLookup schema left) + join-size j)) right
+
+  -- ======== ShortCircuit: sources before the node
+
+  abbrev pub ShortCircuit : (rest : ℕ) → Node → List ℕ
+  ShortCircuit rest (leaf l) = step rest (Optimizer.ShortCircuit schema (leaf l))
+  ShortCircuit rest (over o source) = ShortCircuit (rest + over-size o) source ++ step rest (Optimizer.ShortCircuit schema (over o source))
+  ShortCircuit rest (join outer j left right) =
+      ShortCircuit (rest + (node-size right + join-size j)) left
+      ++ (ShortCircuit (rest + (node-size (Optimizer.ShortCircuit schema left) + join-size j)) right
+      ++ step rest (Optimizer.ShortCircuit schema (join outer j left right)))
+
+  -- ======== One pass by its number, and all five.
+
+  -- ConstantFolding and HashJoin put no more cells in the place of what they rewrite (crate room, Smaller.antt). So the plan after a step of theirs has no more
+  -- cells than the plan that they were given, which isn't over 2,048: check refuses such a sheet by 4, and the pass before such a plan by 14.
+  abbrev pub pass : ℕ → Node → List ℕ
+  pass zero node = []
+  pass (suc k) node = getD ((λ n. []) ∷ FilterPushdown 0 ∷ IndexLookup 0 ∷ (λ n. []) ∷ ShortCircuit 0 ∷ []) k (λ n. []) node
+
+  -- of the plan that ConstantFolding gives, if it isn't refused
+  abbrev pub after-folding : Answer Node → List ℕ
+  after-folding (refused number place) = []
+  after-folding (done folded) =
+      let pushed = Optimizer.FilterPushdown schema folded in
+      let looked-up = Optimizer.IndexLookup schema pushed in
+      FilterPushdown 0 folded ++ (IndexLookup 0 pushed ++ ShortCircuit 0 (HashJoin schema looked-up))
+
+  abbrev pub optimize : Node → List ℕ
+  optimize node = after-folding (ConstantFolding 0 node)
