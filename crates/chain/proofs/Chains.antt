@@ -64,10 +64,21 @@ no-other {s} {lo} {hi} c z p u = go p (λ k. z (c p u ∙ k))
 
 -- ---- going down
 
-pub down-none : (s : List ℕ) (n lo hi : ℕ) → GoesDown s n lo hi n hi
+-- as far as the loop has come
+pub record Passed (s : List ℕ) (n lo left end : ℕ) (p : Node) : Type 0 where
+  pub above : List Other
+  pub q : Node
+  pub is : p ≡ chain above q
+  pub count : n ≡ left + length above
+  pub here : NodeHere s lo end q
+
+abbrev pub Passes : List ℕ → ℕ → ℕ → ℕ → ℕ → ℕ → Type 0
+Passes s n lo hi left end = (p : Node) → NodeHere s lo hi p → Passed s n lo left end p
+
+pub down-none : (s : List ℕ) (n lo hi : ℕ) → Passes s n lo hi n hi
 down-none s n lo hi p u = record { above = []; q = p; is = refl; count = omega arith; here = u }
 
-pub down-at : {s : List ℕ} {n lo hi left end : ℕ} → GoesDown s n lo hi left end → NodeAt s lo hi → NodeAt s lo end
+pub down-at : {s : List ℕ} {n lo hi left end : ℕ} → Passes s n lo hi left end → NodeAt s lo hi → NodeAt s lo end
 down-at d g = let r = d (g .p) (g .here) in record { p = r .q; here = r .here }
 
 no-true : {A : Type 0} → false ≡ true → A
@@ -79,11 +90,11 @@ by-other P f (over (filter e) n) h = no-true h
 by-other P f (over (other o) n) h = f o n
 by-other P f (join outer j l r) h = no-true h
 
-pub down-next : {s : List ℕ} {n lo hi left end m : ℕ} {b : Bool} → GoesDown s n lo hi left end → IsOther s lo end b → b ≡ true → OwnStart s lo end m → 0 < left
-    → GoesDown s n lo hi (left - 1) m
+pub down-next : {s : List ℕ} {n lo hi left end m : ℕ} {b : Bool} → Passes s n lo hi left end → IsOther s lo end b → b ≡ true → OwnStart s lo end m → 0 < left
+    → Passes s n lo hi (left - 1) m
 down-next {s} {n} {lo} {hi} {left} {end} {m} d c z own k p u =
     let r = d p u in
-    by-other (λ q. p ≡ chain (r .above) q → NodeHere s lo end q → Through s n lo (left - 1) m p)
+    by-other (λ q. p ≡ chain (r .above) q → NodeHere s lo end q → Passed s n lo (left - 1) m p)
     (λ o q e h. record {
       above = o ∷ r .above;
       q = q;
@@ -92,6 +103,18 @@ down-next {s} {n} {lo} {hi} {left} {end} {m} d c z own k p u =
       here = record { part = source-part (over (other o) q) h (own (over (other o) q) h) };
     })
     (r .q) (sym (c (r .q) (r .here)) ∙ z) (r .is) (r .here)
+
+module _ {s : List ℕ} {n lo hi left end : ℕ} (d : Passes s n lo hi left end) where
+  through : ((q : Node) → NodeHere s lo end q → is-other q ≡ true → left ≡ 0) → GoesDown s n lo hi left end
+  through f p u = let r = d p u in record { above = r .above; q = r .q; is = r .is; count = r .count; here = r .here; last = f (r .q) (r .here) }
+
+  -- the node below is none of a chain
+  pub down-last : {b : Bool} → IsOther s lo end b → b ≡ false → GoesDown s n lo hi left end
+  down-last c z = through (λ q u h. no-true (sym z ∙ c q u ∙ h))
+
+  -- nothing is left
+  pub down-out : left ≡ 0 → GoesDown s n lo hi left end
+  down-out z = through (λ q u h. z)
 
 -- ---- a chain's words
 

@@ -40,13 +40,15 @@ is-other (join outer j l r) = false
 abbrev pub IsOther : List ℕ → ℕ → ℕ → Bool → Type 0
 IsOther s lo hi r = (p : Node) → NodeHere s lo hi p → r ≡ is-other p
 
--- p is a chain over a node that ends before `end`; n is the length of the chain and `left`.
+-- p is a chain over a node that ends before `end`; n is the length of the chain and `left`. The chain ends only where the node below is none of its kind, or
+-- where nothing is left.
 pub record Through (s : List ℕ) (n lo left end : ℕ) (p : Node) : Type 0 where
   pub above : List Other
   pub q : Node
   pub is : p ≡ chain above q
   pub count : n ≡ left + length above
   pub here : NodeHere s lo end q
+  pub last : is-other q ≡ true → left ≡ 0
 
 abbrev pub GoesDown : List ℕ → ℕ → ℕ → ℕ → ℕ → ℕ → Type 0
 GoesDown s n lo hi left end = (p : Node) → NodeHere s lo hi p → Through s n lo left end p

@@ -66,7 +66,7 @@ fn each_label(
     let mut end = at;
     let mut i: usize = 0;
     while i < n {
-        let l = labels::column_label(s, lo, hi, i, widths, names, columns);
+        let l = labels::column_label(s, lo, hi, i, n, widths, names, columns);
         end = put_label(d, end, l);
         i += 1;
     }

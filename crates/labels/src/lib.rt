@@ -9,7 +9,7 @@ ghost use Rattle.sql.specs.Plan;
 ghost use Rattle.cells.specs.Cells.{tag-at, start-at};
 ghost use Rattle.words.specs.Place.{NodeAt};
 ghost use Rattle.nodes.specs.Own.{OwnStart, SourceCount};
-ghost use Rattle.nodes.specs.Columns.{ColumnsAt};
+ghost use Rattle.nodes.specs.Columns.{ColumnsAt, ColumnCount};
 ghost use Rattle.labels.specs.Names.{first-column, NamesAt, ColumnName, TableLabel, qualifier-text, ColumnLabel};
 ghost use Rattle.labels.specs.Labels.{Labelled, ExpressionRoute, ExpressionEnds, ItemRoute, ItemEnds, RemapRoute, TargetsUp, Routes, alias-if, is-aliased, says-columns, LeafOrigin, CountedAt, LeftColumns, Steps, Traces};
 
@@ -311,15 +311,16 @@ fn next_of(s: &[usize], lo: usize, hi: usize, i: usize, w: usize, widths: &[usiz
     next_join(s, lo, hi, m, i, w, widths)
 }
 
-// What the label of column i of the node from lo to hi comes from.
-fn trace(s: &[usize], lo: usize, hi: usize, i: usize, widths: &[usize]) -> Origin
+// What the label of column i of the node from lo to hi comes from; the node has w columns.
+fn trace(s: &[usize], lo: usize, hi: usize, i: usize, w: usize, widths: &[usize]) -> Origin
     requires { ⌜ ColumnsAt (now widths) (now s) lo hi ⌝ }
+    requires { ⌜ ColumnCount (now widths) (now s) lo hi w ⌝ }
     ensures { λ r. ⌜ Traces (now (widths .entry)) (now (s .entry)) lo hi i r ⌝ }
 {
     let mut start = lo;
     let mut end = hi;
     let mut column = i;
-    let mut columns = nodes::columns(s, lo, hi, widths);
+    let mut columns = w;
     loop {
         let step = next_of(s, start, end, column, columns, widths);
         match step {
@@ -407,22 +408,24 @@ fn table_label(
     Label::Qualified(q, column_name(t, i, widths, names, columns))
 }
 
-// The label of column i of the node from lo to hi. widths[t] is the number of columns of table t, names[t] its name, and columns are the names of all
-// columns, table by table.
+// The label of column i of the node from lo to hi, which has w columns: who asks for all labels counts them once. widths[t] is the number of columns of
+// table t, names[t] its name, and columns are the names of all columns, table by table.
 pub fn column_label(
     s: &[usize],
     lo: usize,
     hi: usize,
     i: usize,
+    w: usize,
     widths: &[usize],
     names: &[usize],
     columns: &[usize],
 ) -> Label
     requires { ⌜ ColumnsAt (now widths) (now s) lo hi ⌝ }
+    requires { ⌜ ColumnCount (now widths) (now s) lo hi w ⌝ }
     requires { ⌜ NamesAt (now widths) (now names) (now columns) ⌝ }
     ensures { λ r. ⌜ ColumnLabel (now (widths .entry)) (now (names .entry)) (now (columns .entry)) (now (s .entry)) lo hi i r ⌝ }
 {
-    let origin = trace(s, lo, hi, i, widths);
+    let origin = trace(s, lo, hi, i, w, widths);
     match origin {
         Origin::Said(l) => l,
         Origin::Column(t, aliased, alias, c) => {

@@ -9,7 +9,7 @@ ghost use Rattle.optimizer.specs.Choices.{Choice};
 ghost use Rattle.hand_out.specs.HandOut.{outcome};
 ghost use Rattle.operations.specs.Rooms.{FitsIn, RunsIn};
 
-// Buffers for 16 cells. Each size is about three times the one before and has a function of its own, so that a small plan has a small frame: each page of a
+// Buffers for 16 cells. Each size is three to four times the one before and has a function of its own, so that a small plan has a small frame: each page of a
 // frame is touched when the function is entered.
 fn in_16(s: &[u8], c: Chosen, count: usize, out: &mut [u8]) -> Answer
     requires { ⌜ Choice c ⌝ }

@@ -33,8 +33,7 @@ abbrev pub WritesPart : Source → ℕ → ℕ → List ℕ → ℕ → List ℕ
 WritesPart into n shift cnf end d at r d′ =
     (e : Expression) → ExpressionHere cnf 0 end e → Wrote d at (optional-words (part-for into n shift (ands e))) r d′
 
--- A source that takes a part: its own words and its cell with the part in its predicate are in the first words of d, or have no room. A source that takes none
--- stays as it is, and r is 0.
+-- Where r is 0 the source stays as it is; otherwise its own words and its cell, with its part in its predicate, are in the first words of d, or have no room.
 pub record WritesOwn (into : Source) (n shift : ℕ) (s : List ℕ) (lo hi : ℕ) (cnf : List ℕ) (end : ℕ) (d : List ℕ) (r : ℕ) (d′ : List ℕ) : Type 0 where
   pub same : r ≡ 0 → (p : Node) → NodeHere s lo hi p → (e : Expression) → ExpressionHere cnf 0 end e → push-part (part-for into n shift (ands e)) p .0 ≡ p
   pub own : (r ≡ 0 → ⊥) → (p : Node) → NodeHere s lo hi p → (e : Expression) → ExpressionHere cnf 0 end e

@@ -86,10 +86,11 @@ module _ (s : List ℕ) (b : Bytes s) (out : List ℕ) (f : Node → Answer Node
     written-gives : Gives s out (done m) (hand-out s out (done m))
     written-gives =
         let w = write s m in (
-          λ fits. subst (λ (t : Bool). Hands-out s m (written s out m w t)) (sym (le-leb (length w) (length out) (omega (arith, long))))
+          λ fits. subst (λ (t : Bool). Hands-out s out m (written s out m w t)) (sym (le-leb (length w) (length out) (omega (arith, long))))
               (record {
                 stands-for = ap plan seam ∙ handed .stands-for;
                 is-written = seam;
+                rest-stays = ap (λ (l : ℕ). w ++ drop l out) long;
                 returned = ap (λ (l : ℕ). record { number = 0; place = 0; length = l; cells = node-size m; columns = columns (schema s) m }) long;
               }),
           λ short. ap (written s out m w) (lt-leb (length w) (length out) (omega (arith, long))) ∙ ap (refuse out 15) long,

@@ -1,9 +1,13 @@
 -- Refusal 14, as document 01 says it: "Room is refused if and only if the plan after some step, or a result of into_nnf or into_cnf, has over 2,048 cells,
 -- where a step is one visit of one node, one merge of a Filter into what is below, or one split of a join predicate."
 --
--- Here are those sizes, in the order in which they come up. The passes are the Rust's, which know no limit (crate sql, Optimizer.antt), and each function here
--- has the name of the one whose steps it lists. The size that counts is that of the whole plan, so each takes `rest`, the number of the plan's cells that lie
--- outside the node at that moment: the left source is visited with the right one outside it, the right source with what the left one has become.
+-- Here are those sizes, in the order in which they come up, but for two kinds of steps, after which the plan is not over 2,048 cells if it wasn't before:
+-- the steps of ConstantFolding and HashJoin, which put no more cells in the place of what they rewrite (more at `pass` below); and IndexLookup's visits of
+-- nodes with sources, which change nothing, so that the plan has the size that it had.
+--
+-- The passes are the Rust's, which know no limit (crate sql, Optimizer.antt), and each function here has the name of the one whose steps it lists. The size
+-- that counts is that of the whole plan, so each takes `rest`, the number of the plan's cells that lie outside the node at that moment: the left source is
+-- visited with the right one outside it, the right source with what the left one has become.
 use Prim.Native.Nat.{ℕ, zero, suc, _+_}
 use mathlib.Core.List.{List, [], _∷_, _++_}
 use mathlib.Core.Option.{Option, none, some}

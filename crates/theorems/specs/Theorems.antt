@@ -102,17 +102,19 @@ with-room sizes r = cond (all (λ (cells : ℕ). leb cells max-cells) sizes) r (
 abbrev pub needed : List ℕ → Node → ℕ
 needed s m = cells-at s + 16 * node-size m + 20
 
--- The sheet handed out stands for the plan m, its bytes are what m is written as (crate sheet, Write.antt), and its length and counts are returned.
-pub record Hands-out (s : List ℕ) (m : Node) (o : Outcome) : Type 0 where
+-- The sheet handed out stands for the plan m, its bytes are what m is written as (crate sheet, Write.antt), the output's bytes after it stay, and its length
+-- and counts are returned.
+pub record Hands-out (s out : List ℕ) (m : Node) (o : Outcome) : Type 0 where
   pub stands-for : plan (sheet-of o) ≡ done m
   pub is-written : sheet-of o ≡ write s m
+  pub rest-stays : o .output ≡ write s m ++ drop (needed s m) out
   pub returned : o .numbers ≡ record { number = 0; place = 0; length = needed s m; cells = node-size m; columns = columns (schema s) m }
 
 -- The whole answer: a refusal is handed on, with the output as it was; a plan is handed out if the output is long enough, and otherwise it is refusal 15,
 -- with the bytes needed for its place and the output as it was.
 abbrev pub Gives : (s out : List ℕ) → Answer Node → Outcome → Type 0
 Gives s out (refused number place) o = o ≡ refuse out number place
-Gives s out (done m) o = (needed s m ≤ length out → Hands-out s m o) × (length out < needed s m → o ≡ refuse out 15 (needed s m))
+Gives s out (done m) o = (needed s m ≤ length out → Hands-out s out m o) × (length out < needed s m → o ≡ refuse out 15 (needed s m))
 
 -- An operation is the Rust's passes: for each of the five, and every sheet and output, it gives check's refusal if there is one; then 14 if and only if one of
 -- the pass's sizes (Sizes.antt) is over 2,048 cells; then the Rust's answer. `pass` is one optimizer of optimizer.rs by its number, as defined in crate

@@ -1,5 +1,5 @@
-use Rattle.chain.specs.Chain.{GoesDown}
-use Rattle.chain.proofs.Chains.{down-none, down-at, down-next}
+use Rattle.chain.proofs.Chains.{Passes, down-none, down-at, down-next, down-last, down-out}
+use native.Mathlib.Omega.{arith}
 use borrow.Author.Needs.{needs}
 use Rattle.chain.proofs.descend.Statement.{statement}
 use Rattle.chain.proofs.descend.Tie as tie
@@ -9,7 +9,7 @@ use Rattle.chain.proofs.is_other.Reads as is-other-reads
 use Rattle.nodes.proofs.own_start.Reads as own-start-reads
 
 abbrev Inv-loop : tie.InvT-loop
-Inv-loop s n lo hi left₀ end₀ left end = GoesDown s n lo hi left end
+Inv-loop s n lo hi left₀ end₀ left end = Passes s n lo hi left end
 
 abbrev μ-loop : tie.MeasureT-loop
 μ-loop s n lo hi left₀ end₀ left end = left
@@ -33,10 +33,10 @@ loop-again : tie.Need-loop-again Inv-loop μ-loop
 loop-again c = down-next (c .before .before .before .before .loop .inv) (c .before .before .is-other .ensures) (c .before .if1 .taken) (c .own-start .ensures) (c .before .before .before .loop-test .taken)
 
 returns : tie.Need-returns Inv-loop μ-loop
-returns c = c .before .before .before .loop .inv
+returns c = down-last (c .before .before .before .loop .inv) (c .before .is-other .ensures) (c .if1 .left)
 
 returns-2 : tie.Need-returns-2 Inv-loop μ-loop
-returns-2 c = c .before .loop .inv
+returns-2 c = down-out (c .before .loop .inv) (omega (arith, c .loop-test .left))
 
 pub descend-spec : {M : Type 1} → statement M
 descend-spec =

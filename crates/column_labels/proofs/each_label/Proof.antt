@@ -20,7 +20,7 @@ loop-holds : tie.Need-loop-holds Inv-loop μ-loop
 loop-holds c = (refl, (omega arith, labelled-first))
 
 column-label-requires : tie.Need-column-label-requires Inv-loop μ-loop
-column-label-requires c κs = (c .before .before .before .before .before .before .before .before .pre .0, c .before .before .before .before .before .before .before .before .pre .1)
+column-label-requires c κs = (c .before .before .before .before .before .before .before .before .pre .0, (c .before .before .columns .ensures, c .before .before .before .before .before .before .before .before .pre .1))
 
 put-label-requires : tie.Need-put-label-requires Inv-loop μ-loop
 put-label-requires c κs = search needs

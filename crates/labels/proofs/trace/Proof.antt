@@ -10,19 +10,15 @@ use Rattle.labels.proofs.trace.Tie as tie
 use Rattle.labels.proofs.trace.Reads as reads
 use Rattle.labels.proofs.trace.Lts as lts
 use Rattle.labels.proofs.next_of.Reads as next-of-reads
-use Rattle.nodes.proofs.columns.Reads as columns-reads
 
 abbrev Inv-loop : tie.InvT-loop
-Inv-loop s lo hi i widths start₀ end₀ column₀ columns₀ start end column columns = Way widths s lo hi i start end column columns
+Inv-loop s lo hi i w widths start₀ end₀ column₀ columns₀ start end column columns = Way widths s lo hi i start end column columns
 
 abbrev μ-loop : tie.MeasureT-loop
-μ-loop s lo hi i widths start₀ end₀ column₀ columns₀ start end column columns = end - start
-
-columns-requires : tie.Need-columns-requires Inv-loop μ-loop
-columns-requires c κs = search needs
+μ-loop s lo hi i w widths start₀ end₀ column₀ columns₀ start end column columns = end - start
 
 loop-holds : tie.Need-loop-holds Inv-loop μ-loop
-loop-holds c = way-first (c .before .before .before .pre) (c .columns .ensures)
+loop-holds c = way-first (c .before .before .pre .0) (c .before .before .pre .1)
 
 next-of-requires : tie.Need-next-of-requires Inv-loop μ-loop
 next-of-requires c κs = c .loop .inv .there
@@ -48,7 +44,6 @@ trace-spec =
     (tie.spec
     Inv-loop
     μ-loop
-    columns-requires
     loop-holds
     next-of-requires
     enum-known-step
