@@ -10,14 +10,18 @@ use Rattle.sql.specs.Plan.{Other, Over, filter, other, Node, leaf, over, join}
 use Rattle.words.specs.Words.{cell, root, operand-words, expression-words, over-own, own-words, source-count}
 use Rattle.words.specs.Place.{NodeHere, NodeAt}
 use Rattle.words.proofs.Expressions.{shape}
-use Rattle.words.proofs.Nodes.{node-long, over-source}
+use Rattle.words.proofs.Nodes.{node-in, node-long, over-source}
 use Rattle.words.proofs.Sizes.{sized-long}
 use Rattle.words.proofs.Tags.{by-over}
-use Rattle.nodes.specs.Own.{OwnStart, SourceCount}
+use Rattle.nodes.specs.Trees.{Trees}
+use Rattle.nodes.specs.Trees as trees
+use Rattle.nodes.specs.Own.{own-count, OwnStart, OwnTrees, SourceCount}
+use Rattle.nodes.proofs.Trees.{trees-long}
+use Rattle.nodes.proofs.Own.{own-trees}
 use Rattle.chain.specs.Chain.{chain, no-words, is-bare, Bare, no-more, one-more, GoesBelow}
 use Rattle.chain.proofs.Chains.{Each}
 
-no-length : (w : List ℕ) → length w ≡ 0 → w ≡ []
+pub no-length : (w : List ℕ) → length w ≡ 0 → w ≡ []
 no-length [] h = refl
 no-length (v ∷ w) h = absurd (omega arith)
 
@@ -66,18 +70,32 @@ bare-in (one-more c own b) = let h = bare-in b in omega arith
 
 -- ---- one more
 
+no-trees : {n : ℕ} {w : List ℕ} → Trees n w → n ≡ 0 → length w ≡ 0
+no-trees trees.none h = refl
+no-trees (trees.one-more t b k) h = absurd (omega arith)
+
+-- a node with one source, by the number of its own trees
+module _ {s : List ℕ} {lo end g n : ℕ} (c : SourceCount s lo end g) (one : g ≡ 1) (f : OwnTrees s lo end n) where
+  trees-are : (p : Node) → NodeHere s lo end p → n ≡ own-count p
+  trees-are p u = f p u (λ y. omega (arith, c p u))
+
+  none-own : n ≡ 0 → OwnStart s lo end (end - 6)
+  none-own z p u = omega (arith, node-long p u, no-trees (own-trees p) (sym (trees-are p u) ∙ z))
+
+  some-own : (n ≡ 0 → ⊥) → (p : Node) → NodeHere s lo end p → 0 < length (own-words p)
+  some-own z p u = omega (arith, trees-long (own-trees p), trees-are p u)
+
 module _ {s : List ℕ} {lo hi end : ℕ} (b : Bare s lo hi end) where
   -- what the code may ask for
-  pub own-inside : NodeAt s lo hi → {m : ℕ} → OwnStart s lo end m → m + 6 ≤ end
-  own-inside g own = let d = bare-at b g in omega (arith, own (d .p) (d .here), node-long (d .p) (d .here))
+  pub six-inside : NodeAt s lo hi → 6 ≤ end
+  six-inside g = let d = bare-at b g in omega (arith, node-in (d .p) (d .here) .0)
 
-  pub down-bare : NodeAt s lo hi → {g m : ℕ} → SourceCount s lo end g → g ≡ 1 → OwnStart s lo end m → end - 6 ≤ m → Bare s lo hi (end - 6)
-  down-bare at {g} {m} c one own z =
-      let i = own-inside at own in
+  pub down-bare : NodeAt s lo hi → {g n : ℕ} → SourceCount s lo end g → g ≡ 1 → OwnTrees s lo end n → n ≡ 0 → Bare s lo hi (end - 6)
+  down-bare at c one f z =
+      let i = six-inside at in
       let e : end ≡ end - 6 + 6 = omega arith in
-      let k : end - 6 ≡ m = omega arith in
-      one-more (λ p u. sym one ∙ c p (subst (λ (n : ℕ). NodeHere s lo n p) (sym e) u)) (λ p u. k ∙ own p (subst (λ (n : ℕ). NodeHere s lo n p) (sym e) u))
-      (subst (Bare s lo hi) e b)
+      let back : (p : Node) → NodeHere s lo (end - 6 + 6) p → NodeHere s lo end p = λ p. subst (λ (n : ℕ). NodeHere s lo n p) (sym e) in
+      one-more (λ p u. sym one ∙ c p (back p u)) (λ p u. none-own c one f z p (back p u)) (subst (Bare s lo hi) e b)
 
   -- a node that is not bare
   pub several-sources : {g : ℕ} → SourceCount s lo end g → (g ≡ 1 → ⊥) → GoesBelow s lo hi end
@@ -88,8 +106,8 @@ module _ {s : List ℕ} {lo hi end : ℕ} (b : Bare s lo hi end) where
       go (over o n) h = absurd (h refl)
       go (join outer j l r) h = refl
 
-  pub own-left : {m : ℕ} → OwnStart s lo end m → m < end - 6 → GoesBelow s lo hi end
-  own-left own z = record { down = b; last = λ p u. go p (omega (arith, own p u, node-long p u)) }
+  pub own-left : {g n : ℕ} → SourceCount s lo end g → g ≡ 1 → OwnTrees s lo end n → (n ≡ 0 → ⊥) → GoesBelow s lo hi end
+  own-left c one f z = record { down = b; last = λ p u. go p (some-own c one f z p u) }
     where
       go : (p : Node) → 0 < length (own-words p) → is-bare p ≡ false
       go (leaf l) h = refl

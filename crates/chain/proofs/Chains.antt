@@ -245,3 +245,7 @@ behind-resized (o ∷ os) p q =
     ∙ ap (λ (n : ℕ). own ++ (words k n ++ resized n rest)) e
     ∙ ap (λ (w : List ℕ). own ++ (words k high ++ w)) (ap (λ (n : ℕ). resized n rest) i ∙ behind-resized os (over (other o) p) (over (other o) q))
     ∙ sym (append-assoc own (words k high) (behind os (over (other o) q)))
+
+-- over a node that is as long, they stay as they are
+pub behind-same : (os : List Other) (p q : Node) → length (node-words p) ≡ length (node-words q) → behind os p ≡ behind os q
+behind-same os p q e = sym (behind-resized os p p) ∙ ap (λ (n : ℕ). resized n (behind os p)) e ∙ behind-resized os p q

@@ -14,7 +14,7 @@ use Rattle.edit.specs.Edit.{Holds, Shares, Held, Left, Edit, Inherited}
 use Rattle.edit.proofs.Edits.{total, holds-here, left-stop, left-go, left-with, edit-same}
 use Rattle.chain.specs.Chain.{chain, sizes, behind, GoesDown}
 use Rattle.chain.specs.Resized.{resized, Reseals}
-use Rattle.chain.proofs.Chains.{chain-words, behind-long, behind-resized}
+use Rattle.chain.proofs.Chains.{chain-words, behind-long, chain-long, behind-resized, behind-same}
 
 -- F of a chain is the chain over what G gives of the node below it, where there is room for the plan as it stands.
 abbrev pub Descends : (F G : ℕ → ℕ → Node → Answer Node) → ℕ → ℕ → Type 0
@@ -131,6 +131,15 @@ module _ {Kept : Node → Node → Type 0} (fit : Inherited Kept) where
               ∙ take-at whole (drop r x₁) r long
               ∙ ap (λ (y : List ℕ). pre ++ (y ++ post)) (sym (chain-words os q))
 
+          -- where the plan is as long as before, they are right as they stand
+          as-long : r ≡ t → take r x₁ ≡ pre ++ (node-words (chain os q) ++ post)
+          as-long e =
+              let i : length (node-words p) ≡ length (node-words q) = omega (arith, all-long, total h, chain-long os p, behind-long os p) in
+              w
+              ∙ ap (λ (y : List ℕ). pre ++ (node-words q ++ (y ++ post))) (behind-same os p q i)
+              ∙ ap (λ (y : List ℕ). pre ++ y) (sym (append-assoc (node-words q) (behind os q) post))
+              ∙ ap (λ (y : List ℕ). pre ++ (y ++ post)) (sym (chain-words os q))
+
         -- what reseal asks for
         pub chain-fits : r ≤ length x₁ → Held Kept x t lo tail → (t - end ≤ r) × ((lo ≤ r - (t - end)) × (r - (t - end) + tail ≤ r))
         chain-fits z g =
@@ -140,12 +149,22 @@ module _ {Kept : Node → Node → Type 0} (fit : Inherited Kept) where
             (λ q i w. (omega (arith, all-long z os p u h q w, back-is os p u h), (omega (arith, all-long z os p u h q w, back-is os p u h), omega (arith, all-long z os p u h q w, back-is os p u h)))))
             (g .p) (g .fit) (g .holds)
 
-        pub chain-go : r ≤ length x₁ → {v : ℕ} {x₂ : List ℕ} → length x₂ ≡ length x₁ → Reseals x₁ r lo (r - (t - end)) tail v x₂ → Edit Kept F x t lo tail v x₂
-        chain-go z {v} {x₂} j seal room rest s pre post p k h =
-            when-chain (λ q. Left (Kept q) x₂ v pre post (F room rest q))
-            (λ os p c u k h. subst (λ (o : Answer Node). Left (Kept (chain os p)) x₂ v pre post o) (sym (e room rest os p c (has-room os p u h s)))
+        -- the chain stands over what the node below became
+        over-new : r ≤ length x₁ → {x₂ : List ℕ} → length x₂ ≡ length x₁
+            → ((os : List Other) (p : Node) → NodeHere x lo end p → (pre post : List ℕ) → Holds x t lo tail pre post (chain os p) → (q : Node)
+            → take r x₁ ≡ pre ++ (node-words q ++ (behind os p ++ post)) → take r x₂ ≡ pre ++ (node-words (chain os q) ++ post))
+            → Edit Kept F x t lo tail r x₂
+        over-new z {x₂} j f room rest s pre post p k h =
+            when-chain (λ q. Left (Kept q) x₂ r pre post (F room rest q))
+            (λ os p c u k h. subst (λ (o : Answer Node). Left (Kept (chain os p)) x₂ r pre post o) (sym (e room rest os p c (has-room os p u h s)))
             (left-go (G room (rest + sizes os) p) (λ q. done (chain os q)) (went s os p u k h) z
-            (λ q i w. record {
-              is = (omega (arith, seal .same), (ap (λ (m : ℕ). take m x₂) (seal .same) ∙ sealed z os p u h q w seal, chain-with os p q k i));
-            })))
+            (λ q i w. record { is = (omega arith, (f os p u pre post h q w, chain-with os p q k i)) })))
             p k h
+
+        pub chain-go : r ≤ length x₁ → {v : ℕ} {x₂ : List ℕ} → length x₂ ≡ length x₁ → Reseals x₁ r lo (r - (t - end)) tail v x₂ → Edit Kept F x t lo tail v x₂
+        chain-go z {v} {x₂} j seal =
+            subst (λ (m : ℕ). Edit Kept F x t lo tail m x₂) (sym (seal .same)) (over-new z j (λ os p u pre post h q w. sealed z os p u h q w seal))
+
+        -- without reseal
+        pub go-as-long : r ≤ length x₁ → r ≡ t → Edit Kept F x t lo tail r x₁
+        go-as-long z i = over-new z refl (λ os p u pre post h q w. as-long z os p u h q w i)

@@ -2,9 +2,9 @@
 use Prim.Native.Nat.{ℕ, _+_, _-_, _≤_, _<_}
 use native.Mathlib.Omega.{arith}
 use mathlib.Core.Logic.{⊎-elim}
-use mathlib.Core.Path.{_≡_, sym, ap, _∙_}
-use mathlib.Core.List.{List, _++_, append-assoc}
-use lib.ListN.{length, take, drop, length-append, take-append-drop}
+use mathlib.Core.Path.{_≡_, sym, ap, _∙_, subst}
+use mathlib.Core.List.{List, [], _++_, append-assoc, append-nil}
+use lib.ListN.{length, getD, take, drop, length-append, take-append-drop}
 use lib.Seq.{take-at, length-take-le}
 use Rattle.sql.specs.Plan.{Other, Node}
 use Rattle.cells.specs.Cells.{Part}
@@ -12,9 +12,11 @@ use Rattle.cells.specs.Room.{Wrote, Copies}
 use Rattle.cells.proofs.Laws.{then, no-room, done, lt-or-ge, wrote-up}
 use Rattle.words.specs.Words.{node-words}
 use Rattle.words.specs.Place.{NodeHere}
+use Rattle.words.proofs.Nodes.{node-size-at, node-start}
 use Rattle.chain.specs.Chain.{chain, behind, Follows}
 use Rattle.chain.specs.Resized.{resized, Reseals}
-use Rattle.chain.proofs.Chains.{chain-words, behind-long, behind-resized}
+use Rattle.chain.proofs.Chains.{chain-words, behind-long, behind-resized, behind-same}
+use Rattle.chain.proofs.Bare.{no-length}
 
 -- any words from lo up to hi
 part-of : (s : List ℕ) (lo hi : ℕ) → lo ≤ hi → hi ≤ length s → Part s lo hi (take (hi - lo) (drop lo s))
@@ -49,12 +51,26 @@ behind-part {x} {low} {end} {hi} os p u v =
       high = omega (arith, u .part .high, v .part .high, ap length (chain-words os p), length-append (node-words p) (behind os p));
     }
 
+-- what Follows says of every chain
+abbrev OverNode : List ℕ → ℕ → ℕ → List ℕ → ℕ → ℕ → ℕ → List ℕ → Type 0
+OverNode x end hi y lo at n y′ =
+    (low : ℕ) (os : List Other) (p q : Node) → NodeHere x low hi (chain os p) → NodeHere x low end p → (y₀ : List ℕ) → length y ≡ length y₀
+    → Wrote y₀ lo (node-words q) at y → Wrote y₀ lo (node-words (chain os q)) n y′
+
+-- no chain
+pub follows-none : {x : List ℕ} {end hi : ℕ} {y : List ℕ} {lo at : ℕ} → hi ≤ end → Follows x end hi y lo at at y
+follows-none {x} {end} {hi} {y} {lo} {at} z = record { over-node = written; full = λ h. h }
+  where
+    written : OverNode x end hi y lo at at y
+    written low os p q u v y₀ i w =
+        let e : behind os q ≡ [] = no-length (behind os q) (omega (arith, behind-part os p u v .high, behind-long os p, behind-long os q)) in
+        subst (λ (b : List ℕ). Wrote y₀ lo b at y) (sym (chain-words os q ∙ ap (λ (b : List ℕ). node-words q ++ b) e ∙ append-nil (node-words q))) w
+
 module _ {x : List ℕ} {end hi : ℕ} {y : List ℕ} {lo at n : ℕ} {y₁ : List ℕ} (j : length y₁ ≡ length y) (c : Copies x end hi y at n y₁) where
   pub follows-full : length y₁ < n → Follows x end hi y lo at n y₁
   follows-full z = record { over-node = written; full = λ h. omega arith }
     where
-      written : (low : ℕ) (os : List Other) (p q : Node) → NodeHere x low hi (chain os p) → NodeHere x low end p → (y₀ : List ℕ) → length y ≡ length y₀
-          → Wrote y₀ lo (node-words q) at y → Wrote y₀ lo (node-words (chain os q)) n y₁
+      written : OverNode x end hi y lo at n y₁
       written low os p q u v y₀ i w =
           let a = then i w (c (behind os p) (behind-part os p u v)) in
           no-room
@@ -67,11 +83,23 @@ module _ {x : List ℕ} {end hi : ℕ} {y : List ℕ} {lo at n : ℕ} {y₁ : Li
           long k =
               omega (arith, length-append (node-words q) (behind os p), length-append (node-words q) (behind os q), ap length (chain-words os q), behind-long os p, behind-long os q)
 
+  -- the chain's last size is right as it stands
+  pub follows-same : end ≤ hi → hi ≤ length x → n ≤ length y₁ → getD x (hi - 1) 0 ≡ n - lo → Follows x end hi y lo at n y₁
+  follows-same b h z size = record { over-node = written; full = λ l. let f = copy-full c b h l in absurd (omega arith) }
+    where
+      written : OverNode x end hi y lo at n y₁
+      written low os p q u v y₀ i w =
+          let part = behind-part os p u v in
+          let a = then i w (c (behind os p) part) in
+          let l = length-append (node-words q) (behind os p) in
+          let e : length (node-words p) ≡ length (node-words q) =
+          omega (arith, wrote-up a (omega arith), part .high, v .part .high, node-start (chain os p) u, node-size-at (chain os p) u .long) in
+          subst (λ (b : List ℕ). Wrote y₀ lo b n y₁) (ap (λ (b : List ℕ). node-words q ++ b) (behind-same os p q e) ∙ sym (chain-words os q)) a
+
   pub follows-done : end ≤ hi → hi ≤ length x → n ≤ length y₁ → {r : ℕ} {y₂ : List ℕ} → length y₂ ≡ length y₁ → Reseals y₁ n lo at 0 r y₂ → Follows x end hi y lo at r y₂
   follows-done b h z {r} {y₂} k seal = record { over-node = written; full = λ l. let f = copy-full c b h l in absurd (omega arith) }
     where
-      written : (low : ℕ) (os : List Other) (p q : Node) → NodeHere x low hi (chain os p) → NodeHere x low end p → (y₀ : List ℕ) → length y ≡ length y₀
-          → Wrote y₀ lo (node-words q) at y → Wrote y₀ lo (node-words (chain os q)) r y₂
+      written : OverNode x end hi y lo at r y₂
       written low os p q u v y₀ i w =
           let a = then i w (c (behind os p) (behind-part os p u v)) in
           let all = node-words q ++ behind os p in

@@ -1,5 +1,5 @@
-// Chains: nodes with one source that FilterPushdown leaves as they are, each over the next one. Such a chain can be as long as the plan, so a pass goes
-// down through it in a loop, works on the node below it, and seals the chain's cells over what that node has become in a second loop. A pass that works on
+// Chains: nodes with one source that are no Filters, each over the next one; passes 2 and 3 leave such nodes as they are. A chain can be as long as the plan, so
+// a pass goes down through it in a loop, works on the node below it, and seals the chain's cells over what that node has become in a second loop. A pass that works on
 // each node's own parts goes through those nodes alone that have none: they are one cell each, so the way back is known too.
 ghost use mathlib.Core.Path.{_≡_};
 ghost use Prim.Native.Nat.{_+_, _≤_};
@@ -56,7 +56,7 @@ pub fn descend_bare(s: &[usize], lo: usize, hi: usize) -> usize
         if nodes::source_count(s, lo, end) != 1 {
             return end;
         }
-        if nodes::own_start(s, lo, end) < end - 6 {
+        if nodes::own_trees(s, lo, end) != 0 {
             return end;
         }
         end -= 6;
@@ -88,13 +88,21 @@ pub fn reseal(x: &mut [usize], t: usize, lo: usize, from: usize, tail: usize) ->
     t
 }
 
-// The words of a chain, read in x from `end` up to hi, behind the node that was written to y from lo up to at: the chain over that node.
+// The words of a chain, read in x from `end` up to hi, behind the node that was written to y from lo up to at: the chain over that node. The last of
+// them is the length of the chain with the node that it stood over. Where that is the length now too, the two nodes are equally long, and the sizes in the
+// chain's cells are right already.
 pub fn follow(x: &[usize], end: usize, hi: usize, y: &mut [usize], lo: usize, at: usize) -> usize
     requires { ⌜ (end ≤ hi) × ((hi ≤ length (now x)) × (lo ≤ at)) ⌝ }
     ensures { λ r. ⌜ Follows (now (x .entry)) end hi (now (y .entry)) lo at r (now (y .exit)) ⌝ }
 {
+    if hi <= end {
+        return at;
+    }
     let n = cells::copy(x, end, hi, y, at);
     if y.len() < n {
+        return n;
+    }
+    if x[hi - 1] == n - lo {
         return n;
     }
     reseal(y, n, lo, at, 0)

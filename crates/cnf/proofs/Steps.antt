@@ -20,7 +20,7 @@ use Rattle.cnf.specs.Cnf.{MapsTwo, spread, spread-right}
 distribute-or : (o : Binary) (l r : Expression) → binary-tag o ≡ 11 → distribute (binary o l r) ≡ spread l r
 distribute-or o l r = by-or (λ p. distribute (binary p l r) ≡ spread l r) refl o
 
-distribute-other : (e : Expression) → (tag (root e) ≡ 11 → ⊥) → distribute e ≡ map-operands distribute e
+pub distribute-other : (e : Expression) → (tag (root e) ≡ 11 → ⊥) → distribute e ≡ map-operands distribute e
 distribute-other (constant v) h = refl
 distribute-other (column i) h = refl
 distribute-other (unary o x) h = refl

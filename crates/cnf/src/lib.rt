@@ -1,5 +1,5 @@
 // expression.rs, into_cnf after into_nnf: Ors are spread over the Ands at the top of their operands. The result is written directly and can be
-// exponentially longer than the source, so each function stops as soon as there is no room.
+// exponentially longer than the source, so each function stops as soon as there is no room. An expression without an Or stays as it is.
 ghost use mathlib.Core.Path.{_≡_};
 ghost use Prim.Native.Nat.{ℕ, _+_, _-_, _≤_, _<_};
 ghost use lib.ListN.{length};
@@ -9,8 +9,19 @@ ghost use Rattle.words.specs.Words.{map-operands};
 ghost use Rattle.words.specs.Place.{ExpressionAt, Maps};
 ghost use Rattle.cnf.specs.Cnf.{MapsTwo, spread, spread-right};
 
-// distribute of the expression from lo to hi.
+// distribute of the expression from lo to hi, which is its words as they are if it holds no Or.
 pub fn distribute(s: &[usize], lo: usize, hi: usize, d: &mut [usize], at: usize) -> usize
+    requires { ⌜ ExpressionAt (now s) lo hi ⌝ }
+    ensures { λ r. ⌜ Maps Expression.distribute (now (s .entry)) lo hi (now (d .entry)) at r (now (d .exit)) ⌝ }
+{
+    if nnf::contains_tag(s, lo, hi, 11) {
+        return distribute_expression(s, lo, hi, d, at);
+    }
+    cells::copy(s, lo, hi, d, at)
+}
+
+// distribute of the expression from lo to hi, cell by cell.
+fn distribute_expression(s: &[usize], lo: usize, hi: usize, d: &mut [usize], at: usize) -> usize
     requires { ⌜ ExpressionAt (now s) lo hi ⌝ }
     ensures { λ r. ⌜ Maps Expression.distribute (now (s .entry)) lo hi (now (d .entry)) at r (now (d .exit)) ⌝ }
 {
@@ -36,12 +47,12 @@ fn distribute_operands(s: &[usize], lo: usize, hi: usize, d: &mut [usize], at: u
     }
     let k = hi - 6;
     if 30 <= c.tag {
-        let m = distribute(s, lo, k, d, at);
+        let m = distribute_expression(s, lo, k, d, at);
         return cells::put(d, at, m, c);
     }
     let mid = cells::start(s, k);
-    let m = distribute(s, lo, mid, d, at);
-    let j = distribute(s, mid, k, d, m);
+    let m = distribute_expression(s, lo, mid, d, at);
+    let j = distribute_expression(s, mid, k, d, m);
     cells::put(d, at, j, c)
 }
 
@@ -110,8 +121,8 @@ fn or_right(
             },
         );
     }
-    let m = distribute(s, a, x, d, at);
-    let j = distribute(s, b, z, d, m);
+    let m = distribute_expression(s, a, x, d, at);
+    let j = distribute_expression(s, b, z, d, m);
     cells::put(
         d,
         at,

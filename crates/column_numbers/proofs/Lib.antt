@@ -1,2 +1,4 @@
+pub mod Changing
+pub mod Flat
 pub mod Steps
 pub mod Referring

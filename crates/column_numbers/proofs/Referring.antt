@@ -1,39 +1,31 @@
--- What an expression refers to, from what its operands do.
-use Prim.Native.Nat.{ℕ, _-_, _≤_, _<_}
+-- What an expression refers to, from what its cells do, one after the other.
+use Prim.Native.Nat.{ℕ, _+_, _≤_, _<_}
 use native.Mathlib.Omega.{arith}
-use mathlib.Core.Bool.{Bool, true, false, not, _||_, cond}
-use mathlib.Core.Path.{_≡_, refl, ap, ap₂, _∙_}
-use mathlib.Core.List.{List}
-use lib.Dec.{ltb}
-use Rattle.value.specs.Value.{False, Unknown, True, integer, float, string, Value, truth, datum}
-use Rattle.sql.specs.Expression.{constant, column}
+use mathlib.Core.Bool.{Bool, true, false, not, _||_, cond, or-assoc, or-comm}
+use mathlib.Core.Path.{_≡_, refl, sym, ap, ap₂, _∙_}
+use mathlib.Core.List.{List, [], _∷_, _++_}
+use lib.ListN.{length}
+use lib.Dec.{eqb, ltb}
+use borrow.Author.Tests.{eq-eqb, ne-eqb}
+use Rattle.sql.specs.Expression.{Expression, constant, column, unary, binary}
 use Rattle.sql.specs.Optimizer.{ref-left, ref-right}
-use Rattle.sheet.specs.Content.{constant-cell, column-cell}
+use Rattle.sheet.specs.Content.{Content, constant-cell, column-cell, unary-cell, binary-cell}
 use Rattle.cells.specs.declared.Cell.{Cell}
-use Rattle.cells.specs.Cells.{cell-at, tag-at, start-at}
-use Rattle.words.specs.Words.{cell}
+use Rattle.cells.specs.Cells.{cell-at, Part}
+use Rattle.words.specs.Words.{cell, expression-words}
 use Rattle.words.specs.Place.{ExpressionHere}
-use Rattle.words.proofs.Expressions.{by-leaf, by-unary, by-binary, root-is, root-tag, here-operand, here-left, here-right}
+use Rattle.words.proofs.Expressions.{tag, constant-tag, unary-range, binary-range}
 use Rattle.column_numbers.specs.declared.References.{References}
 use Rattle.column_numbers.specs.declared.References.the-variants.{Neither, Left, Right}
-use Rattle.column_numbers.specs.References.{sides, RefersTo, cell-refers, together}
+use Rattle.column_numbers.specs.References.{sides, column-refers, together}
+use Rattle.column_numbers.specs.Flat.{flat, cells-before}
+use Rattle.column_numbers.proofs.Flat.{flat-words, next-cell, no-cell, cell-room}
 
-constant-refers : (n : ℕ) (v : Value) → cell-refers n (cell (constant-cell v)) ≡ Neither
-unfolding cell
-constant-refers n (truth False) = refl
-constant-refers n (truth Unknown) = refl
-constant-refers n (truth True) = refl
-constant-refers n (datum (integer i)) = refl
-constant-refers n (datum (float b)) = refl
-constant-refers n (datum (string r t)) = refl
+-- ---- one cell
 
 one-side : (b : Bool) → cond b Left Right ≡ sides b (not b)
 one-side true = refl
 one-side false = refl
-
-column-refers : (n i : ℕ) → cell-refers n (cell (column-cell i)) ≡ sides (ltb i n) (not (ltb i n))
-unfolding cell
-column-refers n i = one-side (ltb i n)
 
 together-sides : (a b c d : Bool) → together (sides a b) (sides c d) ≡ sides (a || c) (b || d)
 together-sides false false c d = refl
@@ -47,19 +39,84 @@ together-sides false true false true = refl
 together-sides false true true true = refl
 together-sides true true c d = refl
 
-module _ (n : ℕ) {s : List ℕ} {lo hi : ℕ} where
-  pub refers-leaf : {c : Cell} → c ≡ cell-at s hi → tag-at s hi < 10 → {r : References} → r ≡ cell-refers n c → RefersTo n s lo hi r
-  refers-leaf q h {r} f e u = by-leaf (λ e. ExpressionHere s lo hi e → r ≡ sides (ref-left n e) (ref-right n e))
-      (λ v t. f ∙ (ap (cell-refers n) (q ∙ root-is (constant v) t) ∙ constant-refers n v))
-      (λ i t. f ∙ (ap (cell-refers n) (q ∙ root-is (column i) t) ∙ column-refers n i))
-      e (omega (arith, root-tag e u)) u
+module _ (n : ℕ) where
+  -- of any cell
+  abbrev cell-refers : Cell → References
+  cell-refers c = cond (eqb (c .tag) 6) (column-refers n (c .a)) Neither
 
-  pub refers-unary : 30 ≤ tag-at s hi → {r : References} → RefersTo n s lo (hi - 6) r → RefersTo n s lo hi r
-  refers-unary h {r} f e u = by-unary (λ e. ExpressionHere s lo hi e → r ≡ sides (ref-left n e) (ref-right n e))
-      (λ o x t. f x (here-operand o x t)) e (omega (arith, root-tag e u)) u
+  column-cell-refers : (i : ℕ) → cell-refers (cell (column-cell i)) ≡ sides (ltb i n) (not (ltb i n))
+  unfolding cell
+  column-cell-refers i = one-side (ltb i n)
 
-  pub refers-binary : 10 ≤ tag-at s hi → tag-at s hi < 30 → {mid : ℕ} → mid ≡ start-at s (hi - 6) → {a b r : References}
-      → RefersTo n s lo mid a → RefersTo n s mid (hi - 6) b → r ≡ together a b → RefersTo n s lo hi r
-  refers-binary h k st {a} {b} {r} f g q e u = by-binary (λ e. ExpressionHere s lo hi e → r ≡ sides (ref-left n e) (ref-right n e))
-      (λ o x y t. q ∙ (ap₂ together (f x (here-left st o x y t)) (g y (here-right st o x y t)) ∙ together-sides (ref-left n x) (ref-right n x) (ref-left n y) (ref-right n y)))
-      e (omega (arith, root-tag e u)) (omega (arith, root-tag e u)) u
+  other-refers : (k : Content) → (tag k ≡ 6 → ⊥) → cell-refers (cell k) ≡ Neither
+  unfolding cell
+  other-refers k h = simp (ne-eqb (tag k) 6 h)
+
+  -- ---- cells that follow each other, behind some that refer to r
+
+  abbrev scan : References → List (Cell × ℕ) → References
+  scan r [] = r
+  scan r (k ∷ ks) = scan (together (cell-refers (k .0)) r) ks
+
+  scan-other : (r : References) (k : Content) (size : ℕ) (ks : List (Cell × ℕ)) → (tag k ≡ 6 → ⊥) → scan r ((cell k, size) ∷ ks) ≡ scan r ks
+  scan-other r k size ks h = ap (λ (a : References). scan (together a r) ks) (other-refers k h)
+
+  one-more : (a l r : Bool) → (r || (l || a)) ≡ (l || r || a)
+  one-more a l r = sym (or-assoc r l a) ∙ ap (λ (b : Bool). b || a) (or-comm r l)
+
+  scan-before : (e : Expression) (a b : Bool) (ks : List (Cell × ℕ))
+      → scan (sides a b) (cells-before e ks) ≡ scan (sides (ref-left n e || a) (ref-right n e || b)) ks
+  scan-before (constant v) a b ks = scan-other (sides a b) (constant-cell v) 6 ks (λ z. omega (arith, constant-tag v))
+  scan-before (column i) a b ks =
+      ap (λ (r : References). scan r ks)
+      (ap (λ (r : References). together r (sides a b)) (column-cell-refers i) ∙ together-sides (ltb i n) (not (ltb i n)) a b)
+  scan-before (unary o x) a b ks =
+      let size = length (expression-words x) + 6 in
+      scan-before x a b ((cell (unary-cell o), size) ∷ ks)
+      ∙ scan-other (sides (ref-left n x || a) (ref-right n x || b)) (unary-cell o) size ks (λ z. omega (arith, unary-range o))
+  scan-before (binary o l r) a b ks =
+      let size = length (expression-words l ++ expression-words r) + 6 in
+      let k : Cell × ℕ = (cell (binary-cell o), size) in
+      let a′ = ref-left n l || a in
+      let b′ = ref-right n l || b in
+      scan-before l a b (cells-before r (k ∷ ks))
+      ∙ scan-before r a′ b′ (k ∷ ks)
+      ∙ scan-other (sides (ref-left n r || a′) (ref-right n r || b′)) (binary-cell o) size ks (λ z. omega (arith, binary-range o .0))
+      ∙ ap (λ (r : References). scan r ks)
+      (ap₂ sides (one-more a (ref-left n l) (ref-left n r)) (one-more b (ref-right n l) (ref-right n r)))
+
+  scan-all : (e : Expression) → scan Neither (cells-before e []) ≡ sides (ref-left n e) (ref-right n e)
+  scan-all e = scan-before e false false [] ∙ ap₂ sides (or-comm (ref-left n e) false) (or-comm (ref-right n e) false)
+
+-- The cells from i up to hi are left, and those before them refer to r.
+pub record Scanned (n : ℕ) (s : List ℕ) (hi i : ℕ) (r : References) (e : Expression) : Type 0 where
+  pub rest : List (Cell × ℕ)
+  pub part : Part s i hi (flat rest)
+  pub is : scan n r rest ≡ sides (ref-left n e) (ref-right n e)
+
+pub scanned-none : (n : ℕ) {s : List ℕ} {lo hi : ℕ} (e : Expression) → ExpressionHere s lo hi e → Scanned n s hi lo Neither e
+scanned-none n e u = record { rest = cells-before e []; part = rw (flat-words e) (u .part); is = scan-all n e }
+
+module _ {n : ℕ} {s : List ℕ} {hi i : ℕ} {r : References} {e : Expression} (g : Scanned n s hi i r e) where
+  pub scanned-in : i < hi → (i + 6 ≤ hi) × (hi ≤ length s)
+  scanned-in h = cell-room h (g .rest) (g .part)
+
+  module _ (h : i < hi) {c : Cell} (q : c ≡ cell-at s (i + 6)) where
+    scanned-next : {b : References} → b ≡ together (cell-refers n c) r → Scanned n s hi (i + 6) b e
+    scanned-next {b} y =
+        next-cell (λ ks. scan n r ks ≡ sides (ref-left n e) (ref-right n e) → Scanned n s hi (i + 6) b e) h
+        (λ k ks f p z.
+        record { rest = ks; part = p; is = ap (λ (a : References). scan n a ks) (y ∙ ap (λ (x : Cell). together (cell-refers n x) r) (q ∙ f)) ∙ z })
+        (g .rest) (g .part) (g .is)
+
+    pub scanned-column : c .tag ≡ 6 → {a b : References} → a ≡ column-refers n (c .a) → b ≡ together a r → Scanned n s hi (i + 6) b e
+    scanned-column z {a} x y =
+        let w : a ≡ cell-refers n c = x ∙ simp (eq-eqb (c .tag) 6 z) in
+        scanned-next (y ∙ ap (λ (a : References). together a r) w)
+
+    pub scanned-other : (c .tag ≡ 6 → ⊥) → Scanned n s hi (i + 6) r e
+    scanned-other z = scanned-next (simp (ne-eqb (c .tag) 6 z))
+
+  pub scanned-all : hi ≤ i → r ≡ sides (ref-left n e) (ref-right n e)
+  scanned-all h =
+      no-cell (λ ks. scan n r ks ≡ sides (ref-left n e) (ref-right n e) → r ≡ sides (ref-left n e) (ref-right n e)) h (λ z. z) (g .rest) (g .part) (g .is)

@@ -1,21 +1,26 @@
--- What a rewrite of columns asks of an expression's operands, and what it has written, from what its calls have.
-use Prim.Native.Nat.{ℕ, _-_, _≤_, _<_}
+-- What a rewrite of columns asks of an expression's cells, and what it has written, from what its calls have.
+use Prim.Native.Nat.{ℕ, _+_, _≤_, _<_}
 use native.Mathlib.Omega.{arith}
-use mathlib.Core.Path.{_≡_, refl, sym, ap, _∙_, subst}
-use mathlib.Core.List.{List, []}
-use Rattle.value.specs.Value.{False, Unknown, True, integer, float, string, Value, truth, datum}
+use mathlib.Core.Logic.{⊎-elim}
+use mathlib.Core.Path.{_≡_, refl, sym, ap, ap₂, _∙_}
+use mathlib.Core.List.{List, [], _∷_, _++_, append-assoc, map}
+use lib.ListN.{length, take, drop, length-append, take-append-drop}
+use lib.Seq.{take-at, length-take-le}
+use borrow.Author.Tests.{ne-eqb}
 use Rattle.sql.specs.Expression.{Expression, constant, column, unary, binary, map-columns}
-use Rattle.sheet.specs.Content.{constant-cell, column-cell}
+use Rattle.sheet.specs.Content.{Content, constant-cell, column-cell, unary-cell, binary-cell}
 use Rattle.cells.specs.declared.Cell.{Cell}
-use Rattle.cells.specs.Cells.{sized, cell-at, tag-at, start-at}
-use Rattle.cells.specs.Room.{Wrote, Seals}
-use Rattle.cells.proofs.Laws.{nothing}
-use Rattle.words.specs.Words.{cell, root, expression-words, map-operands}
+use Rattle.cells.specs.Cells.{Part}
+use Rattle.cells.specs.Room.{Copies}
+use Rattle.cells.proofs.Laws.{no-room, done, lt-or-ge, wrote-up}
+use Rattle.words.specs.Words.{cell, expression-words}
 use Rattle.words.specs.Place.{ExpressionHere, ExpressionAt, Maps}
-use Rattle.words.proofs.Expressions.{tag, by-column, by-leaf, by-unary, by-binary, root-is, root-tag, here-operand, here-left, here-right}
+use Rattle.words.proofs.Expressions.{tag, constant-tag, unary-range, binary-range}
 use Rattle.column_numbers.specs.declared.Change.{Change}
 use Rattle.column_numbers.specs.declared.Change.the-variants.{Down, Up, Replace}
-use Rattle.column_numbers.specs.Columns.{changed, Room, changed-cell, EachColumn, Changeable, SmallAt}
+use Rattle.column_numbers.specs.Columns.{changed, Room, changed-cell, changed-sized, EachCell, CellsAt, Rewrites, EachColumn, Changeable, SmallAt}
+use Rattle.column_numbers.specs.Flat.{flat, cells-before}
+use Rattle.column_numbers.proofs.Flat.{flat-words}
 
 -- ---- a property of each column
 
@@ -43,60 +48,98 @@ module _ {s : List ℕ} {lo hi : ℕ} where
   pub up : (n : ℕ) → n < 4294967296 → SmallAt s lo hi → Changeable (Up n) s lo hi
   up n h t = record { e = t .e; here = t .here; room = each-so {P = λ c. c < 4294967296} {Q = Room (Up n)} (λ c k. omega arith) (t .e) (t .small) }
 
-module _ {k : Change} {s : List ℕ} {lo hi : ℕ} where
-  pub some-there : Changeable k s lo hi → ExpressionAt s lo hi
-  some-there t = record { e = t .e; here = t .here }
+pub some-there : {k : Change} {s : List ℕ} {lo hi : ℕ} → Changeable k s lo hi → ExpressionAt s lo hi
+some-there t = record { e = t .e; here = t .here }
 
-  pub cell-room : Changeable k s lo hi → {c : Cell} → c ≡ cell-at s hi → c .tag ≡ 6 → Room k (c .a)
-  unfolding cell
-  cell-room t {c} q h = by-column (λ e. ExpressionHere s lo hi e → EachColumn (Room k) e → Room k (c .a))
-      (λ i u f. subst (Room k) (sym (ap (λ (x : Cell). x .a) (q ∙ root-is (column i) u))) f)
-      (t .e) (sym (root-tag (t .e) (t .here)) ∙ (sym (ap (λ (x : Cell). x .tag) q) ∙ h)) (t .here) (t .room)
-
-  pub operand-room : 30 ≤ tag-at s hi → Changeable k s lo hi → Changeable k s lo (hi - 6)
-  operand-room h t = by-unary (λ e. ExpressionHere s lo hi e → EachColumn (Room k) e → Changeable k s lo (hi - 6))
-      (λ o x u f. record { e = x; here = here-operand o x u; room = f }) (t .e) (omega (arith, root-tag (t .e) (t .here))) (t .here) (t .room)
-
-  module _ (h : 10 ≤ tag-at s hi) (j : tag-at s hi < 30) {mid : ℕ} (st : mid ≡ start-at s (hi - 6)) where
-    pub left-room : Changeable k s lo hi → Changeable k s lo mid
-    left-room t = by-binary (λ e. ExpressionHere s lo hi e → EachColumn (Room k) e → Changeable k s lo mid)
-        (λ o l r u f. record { e = l; here = here-left st o l r u; room = f .0 })
-        (t .e) (omega (arith, root-tag (t .e) (t .here))) (omega (arith, root-tag (t .e) (t .here))) (t .here) (t .room)
-
-    pub right-room : Changeable k s lo hi → Changeable k s mid (hi - 6)
-    right-room t = by-binary (λ e. ExpressionHere s lo hi e → EachColumn (Room k) e → Changeable k s mid (hi - 6))
-        (λ o l r u f. record { e = r; here = here-right st o l r u; room = f .1 })
-        (t .e) (omega (arith, root-tag (t .e) (t .here))) (omega (arith, root-tag (t .e) (t .here))) (t .here) (t .room)
-
--- ---- what is written
-
-constant-kept : (k : Change) (v : Value) → changed-cell k (cell (constant-cell v)) ≡ cell (constant-cell v)
+each-cell : (k : Change) (e : Expression) → EachColumn (Room k) e → (cs : List (Cell × ℕ)) → EachCell k cs → EachCell k (cells-before e cs)
 unfolding cell
-constant-kept k (truth False) = refl
-constant-kept k (truth Unknown) = refl
-constant-kept k (truth True) = refl
-constant-kept k (datum (integer n)) = refl
-constant-kept k (datum (float b)) = refl
-constant-kept k (datum (string r t)) = refl
+each-cell k (constant v) h cs f = (λ z. absurd (omega (arith, constant-tag v)), f)
+each-cell k (column i) h cs f = (λ z. h, f)
+each-cell k (unary o x) h cs f = each-cell k x h ((cell (unary-cell o), length (expression-words x) + 6) ∷ cs) (λ z. absurd (omega (arith, unary-range o)), f)
+each-cell k (binary o l r) h cs f =
+    let c : Cell × ℕ = (cell (binary-cell o), length (expression-words l ++ expression-words r) + 6) in
+    each-cell k l (h .0) (cells-before r (c ∷ cs)) (each-cell k r (h .1) (c ∷ cs) (λ z. absurd (omega (arith, binary-range o .0)), f))
+
+-- ---- the cells of the rewritten expression are the rewritten cells
+
+long-kept : (f : ℕ → ℕ) (e : Expression) → length (expression-words e) ≡ length (expression-words (map-columns f e))
+unfolding expression-words
+long-kept f (constant v) = refl
+long-kept f (column i) = refl
+long-kept f (unary o x) = simp length-append (omega (arith, long-kept f x))
+long-kept f (binary o l r) = simp length-append (omega (arith, long-kept f l, long-kept f r))
+
+other-kept : (k : Change) (t : Content) → (tag t ≡ 6 → ⊥) → changed-cell k (cell t) ≡ cell t
+unfolding cell
+other-kept k t h = simp (ne-eqb (tag t) 6 h)
 
 column-changed : (k : Change) (i : ℕ) → changed-cell k (cell (column-cell i)) ≡ cell (column-cell (changed k i))
 unfolding cell
 column-changed k i = refl
 
-as-operands : (f : ℕ → ℕ) (e : Expression) → (tag (root e) ≡ 6 → ⊥) → map-columns f e ≡ map-operands (map-columns f) e
-as-operands f (constant v) h = refl
-as-operands f (column i) h = absurd (h refl)
-as-operands f (unary o x) h = refl
-as-operands f (binary o l r) h = refl
+changed-before : (k : Change) (e : Expression) (cs : List (Cell × ℕ))
+    → map (changed-sized k) (cells-before e cs) ≡ cells-before (map-columns (changed k) e) (map (changed-sized k) cs)
+changed-before k (constant v) cs =
+    ap (λ (c : Cell). (c, 6) ∷ map (changed-sized k) cs) (other-kept k (constant-cell v) (λ z. omega (arith, constant-tag v)))
+changed-before k (column i) cs = ap (λ (c : Cell). (c, 6) ∷ map (changed-sized k) cs) (column-changed k i)
+changed-before k (unary o x) cs =
+    changed-before k x ((cell (unary-cell o), length (expression-words x) + 6) ∷ cs)
+    ∙ ap₂ (λ (c : Cell) (n : ℕ). cells-before (map-columns (changed k) x) ((c, n + 6) ∷ map (changed-sized k) cs))
+    (other-kept k (unary-cell o) (λ z. omega (arith, unary-range o)))
+    (long-kept (changed k) x)
+changed-before k (binary o l r) cs =
+    let f = map-columns (changed k) in
+    let c : Cell × ℕ = (cell (binary-cell o), length (expression-words l ++ expression-words r) + 6) in
+    let m : length (expression-words l ++ expression-words r) ≡ length (expression-words (f l) ++ expression-words (f r)) =
+    simp length-append (omega (arith, long-kept (changed k) l, long-kept (changed k) r)) in
+    changed-before k l (cells-before r (c ∷ cs))
+    ∙ ap (cells-before (f l)) (changed-before k r (c ∷ cs))
+    ∙ ap₂ (λ (c : Cell) (n : ℕ). cells-before (f l) (cells-before (f r) ((c, n + 6) ∷ map (changed-sized k) cs)))
+    (other-kept k (binary-cell o) (λ z. omega (arith, binary-range o .0)))
+    m
 
-module _ {s : List ℕ} {lo hi : ℕ} {d : List ℕ} {at n : ℕ} {d′ : List ℕ} where
-  pub change-leaf : (k : Change) {c j : Cell} → c ≡ cell-at s hi → j ≡ changed-cell k c → tag-at s hi < 10 → Seals d at at j n d′
-      → Maps (map-columns (changed k)) s lo hi d at n d′
-  unfolding expression-words
-  change-leaf k {c} {j} q f h w e u = by-leaf (λ e. ExpressionHere s lo hi e → Wrote d at (expression-words (map-columns (changed k) e)) n d′)
-      (λ v t. subst (λ (x : Cell). Wrote d at (sized [] x) n d′) (f ∙ (ap (changed-cell k) (q ∙ root-is (constant v) t) ∙ constant-kept k v)) (w d [] refl (nothing d at)))
-      (λ i t. subst (λ (x : Cell). Wrote d at (sized [] x) n d′) (f ∙ (ap (changed-cell k) (q ∙ root-is (column i) t) ∙ column-changed k i)) (w d [] refl (nothing d at)))
-      e (omega (arith, root-tag e u)) u
+changed-words : (k : Change) (e : Expression) → flat (map (changed-sized k) (cells-before e [])) ≡ expression-words (map-columns (changed k) e)
+changed-words k e = ap flat (changed-before k e []) ∙ flat-words (map-columns (changed k) e)
 
-  pub change-operands : (f : ℕ → ℕ) → 10 ≤ tag-at s hi → Maps (map-operands (map-columns f)) s lo hi d at n d′ → Maps (map-columns f) s lo hi d at n d′
-  change-operands f h g e u = rw (as-operands f e (λ z. omega (arith, root-tag e u))) (g e u)
+-- ---- what is written
+
+module _ {s : List ℕ} {lo hi : ℕ} {d : List ℕ} {at n : ℕ} {d₁ : List ℕ} (j : length d₁ ≡ length d) (c : Copies s lo hi d at n d₁) where
+  -- where the copy stands
+  abbrev copy-here : n ≤ length d₁ → (e : Expression) → ExpressionHere s lo hi e → Part d₁ at n (flat (cells-before e []))
+  copy-here z e u =
+      let w = expression-words e in
+      let up = wrote-up (c w (u .part)) (omega arith) in
+      let f = c w (u .part) .fits (omega arith) .1 in
+      record {
+        before = take at d;
+        after = drop n d₁;
+        whole = sym (take-append-drop n d₁) ∙ ap (λ (b : List ℕ). b ++ drop n d₁) f ∙ append-assoc (take at d) w (drop n d₁)
+            ∙ ap (λ (b : List ℕ). take at d ++ (b ++ drop n d₁)) (sym (flat-words e));
+        low = length-take-le at d (omega arith);
+        high = omega (arith, ap length (flat-words e));
+      }
+
+  pub copy-cells : {k : Change} → n ≤ length d₁ → Changeable k s lo hi → CellsAt k d₁ at n
+  copy-cells {k} z t = record { cells = cells-before (t .e) []; part = copy-here z (t .e) (t .here); room = each-cell k (t .e) (t .room) [] tt }
+
+  pub change-full : (k : Change) → length d₁ < n → Maps (map-columns (changed k)) s lo hi d at n d₁
+  change-full k z e u =
+      let w = expression-words e in
+      let l = long-kept (changed k) e in
+      no-room
+      (⊎-elim (λ (h : length d < at + length w). omega arith) (λ (h : at + length w ≤ length d). absurd (omega (arith, c w (u .part) .fits h .0)))
+      (lt-or-ge (length d) (at + length w)))
+      (omega arith)
+
+  pub change-done : (k : Change) → n ≤ length d₁ → {r : ℕ} {d₂ : List ℕ} → r ≡ n → Rewrites k d₁ at n d₂ → Maps (map-columns (changed k)) s lo hi d at r d₂
+  change-done k z {r} {d₂} q g e u =
+      let w = expression-words (map-columns (changed k) e) in
+      let l = long-kept (changed k) e in
+      let p = copy-here z e u in
+      let up = wrote-up (c (expression-words e) (u .part)) (omega arith) in
+      let is : d₂ ≡ (take at d ++ w) ++ drop n d₁ =
+      g (cells-before e []) p ∙ ap (λ (b : List ℕ). take at d ++ (b ++ drop n d₁)) (changed-words k e) ∙ sym (append-assoc (take at d) w (drop n d₁)) in
+      done (omega arith) (omega arith)
+      (ap (λ (b : ℕ). take b d₂) q
+      ∙ ap (take n) is
+      ∙ take-at (take at d ++ w) (drop n d₁) n (omega (arith, length-append (take at d) w, length-take-le at d (omega arith))))

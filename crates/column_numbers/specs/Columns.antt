@@ -1,15 +1,18 @@
 -- Rewrites of column numbers, as the code names them, and what they ask of an expression.
 use Prim.Native.Nat.{ℕ, _+_, _-_, _<_}
+use mathlib.Core.Path.{_≡_}
 use mathlib.Core.Bool.{cond}
-use mathlib.Core.List.{List}
+use mathlib.Core.List.{List, [], _∷_, _++_, map}
 use lib.Dec.{eqb, ltb}
 use Rattle.sql.specs.Expression.{Expression, constant, column, unary, binary}
 use Rattle.cells.specs.declared.Cell.{Cell}
+use Rattle.cells.specs.Cells.{Part}
 use Rattle.words.specs.Place.{ExpressionHere}
 use Rattle.column_numbers.specs.declared.SourceColumn.{SourceColumn}
 use Rattle.column_numbers.specs.declared.SourceColumn.the-variants.{Left, Right}
 use Rattle.column_numbers.specs.declared.Change.{Change}
 use Rattle.column_numbers.specs.declared.Change.the-variants.{Down, Up, Replace}
+use Rattle.column_numbers.specs.Flat.{flat}
 
 -- Column c of a joined row, in its own source, if the left source has n columns.
 abbrev pub source-of : ℕ → ℕ → SourceColumn
@@ -30,6 +33,25 @@ Room (Replace from to) c = Unit
 -- a Column's cell has tag 6 and its number in a
 abbrev pub changed-cell : Change → Cell → Cell
 changed-cell k c = cond (eqb (c .tag) 6) (record { tag = c .tag; flag = c .flag; a = changed k (c .a); b = c .b; c = c .c }) c
+
+-- the cell with its size, which stays
+abbrev pub changed-sized : Change → Cell × ℕ → Cell × ℕ
+changed-sized k c = (changed-cell k (c .0), c .1)
+
+-- The columns among these cells can be rewritten.
+abbrev pub EachCell : Change → List (Cell × ℕ) → Type 0
+EachCell k [] = Unit
+EachCell k (c ∷ cs) = (c .0 .tag ≡ 6 → Room k (c .0 .a)) × EachCell k cs
+
+-- Some such cells stand in d from word at up to n.
+pub record CellsAt (k : Change) (d : List ℕ) (at n : ℕ) : Type 0 where
+  pub cells : List (Cell × ℕ)
+  pub part : Part d at n (flat cells)
+  pub room : EachCell k cells
+
+-- The cells that stand in d from at up to n, whatever they are, are rewritten in d′.
+abbrev pub Rewrites : Change → List ℕ → ℕ → ℕ → List ℕ → Type 0
+Rewrites k d at n d′ = (cs : List (Cell × ℕ)) (p : Part d at n (flat cs)) → d′ ≡ p .before ++ (flat (map (changed-sized k) cs) ++ p .after)
 
 -- P holds of each column of an expression.
 abbrev pub EachColumn : (ℕ → Type 0) → Expression → Type 0

@@ -3,10 +3,9 @@ use Prim.Native.Nat.{ℕ}
 use mathlib.Core.Bool.{Bool, true, false, cond}
 use mathlib.Core.Path.{_≡_}
 use mathlib.Core.List.{List}
-use lib.Dec.{eqb, ltb}
+use lib.Dec.{ltb}
 use Rattle.sql.specs.Expression.{Expression}
 use Rattle.sql.specs.Optimizer.{ref-left, ref-right}
-use Rattle.cells.specs.declared.Cell.{Cell}
 use Rattle.words.specs.Place.{ExpressionHere}
 use Rattle.column_numbers.specs.declared.References.{References}
 use Rattle.column_numbers.specs.declared.References.the-variants.{Neither, Left, Right, Both}
@@ -22,9 +21,9 @@ sides true true = Both
 abbrev pub RefersTo : ℕ → List ℕ → ℕ → ℕ → References → Type 0
 RefersTo n s lo hi r = (e : Expression) → ExpressionHere s lo hi e → r ≡ sides (ref-left n e) (ref-right n e)
 
--- what the code's helpers answer: of a cell without operands, and of two operands together
-abbrev pub cell-refers : ℕ → Cell → References
-cell-refers n c = cond (eqb (c .tag) 6) (cond (ltb (c .a) n) Left Right) Neither
+-- what the code's helpers answer: of a column, and of two parts of an expression together
+abbrev pub column-refers : ℕ → ℕ → References
+column-refers n c = cond (ltb c n) Left Right
 
 abbrev pub together : References → References → References
 together Neither b = b

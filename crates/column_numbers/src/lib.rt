@@ -1,11 +1,12 @@
 // expression.rs, shift_column and replace_column, and optimizer.rs, ref_left and ref_right: the numbers of an expression's columns. An expression is in its
-// working form (crate cells), and the rewritten one is appended to another slice.
+// working form (crate cells), and the rewritten one is appended to another slice. Its cells follow each other, operands before operators, and what is asked or
+// rewritten stands in a column's cell alone: so a loop over the cells does it, whatever the operators are and however deep they nest.
 ghost use mathlib.Core.Path.{_≡_};
 ghost use Prim.Native.Nat.{_+_, _-_, _<_};
 ghost use Rattle.sql.specs.Expression.{map-columns, replace-column, shift-column-down, shift-column-up};
 ghost use Rattle.words.specs.Place.{ExpressionAt, Maps};
-ghost use Rattle.column_numbers.specs.Columns.{source-of, changed, Room, changed-cell, Changeable, SmallAt};
-ghost use Rattle.column_numbers.specs.References.{cell-refers, together, RefersTo};
+ghost use Rattle.column_numbers.specs.Columns.{source-of, changed, Room, CellsAt, Rewrites, Changeable, SmallAt};
+ghost use Rattle.column_numbers.specs.References.{column-refers, together, RefersTo};
 
 // A column of a join's left source.
 pub struct LeftColumn(pub usize);
@@ -94,21 +95,19 @@ fn changed(k: Change, c: usize) -> usize
     }
 }
 
-// A constant's or a column's cell, rewritten.
-fn changed_cell(c: cells::Cell, k: Change) -> cells::Cell
-    requires { ⌜ (c .tag ≡ 6 → Room k (c .a)) ⌝ }
-    ensures { λ r. ⌜ r ≡ changed-cell k c ⌝ }
+// The columns among the cells of d from `at` up to n, rewritten where they stand: no cell changes its size.
+fn change_columns(d: &mut [usize], at: usize, n: usize, k: Change) -> usize
+    requires { ⌜ CellsAt k (now d) at n ⌝ }
+    ensures { λ r. ⌜ (r ≡ n) × Rewrites k (now (d .entry)) at n (now (d .exit)) ⌝ }
 {
-    if c.tag == 6 {
-        return cells::Cell {
-            tag: c.tag,
-            flag: c.flag,
-            a: changed(k, c.a),
-            b: c.b,
-            c: c.c,
-        };
+    let mut i = at;
+    while i < n {
+        if d[i] == 6 {
+            d[i + 2] = changed(k, d[i + 2]);
+        }
+        i += 6;
     }
-    c
+    n
 }
 
 // The expression from lo to hi with its columns rewritten.
@@ -123,19 +122,11 @@ pub fn map_columns(
     requires { ⌜ Changeable k (now s) lo hi ⌝ }
     ensures { λ r. ⌜ Maps (map-columns (changed k)) (now (s .entry)) lo hi (now (d .entry)) at r (now (d .exit)) ⌝ }
 {
-    let c = cells::cell_at(s, hi);
-    if c.tag < 10 {
-        return cells::put(d, at, at, changed_cell(c, k));
+    let n = cells::copy(s, lo, hi, d, at);
+    if d.len() < n {
+        return n;
     }
-    let end = hi - 6;
-    if 30 <= c.tag {
-        let m = map_columns(s, lo, end, d, at, k);
-        return cells::put(d, at, m, c);
-    }
-    let mid = cells::start(s, end);
-    let m = map_columns(s, lo, mid, d, at, k);
-    let j = map_columns(s, mid, end, d, m, k);
-    cells::put(d, at, j, c)
+    change_columns(d, at, n, k)
 }
 
 // shift_column by −n: from the joined row to the right source's row.
@@ -192,20 +183,17 @@ pub enum References {
     Both,
 }
 
-// What a constant's or a column's cell refers to.
-fn cell_refers(c: cells::Cell, n: usize) -> References
-    ensures { λ r. ⌜ r ≡ cell-refers n c ⌝ }
+// What a column refers to, where the left source has n columns.
+fn column_refers(c: usize, n: usize) -> References
+    ensures { λ r. ⌜ r ≡ column-refers n c ⌝ }
 {
-    if c.tag == 6 {
-        if c.a < n {
-            return References::Left;
-        }
-        return References::Right;
+    if c < n {
+        return References::Left;
     }
-    References::Neither
+    References::Right
 }
 
-// What two operands refer to together.
+// What two parts of an expression refer to together.
 fn together(a: References, b: References) -> References
     ensures { λ r. ⌜ r ≡ together a b ⌝ }
 {
@@ -232,16 +220,15 @@ pub fn refers(s: &[usize], lo: usize, hi: usize, n: usize) -> References
     requires { ⌜ ExpressionAt (now s) lo hi ⌝ }
     ensures { λ r. ⌜ RefersTo n (now (s .entry)) lo hi r ⌝ }
 {
-    let c = cells::cell_at(s, hi);
-    if c.tag < 10 {
-        return cell_refers(c, n);
+    let mut r = References::Neither;
+    let mut i = lo;
+    while i < hi {
+        i += 6;
+        let c = cells::cell_at(s, i);
+        if c.tag == 6 {
+            // The column stands first: it is on one side, so only two cases of `together` are left.
+            r = together(column_refers(c.a, n), r);
+        }
     }
-    let end = hi - 6;
-    if 30 <= c.tag {
-        return refers(s, lo, end, n);
-    }
-    let mid = cells::start(s, end);
-    let l = refers(s, lo, mid, n);
-    let r = refers(s, mid, end, n);
-    together(l, r)
+    r
 }

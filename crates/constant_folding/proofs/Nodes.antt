@@ -7,19 +7,21 @@ use mathlib.Core.List.{List, [], _∷_, _++_, append-assoc}
 use mathlib.Core.Option.{Option, none, some}
 use lib.ListN.{length, take, length-append}
 use lib.Seq.{take-take}
-use Rattle.sql.specs.Plan.{Leaf, Over, Join, Node, leaf, over, join, node-size}
+use Rattle.sql.specs.Plan.{Leaf, scan, lookup, nothing, values, Over, Join, Node, leaf, over, join, node-size}
 use Rattle.sql.specs.Answer.{Answer, done, refused, _>>=_}
 use Rattle.sql.specs.Optimizer.{fold-leaf, fold-over, fold-join, ConstantFolding}
+use Rattle.sheet.specs.Content.{row-cell}
 use Rattle.sheet_laws.specs.Fits.{All, Optional}
+use Rattle.sheet_laws.specs.Counts.{size-positive}
 use Rattle.sound.specs.Answers.{answer-is}
 use Rattle.cells.specs.declared.Cell.{Cell}
 use Rattle.cells.specs.Cells.{sized, cell-at, start-at, Part, Sized}
 use Rattle.cells.specs.Room.{Wrote, Seals, Copies}
 use Rattle.cells.proofs.Laws.{then, part-left, part-right, part-in}
-use Rattle.words.specs.Words.{cell, node-words, leaf-own, over-own, join-own, leaf-cell, over-cell, join-cell, source-words, own-words, node-cell}
+use Rattle.words.specs.Words.{cell, all-words, expression-words, row-words, node-words, leaf-own, over-own, join-own, leaf-cell, over-cell, join-cell, source-words, own-words, node-cell}
 use Rattle.words.specs.Place.{NodeHere, NodeAt}
 use Rattle.words.proofs.Nodes.{node-shape, node-cell-is, node-in, node-size-at, node-start, node-long, source-part}
-use Rattle.words.proofs.Sizes.{sized-long, words-long}
+use Rattle.words.proofs.Sizes.{sized-long, expression-long, words-long}
 use Rattle.nodes.specs.Own.{OwnStart}
 use Rattle.fold_operator.specs.Left.{Appended}
 use Rattle.fold_operator.specs.declared.Folded.{Folded}
@@ -28,7 +30,7 @@ use Rattle.fold_operator.proofs.Parts.{appended, wrote, appended-part, before-s
 use Rattle.fold_parts.specs.Leaves.{Leaves, Up-to}
 use Rattle.fold_parts.specs.Parts.{Part-fits}
 use Rattle.fold_parts.specs.Own.{own-parts, OwnHere, OwnAt, Own-left, FoldsOwn}
-use Rattle.fold_parts.proofs.Leaves.{appended-none, appended-then, appended-as, said-as, up-to-as, refused-on, done-on, made-into, made-of}
+use Rattle.fold_parts.proofs.Leaves.{appended-none, appended-then, appended-as, answer-as, said-as, up-to-as, refused-on, done-on, made-into, made-of}
 use Rattle.constant_folding.specs.Nodes.{Node-fits, earlier-source, last-source, words-of, fold-source, SourcesAt, LastStart, ClosesAt, Closes, SourceHere, SourceAt, Same-below, Stays, FoldsSource}
 use Rattle.constant_folding.proofs.Cells.{leaf-cell-kept, over-cell-kept, join-cell-kept}
 
@@ -232,6 +234,38 @@ source-none {text} {x} {lo} {hi} {y} {at} h = record { leaves = go; within = rec
     go : (first : ℕ) (source : Option Node) → lo ≡ 6 * first → SourceHere text x lo hi source → Leaves words-of y at (fold-source first source) (Folded.Done at) y
     go first none e u = record { left = appended-none y at }
     go first (some p) e u = absurd (omega (arith, node-six p, u .stand .high))
+
+-- A node of one cell folds to itself.
+
+leaf-alone : (first : ℕ) (l : Leaf) → length (leaf-own l) ≡ 0 → fold-leaf first l ≡ done l
+leaf-alone first (scan t al none) h = refl
+leaf-alone first (scan t al (some e)) h = absurd (omega (arith, expression-long e, size-positive e))
+leaf-alone first (lookup a t al vs) h = refl
+leaf-alone first (nothing ls) h = refl
+leaf-alone first (values []) h = refl
+leaf-alone first (values (r ∷ rs)) h =
+    absurd (omega (arith, length-append (row-words r) (all-words row-words rs), sized-long (all-words expression-words r) (cell (row-cell (length r)))))
+
+node-alone : {x : List ℕ} {lo hi : ℕ} (first : ℕ) (p : Node) → NodeHere x lo hi p → hi - lo ≡ 6 → ConstantFolding first p ≡ done p
+node-alone first (leaf l) u h = ap (λ (a : Answer Leaf). a >>= λ m. done (leaf m)) (leaf-alone first l (omega (arith, node-long (leaf l) u)))
+node-alone first (over o n) u h = absurd (omega (arith, node-long (over o n) u, node-six n))
+node-alone first (join outer j l r) u h = absurd (omega (arith, node-long (join outer j l r) u, node-six l, length-append (node-words l) (node-words r)))
+
+module _ {text x : List ℕ} {lo hi : ℕ} where
+  pub source-in : lo < hi → SourceAt text x lo hi → (lo ≤ hi) × (hi ≤ length x)
+  source-in h t = by-node (λ o. (lo ≤ hi) × (hi ≤ length x)) (λ p u f. (omega arith, node-in p u .1)) h (t .source) (t .here)
+
+  pub source-single : {y : List ℕ} {at : ℕ} {z : List ℕ} {zat r : ℕ} {y₁ : List ℕ} → hi - lo ≡ 6 → at + (hi - lo) ≤ length y → SourceAt text x lo hi → Copies x lo hi y at r y₁
+      → FoldsSource text x lo hi y at z zat (Folded.Done r) y₁ z
+  source-single {y} {at} {r = r} {y₁ = y₁} h room t c = record {
+    leaves = λ first source k u. by-node (λ o. Leaves words-of y at (fold-source first o) (Folded.Done r) y₁)
+        (λ p v f. made-into (ConstantFolding first p) some (λ q. refl) (answer-as (sym (node-alone first p v h)) (record { left = copied p v }))) (omega arith) source u;
+    within = record { ends = by-node (λ o. r ≤ at + (hi - lo)) (λ p v f. omega (arith, copied p v .ends, v .part .high)) (omega arith) (t .source) (t .here) };
+    stays = record { same = refl };
+  }
+    where
+      copied : (p : Node) → NodeHere x lo hi p → Appended y at (node-words p) r y₁
+      copied p v = appended (c (node-words p) (v .part)) (omega (arith, v .part .high))
 
 -- the answer without its `some`
 pub node-left : {y : List ℕ} {at : ℕ} {r : Folded} {y′ : List ℕ} (first : ℕ) (p : Node) → Leaves words-of y at (fold-source first (some p)) r y′ → Leaves node-words y at (ConstantFolding first p) r y′

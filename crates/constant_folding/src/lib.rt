@@ -36,9 +36,43 @@ fn close(
     cells::put(y, at, end, cells::cell_at(x, hi))
 }
 
-// The node from lo to hi; nothing, if there is none. What is written is never longer than the node, so that there is always room. A chain of nodes without
-// parts, which fold to themselves, is gone through without a frame for each (crate chain).
+// The node from lo to hi. What is written is never longer than the node, so that there is always room. A chain of nodes without parts, which fold to
+// themselves, is gone through without a frame for each (crate chain).
 fn fold_node(
+    text: &[u8],
+    x: &[usize],
+    lo: usize,
+    hi: usize,
+    y: &mut [usize],
+    at: usize,
+    z: &mut [usize],
+    zat: usize,
+) -> Folded
+    requires { ⌜ SourceAt (now text) (now x) lo hi × (lo < hi) ⌝ }
+    requires { ⌜ (at + (hi - lo) ≤ length (now y)) × (zat + (hi - lo) ≤ length (now z)) ⌝ }
+    ensures { λ r. ⌜ FoldsSource (now (text .entry)) (now (x .entry)) lo hi (now (y .entry)) at (now (z .entry)) zat r (now (y .exit)) (now (z .exit)) ⌝ }
+{
+    let end = chain::descend_bare(x, lo, hi);
+    let m = nodes::own_start(x, lo, end);
+    let mid = last_source(x, lo, m);
+    match fold_parts::fold_own(text, x, lo, end, z, zat, m) {
+        Folded::Done(n) => match fold_source(text, x, lo, mid, y, at, z, n) {
+            Folded::Done(e) => match fold_source(text, x, mid, m, y, e, z, n) {
+                Folded::Done(f) => {
+                    let u = close(x, end, y, at, f, z, zat, n);
+                    Folded::Done(chain::follow(x, end, hi, y, at, u))
+                }
+                Folded::Refused(number, place) => Folded::Refused(number, place),
+            },
+            Folded::Refused(number, place) => Folded::Refused(number, place),
+        },
+        Folded::Refused(number, place) => Folded::Refused(number, place),
+    }
+}
+
+// The node from lo to hi; nothing, if there is none. Most nodes have one source or none, and what isn't there needs no call of fold_node (LLVM puts this
+// function into its caller). A node of one cell, as a Scan without a filter, folds to itself, and needs none either.
+fn fold_source(
     text: &[u8],
     x: &[usize],
     lo: usize,
@@ -55,22 +89,10 @@ fn fold_node(
     if hi <= lo {
         return Folded::Done(at);
     }
-    let end = chain::descend_bare(x, lo, hi);
-    let m = nodes::own_start(x, lo, end);
-    let mid = last_source(x, lo, m);
-    match fold_parts::fold_own(text, x, lo, end, z, zat, m) {
-        Folded::Done(n) => match fold_node(text, x, lo, mid, y, at, z, n) {
-            Folded::Done(e) => match fold_node(text, x, mid, m, y, e, z, n) {
-                Folded::Done(f) => {
-                    let u = close(x, end, y, at, f, z, zat, n);
-                    Folded::Done(chain::follow(x, end, hi, y, at, u))
-                }
-                Folded::Refused(number, place) => Folded::Refused(number, place),
-            },
-            Folded::Refused(number, place) => Folded::Refused(number, place),
-        },
-        Folded::Refused(number, place) => Folded::Refused(number, place),
+    if hi - lo == 6 {
+        return Folded::Done(cells::copy(x, lo, hi, y, at));
     }
+    fold_node(text, x, lo, hi, y, at, z, zat)
 }
 
 // The plan in the first t words of x.

@@ -13,7 +13,7 @@ use Rattle.sql.specs.Optimizer
 use Rattle.chain.specs.Chain.{chain, sizes, GoesDown}
 use Rattle.chain.specs.Resized.{Reseals}
 use Rattle.chain.proofs.Chains.{chain-size}
-use Rattle.chain.proofs.Edits.{Descends, end-inside, below-held, chain-same, chain-stop, chain-fits, chain-go}
+use Rattle.chain.proofs.Edits.{Descends, end-inside, below-held, chain-same, chain-stop, chain-fits, chain-go, go-as-long}
 use Rattle.kept.specs.Kept.{kept}
 use Rattle.kept.specs.Pass.{PassAt, Passes}
 use Rattle.push_filters.proofs.Pushing.{pass-at, pass-also, bind-assoc}
@@ -86,3 +86,7 @@ module _ {widths x : List ℕ} {t lo tail left end : ℕ} (n : ℕ) (d : GoesDow
         → Passes (λ room schema. push-filters-from room schema n) widths x t lo tail v x₂
     chain-done z j seal schema text tables given =
         chain-go (kept schema text tables) d (From n schema) (From left schema) (descends schema n left) (a schema text tables given) z j seal
+
+    pub chain-as-long : r ≤ length x₁ → r ≡ t → Passes (λ room schema. push-filters-from room schema n) widths x t lo tail r x₁
+    chain-as-long z e schema text tables given =
+        go-as-long (kept schema text tables) d (From n schema) (From left schema) (descends schema n left) (a schema text tables given) z e

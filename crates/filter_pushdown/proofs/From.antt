@@ -1,15 +1,20 @@
 -- Laws on push_filters_from in place, and on the whole pass.
-use Prim.Native.Nat.{ℕ, zero, suc, _-_, _/_, _≤_, _<_}
+use Prim.Native.Nat.{ℕ, zero, suc, _+_, _-_, _/_, _≤_, _<_}
 use native.Mathlib.Omega.{arith}
 use mathlib.Core.Path.{_≡_, refl, ap}
 use mathlib.Core.List.{List}
 use lib.ListN.{length}
+use borrow.Author.Tests.{le-leb}
 use Rattle.sql.specs.Schema.{Schema}
-use Rattle.sql.specs.Plan.{Node, node-size}
-use Rattle.sql.specs.Answer.{Answer, _>>=_}
-use Rattle.sql.specs.Room.{push-filters, each-source, push-filters-from, FilterPushdown}
+use Rattle.sql.specs.Plan.{Leaf, Node, leaf, over, join, node-size}
+use Rattle.sql.specs.Answer.{Answer, done, _>>=_}
+use Rattle.sql.specs.Room.{if-room, maybe-push-join, maybe-push-filter, push-filters, each-source, push-filters-from, FilterPushdown}
+use Rattle.sql.specs.Optimizer
+use Rattle.literal.specs.Nodes.{nodes-positive, nodes-cells}
+use Rattle.words.proofs.Sizes.{words-long}
 use Rattle.edit.specs.Edit.{Holds, Shares}
-use Rattle.edit.proofs.Edits.{total-cells}
+use Rattle.edit.proofs.Edits.{total, total-cells, edit-same}
+use Rattle.kept.specs.Kept.{kept}
 use Rattle.kept.specs.Pass.{Passes}
 use Rattle.push_filters.proofs.Pushing.{passes-stop, passes-go, passes-as}
 
@@ -39,6 +44,24 @@ module _ (n : ℕ) (i : n ≡ 0 → ⊥) {widths x : List ℕ} {t lo tail u : �
       → Passes (λ room schema. each-source room schema (push-filters-from room schema (n - 1))) widths x₁ u lo tail r x₂
       → Passes (λ room schema. push-filters-from room schema n) widths x t lo tail r x₂
   from-again z e b = as-from (passes-go (λ room schema. push-filters room schema n) (sources-from (n - 1)) a z e b)
+
+-- ---- a node of one cell has no source and nothing to push, so it stays as it is
+leaf-same : (room : ℕ) (schema : Schema) (n rest : ℕ) (l : Leaf) → rest + node-size (leaf l) ≤ room
+    → push-filters-from room schema n rest (leaf l) ≡ done (leaf l)
+unfolding push-filters-from maybe-push-filter maybe-push-join Optimizer.maybe-push-join
+leaf-same room schema zero rest l h = refl
+leaf-same room schema (suc n) rest l h =
+    ap (λ b. if-room b (leaf l) >>= each-source room schema (push-filters-from room schema n) rest) (le-leb (rest + node-size (leaf l)) room h)
+
+one-same : (room : ℕ) (schema : Schema) (n rest : ℕ) (p : Node) → node-size p ≡ 1 → rest + node-size p ≤ room → push-filters-from room schema n rest p ≡ done p
+one-same room schema n rest (leaf l) e h = leaf-same room schema n rest l h
+one-same room schema n rest (over o source) e h = absurd (omega (arith, nodes-cells (over o source), nodes-positive source))
+one-same room schema n rest (join outer j left right) e h = absurd (omega (arith, nodes-cells (join outer j left right), nodes-positive left))
+
+pub cell-same : {widths x : List ℕ} {t lo tail : ℕ} (n : ℕ) → t - tail - lo ≡ 6 → Passes (λ room schema. push-filters-from room schema n) widths x t lo tail t x
+cell-same n e schema text tables given =
+    edit-same (kept schema text tables) (λ room. push-filters-from room schema n)
+    (λ room rest pre post p s k h. one-same room schema n rest p (omega (arith, total h, words-long p)) (omega (arith, total-cells s h, s .all, h .inside)))
 
 -- ---- the whole plan: t / 6 is the number of its cells
 pub whole-plan : {widths x : List ℕ} {t r : ℕ} {x′ : List ℕ} → Passes (λ room schema. push-filters-from room schema (t / 6)) widths x t 0 0 r x′

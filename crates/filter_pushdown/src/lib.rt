@@ -27,25 +27,48 @@ fn each_source(
     }
     let m = nodes::own_start(x, lo, t - tail);
     if count == 1 {
-        let u = push_filters_from(x, y, z, w, n, t, lo, t - m, widths);
+        let u = push_source(x, y, z, w, n, t, lo, t - m, widths);
         if x.len() < u {
             return u;
         }
         return edit::reseal(x, u, lo, tail);
     }
     let back = t - cells::start(x, m);
-    let u = push_filters_from(x, y, z, w, n, t, lo, back, widths);
+    let u = push_source(x, y, z, w, n, t, lo, back, widths);
     if x.len() < u {
         return u;
     }
-    let v = push_filters_from(x, y, z, w, n, u, u - back, t - m, widths);
+    let v = push_source(x, y, z, w, n, u, u - back, t - m, widths);
     if x.len() < v {
         return v;
     }
     edit::reseal(x, v, lo, tail)
 }
 
-// A node, then the sources of what it became. A chain of nodes that stay as they are is gone through without a frame for each.
+// push_filters_from of a source of a node. A source of one cell, as a Scan without a filter, is left as it is, and needs no call.
+fn push_source(
+    x: &mut [usize],
+    y: &mut [usize],
+    z: &mut [usize],
+    w: &mut [usize],
+    n: usize,
+    t: usize,
+    lo: usize,
+    tail: usize,
+    widths: &[usize],
+) -> usize
+    requires { ⌜ PassAt (now widths) (now x) t lo tail ⌝ }
+    requires { ⌜ Buffers (now x) (now y) (now z) (now w) ⌝ }
+    ensures { λ r. ⌜ Passes (λ room schema. Room.push-filters-from room schema n) (now (widths .entry)) (now (x .entry)) t lo tail r (now (x .exit)) ⌝ }
+{
+    if t - tail - lo == 6 {
+        return t;
+    }
+    push_filters_from(x, y, z, w, n, t, lo, tail, widths)
+}
+
+// A node, then the sources of what it became. A chain of nodes that stay as they are is gone through without a frame for each. Where the plan is as long as
+// before, so is the node below the chain, and the sizes in the chain's cells are right already.
 fn push_filters_from(
     x: &mut [usize],
     y: &mut [usize],
@@ -72,6 +95,9 @@ fn push_filters_from(
     }
     let v = each_source(x, y, z, w, deep.left - 1, u, lo, back, widths);
     if x.len() < v {
+        return v;
+    }
+    if v == t {
         return v;
     }
     chain::reseal(x, v, lo, v - back, tail)

@@ -6,9 +6,8 @@ use mathlib.Core.Option.{Option, none, some}
 use mathlib.Core.Path.{_≡_, refl, sym, ap, _∙_, subst}
 use mathlib.Core.List.{List, [], _∷_, _++_}
 use lib.ListN.{length, getD}
-use Rattle.sql.specs.Schema.{Schema}
 use Rattle.sql.specs.Expression.{Expression, ands, is-column-lookup, shift-column-down}
-use Rattle.sql.specs.Optimizer.{Found, cons-if, with-index, found-here, find-lookup}
+use Rattle.sql.specs.Optimizer.{Found, cons-if}
 use Rattle.cells.specs.Cells.{tag-at, start-at}
 use Rattle.words.specs.Words.{root}
 use Rattle.words.specs.Place.{ExpressionHere}
@@ -19,7 +18,7 @@ use Rattle.conjuncts.proofs.Appending.{appends-none, appends-then}
 use Rattle.first_lookup.specs.declared.FoundLookup.{FoundLookup}
 use Rattle.first_lookup.specs.declared.FoundLookup.the-variants.{At, None}
 use Rattle.first_lookup.specs.declared.Rest.{Rest}
-use Rattle.first_lookup.specs.First.{Marks, by-mark, FindsOne, is-marked, remaining, meets, Left, LeavesOne, Leaves}
+use Rattle.first_lookup.specs.First.{is-marked, with-mark, first-here, first-marked, by-mark, FindsOne, remaining, meets, Left, LeavesOne, Leaves}
 
 no-some : {A B : Type 0} {a : A} → none ≡ some a → B
 no-some h = absurd (let z : _≡_ {A = ℕ} 0 1 = cc in omega arith)
@@ -48,33 +47,32 @@ all-remain : (marks : List Bool) (es : List Expression) → remaining marks true
 all-remain marks [] = refl
 all-remain marks (e ∷ es) = ap (λ l. e ∷ l) (all-remain marks es)
 
--- ---- What remains is what find-lookup leaves.
-module _ (schema : Schema) (table : ℕ) (marks : List Bool) (m : Marks schema table marks) where
-  unfound : (e : Expression) (es : List Expression) (f : Found) (g : Option Found) → find-lookup schema table es ≡ g
-      → ((h : Found) → find-lookup schema table es ≡ some h → remaining marks false es ≡ h .remaining)
-      → found-here schema table e es none g ≡ some f → e ∷ remaining marks false es ≡ f .remaining
+-- ---- What remains is what the first lookup leaves.
+module _ (marks : List Bool) where
+  unfound : (e : Expression) (es : List Expression) (f : Found) (g : Option Found) → first-marked marks es ≡ g
+      → ((h : Found) → first-marked marks es ≡ some h → remaining marks false es ≡ h .remaining)
+      → first-here e es none g ≡ some f → e ∷ remaining marks false es ≡ f .remaining
   unfound e es f none q ih k = no-some k
   unfound e es f (some h) q ih k =
       let z : _≡_ {A = Found} (record { column-number = h .column-number; conjunct = h .conjunct; remaining = e ∷ h .remaining }) f = cc in
       ap (λ l. e ∷ l) (ih h q) ∙ ap (λ (x : Found). x .remaining) z
 
   by-test : (e : Expression) (es : List Expression) (f : Found) (c : ℕ) (t : Bool)
-      → ((h : Found) → find-lookup schema table es ≡ some h → remaining marks false es ≡ h .remaining)
-      → found-here schema table e es (cond t (some c) none) (find-lookup schema table es) ≡ some f
+      → ((h : Found) → first-marked marks es ≡ some h → remaining marks false es ≡ h .remaining)
+      → first-here e es (cond t (some c) none) (first-marked marks es) ≡ some f
       → cons-if (false || not t) e (remaining marks (false || t) es) ≡ f .remaining
   by-test e es f c true ih k =
       let z : _≡_ {A = Found} (record { column-number = c; conjunct = e; remaining = es }) f = cc in all-remain marks es ∙ ap (λ (x : Found). x .remaining) z
-  by-test e es f c false ih k = unfound e es f (find-lookup schema table es) refl ih k
+  by-test e es f c false ih k = unfound e es f (first-marked marks es) refl ih k
 
   by-lookup : (e : Expression) (es : List Expression) (f : Found) (o : Option ℕ)
-      → ((h : Found) → find-lookup schema table es ≡ some h → remaining marks false es ≡ h .remaining)
-      → found-here schema table e es (with-index schema table o) (find-lookup schema table es) ≡ some f
+      → ((h : Found) → first-marked marks es ≡ some h → remaining marks false es ≡ h .remaining)
+      → first-here e es (with-mark marks o) (first-marked marks es) ≡ some f
       → cons-if (false || not (is-marked marks o)) e (remaining marks (false || is-marked marks o) es) ≡ f .remaining
-  by-lookup e es f none ih k = unfound e es f (find-lookup schema table es) refl ih k
-  by-lookup e es f (some c) ih k = by-test e es f c (getD marks c false) ih
-      (subst (λ (t : Bool). found-here schema table e es (cond t (some c) none) (find-lookup schema table es) ≡ some f) (m c) k)
+  by-lookup e es f none ih k = unfound e es f (first-marked marks es) refl ih k
+  by-lookup e es f (some c) ih k = by-test e es f c (getD marks c false) ih k
 
-  pub remaining-is : (es : List Expression) (f : Found) → find-lookup schema table es ≡ some f → remaining marks false es ≡ f .remaining
+  pub remaining-is : (es : List Expression) (f : Found) → first-marked marks es ≡ some f → remaining marks false es ≡ f .remaining
   remaining-is [] f k = no-some k
   remaining-is (e ∷ es) f k = by-lookup e es f (is-column-lookup e) (remaining-is es) k
 

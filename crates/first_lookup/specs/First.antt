@@ -1,5 +1,5 @@
 -- The first conjunct that is a lookup by an index, where it stands, and the conjuncts that remain.
-use Prim.Native.Nat.{ℕ}
+use Prim.Native.Nat.{ℕ, _≤_}
 use mathlib.Core.Bool.{Bool, false, not, _||_, cond}
 use mathlib.Core.Path.{_≡_}
 use mathlib.Core.List.{List, [], _∷_}
@@ -7,7 +7,7 @@ use mathlib.Core.Option.{Option, none, some}
 use lib.ListN.{getD}
 use Rattle.sql.specs.Schema.{Schema}
 use Rattle.sql.specs.Expression.{Expression, ands, is-column-lookup}
-use Rattle.sql.specs.Optimizer.{Found, has-index, find-lookup, cons-if}
+use Rattle.sql.specs.Optimizer.{Found, has-index, cons-if}
 use Rattle.words.specs.Place.{ExpressionHere}
 use Rattle.conjuncts.specs.Conjuncts.{Appends}
 use Rattle.first_lookup.specs.declared.FoundLookup.{FoundLookup}
@@ -18,17 +18,35 @@ use Rattle.first_lookup.specs.declared.Rest.{Rest}
 abbrev pub Marks : Schema → ℕ → List Bool → Type 0
 Marks schema table marks = (c : ℕ) → has-index schema table c ≡ getD marks c false
 
--- An answer says where the conjunct stands in s, and its column; or that there is none.
-abbrev pub Stands : List ℕ → FoundLookup → Option Found → Type 0
-Stands s (At lo hi c) none = ⊥
-Stands s (At lo hi c) (some f) = (f .column-number ≡ c) × ExpressionHere s lo hi (f .conjunct)
-Stands s None none = Unit
-Stands s None (some f) = ⊥
+abbrev pub is-marked : List Bool → Option ℕ → Bool
+is-marked marks none = false
+is-marked marks (some c) = getD marks c false
 
--- find-lookup of the conjuncts of the expression from lo up to hi
+-- ---- the first lookup of a marked column. By the marks alone, so that it speaks of those that no table has, too: a table's key is marked. Of a table's marks it
+-- is find-lookup (proofs/Finding, first-is).
+
+abbrev pub with-mark : List Bool → Option ℕ → Option ℕ
+with-mark marks column = cond (is-marked marks column) column none
+
+abbrev pub first-here : Expression → List Expression → Option ℕ → Option Found → Option Found
+first-here e es (some c) later = some (record { column-number = c; conjunct = e; remaining = es })
+first-here e es none none = none
+first-here e es none (some f) = some (record { column-number = f .column-number; conjunct = f .conjunct; remaining = e ∷ f .remaining })
+
+abbrev pub first-marked : List Bool → List Expression → Option Found
+first-marked marks [] = none
+first-marked marks (e ∷ es) = first-here e es (with-mark marks (is-column-lookup e)) (first-marked marks es)
+
+-- An answer says where the conjunct stands in s, between lo and hi, and its column; or that there is none.
+abbrev pub Stands : List ℕ → ℕ → ℕ → FoundLookup → Option Found → Type 0
+Stands s lo hi (At a b c) none = ⊥
+Stands s lo hi (At a b c) (some f) = ((lo ≤ a) × (b ≤ hi)) × ((f .column-number ≡ c) × ExpressionHere s a b (f .conjunct))
+Stands s lo hi None none = Unit
+Stands s lo hi None (some f) = ⊥
+
+-- the first among the conjuncts of the expression from lo up to hi
 abbrev pub FindsFirst : List Bool → List ℕ → ℕ → ℕ → FoundLookup → Type 0
-FindsFirst marks s lo hi r = (schema : Schema) (table : ℕ) → Marks schema table marks
-    → (e : Expression) → ExpressionHere s lo hi e → Stands s r (find-lookup schema table (ands e))
+FindsFirst marks s lo hi r = (e : Expression) → ExpressionHere s lo hi e → Stands s lo hi r (first-marked marks (ands e))
 
 -- of one conjunct
 abbrev pub by-mark : List Bool → ℕ → ℕ → Option ℕ → FoundLookup
@@ -39,10 +57,6 @@ abbrev pub FindsOne : List Bool → List ℕ → ℕ → ℕ → FoundLookup →
 FindsOne marks s lo hi r = (e : Expression) → ExpressionHere s lo hi e → r ≡ by-mark marks lo hi (is-column-lookup e)
 
 -- ---- what remains: the conjuncts but the first lookup of a marked column, or all of them if that was met before
-
-abbrev pub is-marked : List Bool → Option ℕ → Bool
-is-marked marks none = false
-is-marked marks (some c) = getD marks c false
 
 abbrev pub remaining : List Bool → Bool → List Expression → List Expression
 remaining marks met [] = []

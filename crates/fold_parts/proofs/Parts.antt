@@ -218,6 +218,18 @@ module _ {text s : List ℕ} {lo hi : ℕ} where
   under-at h t = by-under (λ p. PartsAt text s lo (hi - 6))
       (λ es k u. record { ps = map alone es; here = under-here es k u; first = t .first; numbered = t .numbered; short = t .short }) h (t .p) (t .here)
 
+  -- the tag of the last expression under a cell
+  pub under-tag : 40 ≤ tag-at s hi → PartAt text s lo hi → lo < hi - 6 → tag-at s (hi - 6) < 40
+  under-tag h t i = by-under (λ p. tag-at s (hi - 6) < 40) (λ es k u. go es (body-part (all-words expression-words es) (cell k) (u .stand))) h (t .p) (t .here)
+    where
+      go : (es : List Expression) → Part s lo (hi - 6) (all-words expression-words es) → tag-at s (hi - 6) < 40
+      go [] w = absurd (omega (arith, w .high))
+      go (x ∷ xs) w =
+          let l = last-of x xs in
+          let v : Part s lo (hi - 6) (all-words expression-words (l .those) ++ expression-words (l .last)) =
+          subst (λ (z : List ℕ). Part s lo (hi - 6) z) (ap (all-words expression-words) (l .is) ∙ words-last expression-words (l .those) (l .last)) w in
+          omega (arith, stands-tag (alone (l .last)) (part-right (all-words expression-words (l .those)) (expression-words (l .last)) v), root-tag (l .last))
+
   module _ {d : List ℕ} {at : ℕ} {d₁ : List ℕ} where
     within-of : {n : ℕ} {r : Folded} → PartAt text s lo hi → tag-at s hi < 40 → at + (hi - lo) ≤ length d → length d₁ ≡ length d → Folds text n s lo hi d at r d₁ → Up-to (at + (hi - lo)) r
     within-of {n} {r} t h room long g = record { ends = go r g }
@@ -235,6 +247,12 @@ module _ {text s : List ℕ} {lo hi : ℕ} where
           h p u;
       within = within-of t h room long g;
     }
+
+    -- a list of one expression
+    pub parts-one : {n : ℕ} {r : Folded} → lo < hi → lo ≡ start-at s hi → PartsAt text s lo hi → tag-at s hi < 40 → Numbers lo n → at + (hi - lo) ≤ length d → length d₁ ≡ length d
+        → Folds text n s lo hi d at r d₁ → FoldsParts text s lo hi d at r d₁
+    parts-one h st t k n room long g =
+        parts-done h st (parts-none (omega arith)) refl (omega arith) (omega arith) (part-alone (last-at h st t) k n room long g)
 
     module _ (h : 40 ≤ tag-at s hi) {q : Folded} (g : FoldsParts text s lo (hi - 6) d at q d₁) where
       -- what stands below the cell

@@ -4,6 +4,7 @@ use fold_operator::Folded;
 ghost use Prim.Native.Nat.{ℕ, _+_, _-_, _≤_, _<_};
 ghost use mathlib.Core.Path.{_≡_};
 ghost use lib.ListN.{length};
+ghost use Rattle.cells.specs.Cells.{tag-at};
 ghost use Rattle.words.specs.Place.{NodeAt};
 ghost use Rattle.nodes.specs.Own.{OwnStart};
 ghost use Rattle.fold_parts.specs.Parts.{Numbers, PartsAt, FoldsParts, PartAt, FoldsPart};
@@ -41,10 +42,32 @@ fn fold_part(text: &[u8], s: &[usize], lo: usize, hi: usize, d: &mut [usize], at
     if cells::tag_at(s, hi) < 40 {
         return folding::fold_expression(text, s, lo, hi, d, at, number(lo));
     }
-    match fold_parts(text, s, lo, hi - 6, d, at) {
+    match fold_expressions(text, s, lo, hi - 6, d, at) {
         Folded::Done(n) => Folded::Done(cells::put(d, at, n, cells::cell_at(s, hi))),
         Folded::Refused(number, place) => Folded::Refused(number, place),
     }
+}
+
+// The expressions from lo to end, where the cell over them starts. An Item and a Key have one, which needs no walk through a list.
+fn fold_expressions(
+    text: &[u8],
+    s: &[usize],
+    lo: usize,
+    end: usize,
+    d: &mut [usize],
+    at: usize,
+) -> Folded
+    requires { ⌜ PartsAt (now text) (now s) lo end × (lo < end → tag-at (now s) end < 40) ⌝ }
+    requires { ⌜ at + (end - lo) ≤ length (now d) ⌝ }
+    ensures { λ r. ⌜ FoldsParts (now (text .entry)) (now (s .entry)) lo end (now (d .entry)) at r (now (d .exit)) ⌝ }
+{
+    if end <= lo {
+        return Folded::Done(at);
+    }
+    if cells::start(s, end) == lo {
+        return folding::fold_expression(text, s, lo, end, d, at, number(lo));
+    }
+    fold_parts(text, s, lo, end, d, at)
 }
 
 // Whether the own expressions of a node are visited, 1 or 0: those of 51 Filter, 56 NestedLoopJoin, 59 Order, 60 Projection, 62 Scan and 63 Values are.

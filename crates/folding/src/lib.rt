@@ -34,16 +34,38 @@ pub fn fold_expression(
     }
     let end = hi - 6;
     if 30 <= k.tag {
-        return match fold_expression(text, s, lo, end, d, at, first) {
+        return match fold_operand(text, s, lo, end, d, at, first) {
             Folded::Done(n) => fold_operator::fold_unary(d, at, n, k.tag, first + count(lo, end)),
             Folded::Refused(number, place) => Folded::Refused(number, place),
         };
     }
     let mid = cells::start(s, end);
-    match fold_expression(text, s, lo, mid, d, at, first) {
+    match fold_operand(text, s, lo, mid, d, at, first) {
         Folded::Done(m) => fold_right(text, s, lo, hi, d, at, first, mid, m),
         Folded::Refused(number, place) => Folded::Refused(number, place),
     }
+}
+
+// An operand of an operator, from lo to hi. Half of all operands are leaves, which need no call of fold_expression (LLVM puts this function into its
+// callers).
+fn fold_operand(
+    text: &[u8],
+    s: &[usize],
+    lo: usize,
+    hi: usize,
+    d: &mut [usize],
+    at: usize,
+    first: usize,
+) -> Folded
+    requires { ⌜ FoldableAt (now text) (now s) lo hi ⌝ }
+    requires { ⌜ (at + (hi - lo) ≤ length (now d)) × (first ≤ lo) ⌝ }
+    ensures { λ r. ⌜ Folds (now (text .entry)) first (now (s .entry)) lo hi (now (d .entry)) at r (now (d .exit)) ⌝ }
+{
+    let k = cells::cell_at(s, hi);
+    if k.tag < 10 {
+        return Folded::Done(cells::put(d, at, at, k));
+    }
+    fold_expression(text, s, lo, hi, d, at, first)
 }
 
 // The operator at hi once its left operand is folded, and stands in d from `at` to m; its right one starts at mid. A neutral left operand leaves only the
@@ -67,12 +89,12 @@ fn fold_right(
     let next = first + count(lo, mid);
     let place = first + count(lo, end);
     if fold_operator::is_neutral(o, cells::cell_at(d, m)) {
-        return match fold_expression(text, s, mid, end, d, at, next) {
+        return match fold_operand(text, s, mid, end, d, at, next) {
             Folded::Done(n) => fold_operator::fold_neutral(d, n, place),
             Folded::Refused(number, p) => Folded::Refused(number, p),
         };
     }
-    match fold_expression(text, s, mid, end, d, m, next) {
+    match fold_operand(text, s, mid, end, d, m, next) {
         Folded::Done(n) => fold_operator::fold_binary(text, d, at, m, n, o, place),
         Folded::Refused(number, p) => Folded::Refused(number, p),
     }

@@ -119,19 +119,40 @@ fn hash_joins(
     }
     let m = nodes::own_start(x, lo, hi);
     if sources == 1 {
-        let s = hash_joins(x, lo, m, y, at, widths);
+        let s = hash_joins_of_source(x, lo, m, y, at, widths);
         let columns = over_columns(x, lo, hi, widths, m, s.columns);
         let end = stream::finish(x, m, hi, y, at, s.end);
         return Written { end, columns };
     }
     let mid = cells::start(x, m);
-    let l = hash_joins(x, lo, mid, y, at, widths);
-    let r = hash_joins(x, mid, m, y, l.end, widths);
+    let l = hash_joins_of_source(x, lo, mid, y, at, widths);
+    let r = hash_joins_of_source(x, mid, m, y, l.end, widths);
     let end = hash_join(x, m, hi, y, at, r.end, l.columns);
     Written {
         end,
         columns: l.columns + r.columns,
     }
+}
+
+// hash_joins of a node's source. A source of one cell, as a Scan without a filter, stays as it is, and needs no call of hash_joins.
+fn hash_joins_of_source(
+    x: &[usize],
+    lo: usize,
+    hi: usize,
+    y: &mut [usize],
+    at: usize,
+    widths: &[usize],
+) -> Written
+    requires { ⌜ ColumnsAt (now widths) (now x) lo hi ⌝ }
+    ensures { λ r. ⌜ Writes (now (widths .entry)) (now (x .entry)) lo hi (now (y .entry)) at (r .end) (now (y .exit)) ⌝ }
+    ensures { λ r. ⌜ ColumnCount (now (widths .entry)) (now (x .entry)) lo hi (r .columns) ⌝ }
+{
+    if hi - lo == 6 {
+        let columns = nodes::columns(x, lo, hi, widths);
+        let end = cells::copy(x, lo, hi, y, at);
+        return Written { end, columns };
+    }
+    hash_joins(x, lo, hi, y, at, widths)
 }
 
 // The pass: the plan in the first t words of x is written to y.

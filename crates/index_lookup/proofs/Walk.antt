@@ -1,18 +1,26 @@
 -- IndexLookup goes on into a node's sources, and leaves the node over what they became.
 use Prim.Native.Nat.{ℕ, _+_, _-_, _≤_, _<_}
-use mathlib.Core.Bool.{Bool}
-use mathlib.Core.Path.{_≡_, refl, sym, _∙_}
+use native.Mathlib.Omega.{arith}
+use mathlib.Core.Bool.{Bool, false}
+use mathlib.Core.Path.{_≡_, refl, sym, ap, _∙_}
 use mathlib.Core.List.{List}
+use mathlib.Core.Option.{none, some}
 use lib.ListN.{length}
 use Rattle.sql.specs.Schema.{Schema}
-use Rattle.sql.specs.Plan.{Over, Join, Node, over, join, over-size, join-size, node-size}
+use Rattle.sql.specs.Plan.{scan, lookup, nothing, values, Over, Join, Node, leaf, over, join, over-size, join-size, node-size}
 use Rattle.sql.specs.Answer.{Answer, done, _>>=_}
 use Rattle.sql.specs.Room.{IndexLookup}
 use Rattle.cells.specs.Cells.{start-at}
+use Rattle.cells.specs.Room.{Copies}
+use Rattle.words.specs.Words.{cell, operand-words, root}
+use Rattle.words.proofs.Expressions.{shape}
+use Rattle.words.proofs.Nodes.{node-long}
+use Rattle.words.proofs.Sizes.{sized-long}
 use Rattle.nodes.specs.Own.{OwnStart, SourceCount}
 use Rattle.stream.specs.Stream.{Streams, Finishes}
-use Rattle.stream.proofs.Sources.{source-stop, source-go, over-done, left-stop, right-stop, both-go, join-done}
-use Rattle.lookup_step.specs.Lookup.{Lent}
+use Rattle.stream.proofs.Sources.{one-cell, source-stop, source-go, over-done, left-stop, right-stop, both-go, join-done}
+use Rattle.lookup_step.specs.Lookup.{Lent, HasFilter}
+use Rattle.lookup_step.proofs.Steps.{leaf-copied}
 
 after-source : ℕ → Schema → ℕ → Over → Node → Node → Answer Node
 after-source room schema rest o n q = done (over o q)
@@ -61,3 +69,17 @@ module _ (widths keys : List ℕ) (marks : List Bool) {x : List ℕ} {lo hi tail
 
 pub no-source : {x : List ℕ} {lo hi g : ℕ} → g ≡ 0 → SourceCount x lo hi g → SourceCount x lo hi 0
 no-source e c p u = sym e ∙ c p u
+
+-- ---- a node of one cell
+
+no-filter : {x : List ℕ} {lo hi : ℕ} → hi - lo ≡ 6 → HasFilter x lo hi false
+no-filter e (scan t al none) u = refl
+no-filter e (scan t al (some q)) u =
+    absurd (omega (arith, node-long (leaf (scan t al (some q))) u, ap length (shape q), sized-long (operand-words q) (cell (root q))))
+no-filter e (lookup a t al vs) u = refl
+no-filter e (nothing ls) u = refl
+no-filter e (values rs) u = refl
+
+pub one-cell-copied : {widths keys : List ℕ} {marks : List Bool} {x : List ℕ} {lo hi tail : ℕ} {y : List ℕ} {at : ℕ} → hi - lo ≡ 6 → {r : ℕ} {y′ : List ℕ} → length y′ ≡ length y
+    → Copies x lo hi y at r y′ → Streams (Lent widths keys marks) IndexLookup x lo hi tail y at r y′
+one-cell-copied e k v = leaf-copied (no-filter e) (one-cell e) refl k v

@@ -35,7 +35,7 @@ pub fn transform(
     }
     let m = nodes::own_start(x, lo, end);
     if n == 1 {
-        let u = transform(x, lo, m, back + (end - m), y, at, z, w, widths, keys, marks);
+        let u = transform_source(x, lo, m, back + (end - m), y, at, z, w, widths, keys, marks);
         if y.len() < u {
             return u;
         }
@@ -44,14 +44,38 @@ pub fn transform(
     }
     let mid = cells::start(x, m);
     let behind = back + (end - mid);
-    let u = transform(x, lo, mid, behind, y, at, z, w, widths, keys, marks);
+    let u = transform_source(x, lo, mid, behind, y, at, z, w, widths, keys, marks);
     if y.len() < u {
         return u;
     }
-    let v = transform(x, mid, m, back + (end - m), y, u, z, w, widths, keys, marks);
+    let v = transform_source(x, mid, m, back + (end - m), y, u, z, w, widths, keys, marks);
     if y.len() < v {
         return v;
     }
     let r = stream::finish(x, m, end, y, at, v);
     chain::follow(x, end, hi, y, at, r)
+}
+
+// transform of a node's source. A source of one cell, as a Scan without a filter, stays as it is, and needs no call of transform.
+fn transform_source(
+    x: &[usize],
+    lo: usize,
+    hi: usize,
+    tail: usize,
+    y: &mut [usize],
+    at: usize,
+    z: &mut [usize],
+    w: &mut [usize],
+    widths: &[usize],
+    keys: &[usize],
+    marks: &[bool],
+) -> usize
+    requires { ⌜ StreamAt (Lent (now widths) (now keys) (now marks)) (now x) lo hi tail (now y) at ⌝ }
+    requires { ⌜ (length (now z) ≡ length (now y)) × (length (now w) ≡ length (now y)) ⌝ }
+    ensures { λ r. ⌜ Streams (Lent (now (widths .entry)) (now (keys .entry)) (now (marks .entry))) IndexLookup (now (x .entry)) lo hi tail (now (y .entry)) at r (now (y .exit)) ⌝ }
+{
+    if hi - lo == 6 {
+        return cells::copy(x, lo, hi, y, at);
+    }
+    transform(x, lo, hi, tail, y, at, z, w, widths, keys, marks)
 }

@@ -4,7 +4,7 @@ use native.Mathlib.Omega.{arith}
 use mathlib.Core.Bool.{Bool, false}
 use mathlib.Core.Logic.{⊎-elim}
 use mathlib.Core.Option.{Option, none, some}
-use mathlib.Core.Path.{_≡_, refl, _∙_, subst}
+use mathlib.Core.Path.{_≡_, refl, sym, _∙_, subst}
 use mathlib.Core.List.{List, [], _++_, append-nil}
 use lib.ListN.{length, length-append}
 use Rattle.sql.specs.Schema.{Schema}
@@ -24,7 +24,8 @@ use Rattle.conjuncts.proofs.Appending.{words-long, appends-vec}
 use Rattle.first_lookup.specs.declared.FoundLookup.{FoundLookup}
 use Rattle.first_lookup.specs.declared.FoundLookup.the-variants.{At, None}
 use Rattle.first_lookup.specs.declared.Rest.{Rest}
-use Rattle.first_lookup.specs.First.{Marks, Stands, FindsFirst, Leaves}
+use Rattle.first_lookup.specs.First.{Marks, first-marked, Stands, FindsFirst, Leaves}
+use Rattle.first_lookup.proofs.Finding.{first-is}
 use Rattle.first_lookup.proofs.Leaving.{remaining-is}
 use Rattle.lookup_or_scan.specs.Scan.{Looks, Filters, LooksOrScans}
 use Rattle.lookup_or_scan.proofs.Looking.{full-grows, lookup-words}
@@ -72,7 +73,7 @@ module _ {marks : List Bool} {w : List ℕ} {m : ℕ} {y : List ℕ} {n : ℕ} {
       → Wrote y n (optional-words (and-vec (f .remaining))) (q .at) y₁
   remained schema t mk e u f z =
       appends-vec (f .remaining)
-      (subst (λ (xs : List Expression). Appends y n n xs (q .at) y₁) (remaining-is schema t marks mk (ands e) f z) (l e u .appends))
+      (subst (λ (xs : List Expression). Appends y n n xs (q .at) y₁) (remaining-is marks (ands e) f (sym (first-is schema t marks mk (ands e)) ∙ z)) (l e u .appends))
 
   pub none-remains : {at : ℕ} → q .at ≡ n → Filters marks w m y at n n y₁
   none-remains h schema t mk e u f z y₀ p k a = unfiltered p k k₁ a (and-vec (f .remaining)) (remained schema t mk e u f z) h
@@ -82,22 +83,29 @@ module _ {marks : List Bool} {w : List ℕ} {m : ℕ} {y : List ℕ} {n : ℕ} {
 
 -- ---- what becomes of the Scan
 
+module _ {w : List ℕ} {m : ℕ} (marks : List Bool) {found : FoundLookup} (g : FindsFirst marks w 0 m found) where
+  stands : {r : FoundLookup} → found ≡ r → (schema : Schema) (t : ℕ) → Marks schema t marks → (e : Expression) → ExpressionHere w 0 m e
+      → Stands w 0 m r (find-lookup schema t (ands e))
+  stands {r} q schema t mk e u =
+      subst (λ (o : Option Found). Stands w 0 m r o) (sym (first-is schema t marks mk (ands e)))
+      (subst (λ (z : FoundLookup). Stands w 0 m z (first-marked marks (ands e))) q (g e u))
+
 module _ {x : List ℕ} {lo hi : ℕ} {y : List ℕ} {at : ℕ} {w : List ℕ} {m key : ℕ} (marks : List Bool) {found : FoundLookup} (g : FindsFirst marks w 0 m found) where
   pub scanned : found ≡ None → {r : ℕ} {y₁ : List ℕ} → Copies x lo hi y at r y₁ → LooksOrScans x lo hi y at w m key marks r y₁
   scanned e {r} {y₁} v schema t mk kk al q cnf u i =
-      go (find-lookup schema t (ands cnf)) (subst (λ (z : FoundLookup). Stands w z (find-lookup schema t (ands cnf))) e (g schema t mk cnf i))
+      go (find-lookup schema t (ands cnf)) (stands marks g e schema t mk cnf i)
     where
-      go : (o : Option Found) → Stands w None o → Wrote y at (node-words (lookup-or-scan schema t al q o)) r y₁
+      go : (o : Option Found) → Stands w 0 m None o → Wrote y at (node-words (lookup-or-scan schema t al q o)) r y₁
       go none s = v (node-words (leaf (scan t al (some q)))) (u .part)
       go (some f) s = absurd s
 
   pub looked-up : {a b c : ℕ} → found ≡ At a b c → {k : Cell} → k ≡ cell-at x hi → {n : ℕ} {y₁ : List ℕ} → length y₁ ≡ length y → Looks k key c w a b y at n y₁
       → {r : ℕ} {y₂ : List ℕ} → Filters marks w m y₁ at n r y₂ → LooksOrScans x lo hi y at w m key marks r y₂
   looked-up {a} {b} {c} e ke {n} {y₁} l h {r} {y₂} v schema t mk kk al q cnf u i =
-      go (find-lookup schema t (ands cnf)) refl (subst (λ (z : FoundLookup). Stands w z (find-lookup schema t (ands cnf))) e (g schema t mk cnf i))
+      go (find-lookup schema t (ands cnf)) refl (stands marks g e schema t mk cnf i)
     where
-      go : (o : Option Found) → find-lookup schema t (ands cnf) ≡ o → Stands w (At a b c) o → Wrote y at (node-words (lookup-or-scan schema t al q o)) r y₂
+      go : (o : Option Found) → find-lookup schema t (ands cnf) ≡ o → Stands w 0 m (At a b c) o → Wrote y at (node-words (lookup-or-scan schema t al q o)) r y₂
       go none z s = absurd s
       go (some f) z s =
           v schema t mk cnf i f z y (leaf (lookup (access schema t (f .column-number)) t al (into-column-values (f .conjunct)))) l
-          (subst (λ (b : List ℕ). Wrote y at b n y₁) (lookup-words schema t al q (into-column-values (f .conjunct)) ke kk (s .0) u) (h (f .conjunct) (s .1)))
+          (subst (λ (b : List ℕ). Wrote y at b n y₁) (lookup-words schema t al q (into-column-values (f .conjunct)) ke kk (s .1 .0) u) (h (f .conjunct) (s .1 .1)))

@@ -13,7 +13,7 @@ use Rattle.value.specs.Value.{Value}
 use Rattle.sql.specs.Schema.{Schema, table-of}
 use Rattle.sql.specs.Expression.{Expression, ands, is-column-lookup, into-column-values}
 use Rattle.sql.specs.Plan.{by-key, by-index, scan, lookup, leaf}
-use Rattle.sql.specs.Optimizer.{Found, has-index, with-index, found-here, find-lookup, access}
+use Rattle.sql.specs.Optimizer.{Found, access}
 use Rattle.sheet.specs.Content.{scan-cell}
 use Rattle.sheet.specs.Cells.{lookup-content}
 use Rattle.cells.specs.declared.Cell.{Cell}
@@ -27,7 +27,7 @@ use Rattle.words.proofs.Sizes.{all-single, sized-long}
 use Rattle.column_lookup.specs.Values.{Gathers}
 use Rattle.first_lookup.specs.declared.FoundLookup.{FoundLookup}
 use Rattle.first_lookup.specs.declared.FoundLookup.the-variants.{At}
-use Rattle.first_lookup.specs.First.{Stands, FindsFirst}
+use Rattle.first_lookup.specs.First.{with-mark, first-here, first-marked, Stands, FindsFirst}
 use Rattle.lookup_or_scan.specs.Scan.{lookup-cell, ScanAt, Looks}
 
 -- what has no room has none when there is more of it
@@ -97,31 +97,31 @@ module _ {w : List ℕ} {a b : ℕ} {y : List ℕ} {at n : ℕ} {y₁ : List ℕ
 
 -- ---- the lookup's column is marked
 
-module _ (schema : Schema) (t : ℕ) where
-  abbrev Indexed : Option Found → Type 0
-  Indexed none = Unit {0}
-  Indexed (some f) = has-index schema t (f .column-number) ≡ true
+module _ (marks : List Bool) where
+  abbrev Marked : Option Found → Type 0
+  Marked none = Unit {0}
+  Marked (some f) = getD marks (f .column-number) false ≡ true
 
   abbrev With : Option ℕ → Type 0
   With none = Unit {0}
-  With (some c) = has-index schema t c ≡ true
+  With (some c) = getD marks c false ≡ true
 
-  with-marked : (o : Option ℕ) → With (with-index schema t o)
+  with-marked : (o : Option ℕ) → With (with-mark marks o)
   with-marked none = tt
-  with-marked (some c) = go (has-index schema t c) refl
+  with-marked (some c) = go (getD marks c false) refl
     where
-      go : (b : Bool) → has-index schema t c ≡ b → With (cond b (some c) none)
+      go : (b : Bool) → getD marks c false ≡ b → With (cond b (some c) none)
       go true z = z
       go false z = tt
 
-  here-marked : (e : Expression) (es : List Expression) (o : Option ℕ) (later : Option Found) → With o → Indexed later → Indexed (found-here schema t e es o later)
+  here-marked : (e : Expression) (es : List Expression) (o : Option ℕ) (later : Option Found) → With o → Marked later → Marked (first-here e es o later)
   here-marked e es (some c) later h k = h
   here-marked e es none none h k = tt
   here-marked e es none (some f) h k = k
 
-  find-marked : (es : List Expression) → Indexed (find-lookup schema t es)
-  find-marked [] = tt
-  find-marked (e ∷ es) = here-marked e es (with-index schema t (is-column-lookup e)) (find-lookup schema t es) (with-marked (is-column-lookup e)) (find-marked es)
+  found-marked : (es : List Expression) → Marked (first-marked marks es)
+  found-marked [] = tt
+  found-marked (e ∷ es) = here-marked e es (with-mark marks (is-column-lookup e)) (first-marked marks es) (with-marked (is-column-lookup e)) (found-marked es)
 
 marked-inside : (marks : List Bool) (c : ℕ) → getD marks c false ≡ true → c < length marks
 marked-inside marks c h = ⊎-elim (λ (z : c < length marks). z)
@@ -136,11 +136,11 @@ module _ {x : List ℕ} {lo hi : ℕ} {y w : List ℕ} {m : ℕ} {marks : List B
   -- Where a lookup is found, its conjunct stands there, and its column is one of the marks'.
   pub found-there : ExpressionAt w a b × (c < 256)
   found-there =
-      go (find-lookup (p .schema) (p .table) (ands (p .cnf))) (find-marked (p .schema) (p .table) (ands (p .cnf)))
-      (subst (λ (q : FoundLookup). Stands w q (find-lookup (p .schema) (p .table) (ands (p .cnf)))) e (f (p .schema) (p .table) (p .marked) (p .cnf) (p .cnf-here)))
+      go (first-marked marks (ands (p .cnf))) (found-marked marks (ands (p .cnf)))
+      (subst (λ (q : FoundLookup). Stands w 0 m q (first-marked marks (ands (p .cnf)))) e (f (p .cnf) (p .cnf-here)))
     where
-      go : (o : Option Found) → Indexed (p .schema) (p .table) o → Stands w (At a b c) o → ExpressionAt w a b × (c < 256)
+      go : (o : Option Found) → Marked marks o → Stands w 0 m (At a b c) o → ExpressionAt w a b × (c < 256)
       go none i s = absurd s
       go (some h) i s =
-          let z = marked-inside marks (h .column-number) (sym (p .marked (h .column-number)) ∙ i) in
-          (record { e = h .conjunct; here = s .1 }, omega (arith, s .0, p .few))
+          let z = marked-inside marks (h .column-number) i in
+          (record { e = h .conjunct; here = s .1 .1 }, omega (arith, s .1 .0, p .few))

@@ -36,6 +36,9 @@ nnf-operands (unary Not x) h = absurd (h refl)
 nnf-operands (unary (function f) x) h = refl
 nnf-operands (binary o l r) h = refl
 
+pub nnf-other : (e : Expression) → (tag (root e) ≡ 30 → ⊥) → into-nnf e ≡ map-operands into-nnf e
+nnf-other e h = nnf-operands e h ∙ as-operands e
+
 not-not : (o : Unary) (x : Expression) → unary-tag o ≡ 30 → into-nnf-not (unary o x) ≡ into-nnf-operands x
 not-not o x = by-not (λ p. into-nnf-not (unary p x) ≡ into-nnf-operands x) refl o
 

@@ -1,5 +1,5 @@
 // expression.rs, into_nnf: an expression in its working form is read from one slice, and its negation normal form appended to another. The result is
-// written directly, so that its size alone counts for room.
+// written directly, so that its size alone counts for room. Most predicates hold no Not, and are their own normal form: one pass over the cells tells.
 ghost use mathlib.Core.Logic.{_⊎_};
 ghost use mathlib.Core.Path.{_≡_};
 ghost use Prim.Native.Nat.{ℕ, _+_, _-_, _≤_, _<_};
@@ -8,9 +8,36 @@ ghost use Rattle.sql.specs.Expression.{into-nnf, into-nnf-not, into-nnf-operand
 ghost use Rattle.cells.specs.Cells.{tag-at};
 ghost use Rattle.words.specs.Place.{ExpressionAt, Maps};
 ghost use Rattle.nnf.specs.Nnf.{negated};
+ghost use Rattle.nnf.specs.Tags.{ContainsTag};
 
-// into_nnf of the expression from lo to hi.
+// Whether a cell of the expression from lo to hi has the tag.
+pub fn contains_tag(s: &[usize], lo: usize, hi: usize, tag: usize) -> bool
+    requires { ⌜ ExpressionAt (now s) lo hi ⌝ }
+    ensures { λ r. ⌜ ContainsTag (now (s .entry)) lo hi tag r ⌝ }
+{
+    let mut i = lo;
+    while i < hi {
+        i += 6;
+        if cells::tag_at(s, i) == tag {
+            return true;
+        }
+    }
+    false
+}
+
+// into_nnf of the expression from lo to hi, which is its words as they are if it holds no Not.
 pub fn into_nnf(s: &[usize], lo: usize, hi: usize, d: &mut [usize], at: usize) -> usize
+    requires { ⌜ ExpressionAt (now s) lo hi ⌝ }
+    ensures { λ r. ⌜ Maps into-nnf (now (s .entry)) lo hi (now (d .entry)) at r (now (d .exit)) ⌝ }
+{
+    if contains_tag(s, lo, hi, 30) {
+        return into_nnf_expression(s, lo, hi, d, at);
+    }
+    cells::copy(s, lo, hi, d, at)
+}
+
+// into_nnf of the expression from lo to hi, cell by cell.
+fn into_nnf_expression(s: &[usize], lo: usize, hi: usize, d: &mut [usize], at: usize) -> usize
     requires { ⌜ ExpressionAt (now s) lo hi ⌝ }
     ensures { λ r. ⌜ Maps into-nnf (now (s .entry)) lo hi (now (d .entry)) at r (now (d .exit)) ⌝ }
 {
@@ -86,11 +113,11 @@ fn into_nnf_operands(s: &[usize], lo: usize, hi: usize, d: &mut [usize], at: usi
     }
     let k = hi - 6;
     if 30 <= c.tag {
-        let m = into_nnf(s, lo, k, d, at);
+        let m = into_nnf_expression(s, lo, k, d, at);
         return cells::put(d, at, m, c);
     }
     let mid = cells::start(s, k);
-    let m = into_nnf(s, lo, mid, d, at);
-    let j = into_nnf(s, mid, k, d, m);
+    let m = into_nnf_expression(s, lo, mid, d, at);
+    let j = into_nnf_expression(s, mid, k, d, m);
     cells::put(d, at, j, c)
 }

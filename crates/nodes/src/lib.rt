@@ -52,7 +52,7 @@ pub fn source_count(s: &[usize], lo: usize, hi: usize) -> usize
 
 // How many trees the own words of a node with sources are: an Aggregate's expressions and Aggs, an Order's Keys, a Projection's Items, a Remap's
 // Targets, a Filter's predicate, and that of a NestedLoopJoin if it has one.
-fn own_trees(s: &[usize], lo: usize, hi: usize) -> usize
+pub fn own_trees(s: &[usize], lo: usize, hi: usize) -> usize
     requires { ⌜ NodeAt (now s) lo hi ⌝ }
     ensures { λ r. ⌜ OwnTrees (now (s .entry)) lo hi r ⌝ }
 {

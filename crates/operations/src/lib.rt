@@ -23,16 +23,17 @@ fn in_16(s: &[u8], c: Chosen, count: usize, out: &mut [u8]) -> Answer
     sheet_passes::run(s, c, count, &mut x, &mut y, &mut z, &mut w, out)
 }
 
-// Buffers for 64 cells.
-fn in_64(s: &[u8], c: Chosen, count: usize, out: &mut [u8]) -> Answer
+// Buffers for 96 cells, where plans of up to 64 are tried: copies of lookups make a small join's plan half as large again, and a second run takes longer than the
+// clearing of some more words.
+fn in_96(s: &[u8], c: Chosen, count: usize, out: &mut [u8]) -> Answer
     requires { ⌜ Choice c ⌝ }
-    requires { ⌜ FitsIn 64 (now s) ⌝ }
-    ensures { λ a. ⌜ RunsIn 64 (now (s .entry)) c count (now (out .entry)) a (now (out .exit)) ⌝ }
+    requires { ⌜ FitsIn 96 (now s) ⌝ }
+    ensures { λ a. ⌜ RunsIn 96 (now (s .entry)) c count (now (out .entry)) a (now (out .exit)) ⌝ }
 {
-    let mut x = [0usize; 384];
-    let mut y = [0usize; 384];
-    let mut z = [0usize; 384];
-    let mut w = [0usize; 384];
+    let mut x = [0usize; 576];
+    let mut y = [0usize; 576];
+    let mut z = [0usize; 576];
+    let mut w = [0usize; 576];
     sheet_passes::run(s, c, count, &mut x, &mut y, &mut z, &mut w, out)
 }
 
@@ -75,7 +76,7 @@ fn in_2048(s: &[u8], c: Chosen, count: usize, out: &mut [u8]) -> Answer
     sheet_passes::run(s, c, count, &mut x, &mut y, &mut z, &mut w, out)
 }
 
-// The chosen passes on a sheet that is accepted, of at most so many cells: in the smallest buffers that hold it, and where these have no room in the next
+// The chosen passes on a sheet that is accepted, of at most so many cells: in small buffers that hold it, and where these have no room in the next
 // ones. It calls itself for these, and so keeps a small frame: LLVM puts no callee with a large frame into a function that calls itself.
 fn run(s: &[u8], c: Chosen, count: usize, cells: usize, out: &mut [u8]) -> Answer
     requires { ⌜ Choice c ⌝ }
@@ -90,7 +91,7 @@ fn run(s: &[u8], c: Chosen, count: usize, cells: usize, out: &mut [u8]) -> Answe
         return a;
     }
     if cells <= 64 {
-        let a = in_64(s, c, count, out);
+        let a = in_96(s, c, count, out);
         if a.number == 14 {
             return run(s, c, count, 192, out);
         }

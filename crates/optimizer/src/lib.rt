@@ -44,7 +44,7 @@ pub fn pass(
     passes::short_circuit(x, y, z, t, widths, names, columns)
 }
 
-// The passes from the fourth on. The plan that they give is in x.
+// The passes from the fourth on. The plan that they give is in z.
 fn from_hash(
     x: &mut [usize],
     y: &mut [usize],
@@ -56,15 +56,15 @@ fn from_hash(
 ) -> Folded
     requires { ⌜ PlanAt (For-labels (now widths) (now names) (now columns)) (now x) t ⌝ }
     requires { ⌜ (length (now y) ≡ length (now x)) × (length (now z) ≡ length (now x)) ⌝ }
-    ensures { λ r. ⌜ Runs (For-labels (now (widths .entry)) (now (names .entry)) (now (columns .entry))) (λ room schema p. in-turn (from-hash room schema) p) (now (x .entry)) t (now (x .exit)) r ⌝ }
+    ensures { λ r. ⌜ Runs (For-labels (now (widths .entry)) (now (names .entry)) (now (columns .entry))) (λ room schema p. in-turn (from-hash room schema) p) (now (x .entry)) t (now (z .exit)) r ⌝ }
 {
     match passes::hash_join(x, y, t, widths) {
-        Folded::Done(n) => passes::short_circuit(y, x, z, n, widths, names, columns),
+        Folded::Done(n) => passes::short_circuit(y, z, x, n, widths, names, columns),
         Folded::Refused(number, place) => Folded::Refused(number, place),
     }
 }
 
-// The passes from the third on. The plan that they give is in y.
+// The passes from the third on. The plan that they give is in x.
 fn from_lookup(
     x: &mut [usize],
     y: &mut [usize],
@@ -79,10 +79,10 @@ fn from_lookup(
 ) -> Folded
     requires { ⌜ PlanAt (For-lent (now widths) (now names) (now columns) (now keys) (now marks)) (now x) t ⌝ }
     requires { ⌜ Alike (now x) (now y) (now z) (now w) ⌝ }
-    ensures { λ r. ⌜ Runs (For-lent (now (widths .entry)) (now (names .entry)) (now (columns .entry)) (now (keys .entry)) (now (marks .entry))) (λ room schema p. in-turn (from-lookup room schema) p) (now (x .entry)) t (now (y .exit)) r ⌝ }
+    ensures { λ r. ⌜ Runs (For-lent (now (widths .entry)) (now (names .entry)) (now (columns .entry)) (now (keys .entry)) (now (marks .entry))) (λ room schema p. in-turn (from-lookup room schema) p) (now (x .entry)) t (now (x .exit)) r ⌝ }
 {
     match passes::look_up(x, y, z, w, t, widths, keys, marks) {
-        Folded::Done(n) => from_hash(y, x, z, n, widths, names, columns),
+        Folded::Done(n) => from_hash(y, z, x, n, widths, names, columns),
         Folded::Refused(number, place) => Folded::Refused(number, place),
     }
 }
@@ -104,8 +104,8 @@ fn from_pushdown(
     requires { ⌜ Alike (now x) (now y) (now z) (now w) ⌝ }
     ensures { λ r. ⌜ Runs (For-lent (now (widths .entry)) (now (names .entry)) (now (columns .entry)) (now (keys .entry)) (now (marks .entry))) (λ room schema p. in-turn (from-pushdown room schema) p) (now (x .entry)) t (now (x .exit)) r ⌝ }
 {
-    match passes::push_down(x, y, z, w, t, widths) {
-        Folded::Done(n) => from_lookup(y, x, z, w, n, widths, names, columns, keys, marks),
+    match passes::push_down_in_place(x, y, z, w, t, widths) {
+        Folded::Done(n) => from_lookup(x, y, z, w, n, widths, names, columns, keys, marks),
         Folded::Refused(number, place) => Folded::Refused(number, place),
     }
 }

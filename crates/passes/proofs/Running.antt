@@ -187,25 +187,19 @@ module _ {widths x : List ℕ} {t : ℕ} where
   pushed f h schema text tables room p given at =
       h schema text tables given room 0 (record { all = at .all; outside = refl }) [] [] p (at .fit) (top-holds p (at .words-are) (at .inside))
 
-  pub push-refused : (f : ℕ → Schema → ℕ → Node → Answer Node) (n : ℕ) (x′ d : List ℕ) → Passes f widths x t 0 0 n x′ → length x′ < n
-      → Runs (For-tables widths) (λ room schema p. f room schema 0 p) x t d (Folded.Refused 14 0)
-  push-refused f n x′ d h k schema text tables room p given at =
-      record { is = go (f room schema 0 p) (pushed f h schema text tables room p given at .is) }
-    where
-      go : (answer : Answer Node) → Edit.Leaves (Kept schema text tables p) x′ n [] [] answer → Left (Kept schema text tables p) d answer (Folded.Refused 14 0)
-      go (done q) l = absurd (omega (arith, l .0, k))
-      go (refused number place) l = (omega (arith, l .1 .0), omega (arith, l .1 .1))
+  pub push-left : (f : ℕ → Schema → ℕ → Node → Answer Node) {n : ℕ} {x′ : List ℕ} {r : Folded} → Passes f widths x t 0 0 n x′ → Ends x′ n r
+      → Runs (For-tables widths) (λ room schema p. f room schema 0 p) x t x′ r
+  push-left f h e schema text tables room p given at = edited (Kept schema text tables p) (pushed f h schema text tables room p given at) e
 
-  pub push-copied : (f : ℕ → Schema → ℕ → Node → Answer Node) (n : ℕ) (x′ y : List ℕ) (m : ℕ) (d : List ℕ) → Passes f widths x t 0 0 n x′ → n ≤ length x′
-      → length y ≡ length x′ → length d ≡ length y → Copies x′ 0 n y 0 m d → Runs (For-tables widths) (λ room schema p. f room schema 0 p) x t d (Folded.Done m)
-  push-copied f n x′ y m d h k alike same c schema text tables room p given at =
-      record { is = go (f room schema 0 p) (pushed f h schema text tables room p given at .is) }
-    where
-      go : (answer : Answer Node) → Edit.Leaves (Kept schema text tables p) x′ n [] [] answer → Left (Kept schema text tables p) d answer (Folded.Done m)
-      go (refused number place) l = absurd (omega (arith, l .0, k))
-      go (done q) l =
-          let e : take n x′ ≡ node-words q = l .1 .0 ∙ append-nil (node-words q) in
-          let long : length (node-words q) ≡ n = ap length (sym e) ∙ length-take-le n x′ k in
-          let w = c (node-words q) (top-here x′ n q e k .part) in
-          let (i, j) = w .fits (omega (arith, long, k, alike)) in
-          (omega (arith, i, long, k, alike, same), (j, l .1 .1))
+-- What a pass leaves in x′ is copied to d.
+pub copied : (schema : Schema) (text : List ℕ) (tables : ℕ) (p : Node) {answer : Answer Node} (x′ y : List ℕ) (n m : ℕ) (d : List ℕ) → length y ≡ length x′ → length d ≡ length y
+    → Copies x′ 0 n y 0 m d → Leaves (Kept schema text tables p) x′ answer (Folded.Done n) → Leaves (Kept schema text tables p) d answer (Folded.Done m)
+copied schema text tables p {answer} x′ y n m d alike same c h = record { is = go answer (h .is) }
+  where
+    go : (answer : Answer Node) → Left (Kept schema text tables p) x′ answer (Folded.Done n) → Left (Kept schema text tables p) d answer (Folded.Done m)
+    go (refused number place) l = absurd l
+    go (done q) l =
+        let long : length (node-words q) ≡ n = ap length (sym (l .1 .0)) ∙ length-take-le n x′ (l .0) in
+        let w = c (node-words q) (top-here x′ n q (l .1 .0) (l .0) .part) in
+        let (i, j) = w .fits (omega (arith, long, l .0, alike)) in
+        (omega (arith, i, long, l .0, alike, same), (j, l .1 .1))

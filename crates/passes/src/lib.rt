@@ -28,6 +28,23 @@ pub fn fold(text: &[u8], x: &[usize], y: &mut [usize], z: &mut [usize], t: usize
     constant_folding::constant_folding(text, x, t, y, z)
 }
 
+// Pass 2, in x. y, z and w are scratch.
+pub fn push_down_in_place(
+    x: &mut [usize],
+    y: &mut [usize],
+    z: &mut [usize],
+    w: &mut [usize],
+    t: usize,
+    widths: &[usize],
+) -> Folded
+    requires { ⌜ PlanAt (For-tables (now widths)) (now x) t ⌝ }
+    requires { ⌜ Alike (now x) (now y) (now z) (now w) ⌝ }
+    ensures { λ r. ⌜ Runs (For-tables (now (widths .entry))) (λ room schema p. Room.FilterPushdown room schema 0 p) (now (x .entry)) t (now (x .exit)) r ⌝ }
+{
+    let n = filter_pushdown::filter_pushdown(x, y, z, w, t, widths);
+    in_room(x, n)
+}
+
 // Pass 2, in x, and then copied to y.
 pub fn push_down(
     x: &mut [usize],
@@ -41,11 +58,10 @@ pub fn push_down(
     requires { ⌜ Alike (now x) (now y) (now z) (now w) ⌝ }
     ensures { λ r. ⌜ Runs (For-tables (now (widths .entry))) (λ room schema p. Room.FilterPushdown room schema 0 p) (now (x .entry)) t (now (y .exit)) r ⌝ }
 {
-    let n = filter_pushdown::filter_pushdown(x, y, z, w, t, widths);
-    if x.len() < n {
-        return Folded::Refused(14, 0);
+    match push_down_in_place(x, y, z, w, t, widths) {
+        Folded::Done(n) => Folded::Done(cells::copy(x, 0, n, y, 0)),
+        Folded::Refused(number, place) => Folded::Refused(number, place),
     }
-    Folded::Done(cells::copy(x, 0, n, y, 0))
 }
 
 // Pass 3, from x to y.

@@ -5,25 +5,28 @@ use mathlib.Core.Logic.{⊎-elim}
 use mathlib.Core.Bool.{Bool}
 use mathlib.Core.Path.{_≡_, refl, sym, _∙_}
 use mathlib.Core.List.{List}
+use mathlib.Core.Option.{Option, none, some}
 use lib.ListN.{length}
 use lib.Dec.{leb}
 use borrow.Author.Tests.{le-leb, lt-leb}
 use Rattle.sql.specs.Schema.{Schema}
-use Rattle.sql.specs.Plan.{Leaf, Over, Join, Node, leaf, over, join, over-size, join-size, node-size}
+use Rattle.sql.specs.Expression.{Expression}
+use Rattle.sql.specs.Plan.{Leaf, scan, Over, Join, Node, leaf, over, join, over-size, join-size, node-size}
 use Rattle.sql.specs.Answer.{done, _>>=_}
 use Rattle.sql.specs.Optimizer as Optimizer
 use Rattle.sql.specs.Room.{if-room, short-circuit, ShortCircuit}
+use Rattle.sheet_laws.specs.Counts.{size-positive}
 use Rattle.sound.specs.Sound.{Named}
 use Rattle.sound.specs.Keeps.{keeps-next}
 use Rattle.sound.specs.Circuit.{one-keeps}
-use Rattle.cells.specs.Cells.{start-at}
+use Rattle.cells.specs.Cells.{tag-at, start-at}
 use Rattle.cells.specs.Room.{Copies}
 use Rattle.cells.proofs.Laws.{lt-or-ge}
 use Rattle.words.specs.Words.{node-words}
 use Rattle.words.specs.Place.{NodeAt}
-use Rattle.words.proofs.Nodes.{node-in}
-use Rattle.words.proofs.Tags.{by-leaf, by-over, by-join}
-use Rattle.words.proofs.Sizes.{words-long}
+use Rattle.words.proofs.Nodes.{node-tag, node-in, node-long}
+use Rattle.words.proofs.Tags.{tagged, by-leaf, by-over, by-join, by-scan}
+use Rattle.words.proofs.Sizes.{expression-long, words-long}
 use Rattle.nodes.specs.Own.{OwnStart, SourceCount}
 use Rattle.nodes.specs.Columns.{ColumnsAt}
 use Rattle.labels.specs.Names.{Names, NamesAt}
@@ -33,7 +36,7 @@ use Rattle.stream.specs.Stream.{Reading, Streamed, Finishes}
 use Rattle.stream.proofs.Streams.{done-here, done-before, copied-done, streamed-with, streamed-stop, streamed-go}
 use Rattle.stream.proofs.Sources.{source-reading, over-done, left-reading, right-reading, join-done}
 use Rattle.short_circuit.specs.ShortCircuit.{Fitted, CircuitsNode, CircuitAt, Circuits}
-use Rattle.short_circuit.proofs.Node.{fitted-over}
+use Rattle.short_circuit.proofs.Node.{wrote-fitted, fitted-over}
 
 -- the step, with the question for room
 fitted-step : {Fit : Node → Type 0} {y : List ℕ} {at tail n room rest : ℕ} {y′ : List ℕ} (q : Node) → Fit q → Shares y at tail room rest → length y′ ≡ length y
@@ -188,6 +191,20 @@ module _ {widths names columns′ x : List ℕ} {lo hi tail : ℕ} {y : List ℕ
   leaf-circuits c {v} {y₁} k a {n} {y₂} k₂ f schema text tables g named room rest p h =
       by-leaf (λ p. Reading schema text tables x lo hi tail y at room rest p → Streamed (Kept schema text tables p) y at tail n y₂ (ShortCircuit room schema rest p))
       (λ l h. written-next g (leaf l) (leaf l) (omega (arith, h .fits)) k (copied-done (leaf l) h k a) named k₂ (h .shares) f) p (sym (c p (h .here))) h
+
+  -- a Scan without a filter stays as it is
+  pub scan-circuits : hi - lo ≡ 6 → tag-at x hi ≡ 62 → {n : ℕ} {y₁ : List ℕ} → length y₁ ≡ length y → Copies x lo hi y at n y₁ → Circuits widths names columns′ x lo hi tail y at n y₁
+  unfolding ShortCircuit short-circuit
+  scan-circuits e i {n} {y₁} k a schema text tables g named room rest p h =
+      by-scan (λ p. Reading schema text tables x lo hi tail y at room rest p → Streamed (Kept schema text tables p) y at tail n y₁ (ShortCircuit room schema rest p)) go
+      p (sym (tagged p) ∙ sym (node-tag p (h .here)) ∙ i) h
+    where
+      go : (t : ℕ) (al : Option ℕ) (q : Option Expression) → Reading schema text tables x lo hi tail y at room rest (leaf (scan t al q))
+          → Streamed (Kept schema text tables (leaf (scan t al q))) y at tail n y₁ (ShortCircuit room schema rest (leaf (scan t al q)))
+      go t al none h =
+          let s = h .here .part .high in
+          fitted-step (leaf (scan t al none)) (h .fit) (h .shares) k (wrote-fitted (omega (arith, h .fits)) (a (node-words (leaf (scan t al none))) (h .here .part)))
+      go t al (some f) h = absurd (omega (arith, node-long (leaf (scan t al (some f))) (h .here), expression-long f, size-positive f))
 
   module _ (c : SourceCount x lo hi 1) {m : ℕ} (own : OwnStart x lo hi m) {u : ℕ} {y₁ : List ℕ} (a : Circuits widths names columns′ x lo m (tail + (hi - m)) y at u y₁) where
     -- the source is refused

@@ -122,7 +122,7 @@ pub fn short_circuit(
     if n == 1 {
         let end = chain::descend_bare(x, lo, m);
         let behind = back + (m - end);
-        let u = short_circuit(x, lo, end, behind, y, at, z, widths, names, columns);
+        let u = short_circuit_source(x, lo, end, behind, y, at, z, widths, names, columns);
         let v = climb(x, end, m, back, y, at, u, z, widths, names, columns);
         if y.len() < v {
             return v;
@@ -132,14 +132,39 @@ pub fn short_circuit(
     }
     let mid = cells::start(x, m);
     let behind = tail + (hi - mid);
-    let u = short_circuit(x, lo, mid, behind, y, at, z, widths, names, columns);
+    let u = short_circuit_source(x, lo, mid, behind, y, at, z, widths, names, columns);
     if y.len() < u {
         return u;
     }
-    let v = short_circuit(x, mid, m, back, y, u, z, widths, names, columns);
+    let v = short_circuit_source(x, mid, m, back, y, u, z, widths, names, columns);
     if y.len() < v {
         return v;
     }
     let end = stream::finish(x, m, hi, y, at, v);
     short_circuit_node(y, at, end, tail, z, widths, names, columns)
+}
+
+// The same for a source. A Scan without a filter, one cell alone, stays as it is, and needs no call of short_circuit.
+fn short_circuit_source(
+    x: &[usize],
+    lo: usize,
+    hi: usize,
+    tail: usize,
+    y: &mut [usize],
+    at: usize,
+    z: &mut [usize],
+    widths: &[usize],
+    names: &[usize],
+    columns: &[usize],
+) -> usize
+    requires { ⌜ CircuitAt (now widths) (now names) (now columns) (now x) lo hi tail (now y) at ⌝ }
+    requires { ⌜ length (now z) ≡ length (now y) ⌝ }
+    ensures { λ r. ⌜ Circuits (now (widths .entry)) (now (names .entry)) (now (columns .entry)) (now (x .entry)) lo hi tail (now (y .entry)) at r (now (y .exit)) ⌝ }
+{
+    if hi - lo == 6 {
+        if cells::tag_at(x, hi) == 62 {
+            return cells::copy(x, lo, hi, y, at);
+        }
+    }
+    short_circuit(x, lo, hi, tail, y, at, z, widths, names, columns)
 }

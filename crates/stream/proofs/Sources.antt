@@ -3,19 +3,19 @@
 use Prim.Native.Nat.{ℕ, _+_, _-_, _*_, _≤_, _<_}
 use native.Mathlib.Omega.{arith}
 use mathlib.Core.Bool.{Bool}
-use mathlib.Core.Path.{_≡_, sym, _∙_, subst}
+use mathlib.Core.Path.{_≡_, refl, sym, ap, _∙_, subst}
 use mathlib.Core.List.{List, _++_}
-use lib.ListN.{length}
+use lib.ListN.{length, length-append}
 use Rattle.sql.specs.Schema.{Schema}
 use Rattle.sql.specs.Plan.{Leaf, Over, Join, Node, leaf, over, join, over-size, join-size, node-size}
 use Rattle.sql.specs.Answer.{Answer, done, refused, _>>=_}
 use Rattle.cells.specs.Cells.{start-at, Sized}
 use Rattle.cells.specs.Room.{Wrote}
 use Rattle.cells.proofs.Laws.{then}
-use Rattle.words.specs.Words.{node-words, source-count}
+use Rattle.words.specs.Words.{cell, source-words, own-words, node-cell, node-words, source-count}
 use Rattle.words.proofs.Nodes.{node-shape, node-in, node-long, over-source, join-left, join-right, sources-sized}
 use Rattle.words.proofs.Tags.{by-leaf, by-over, by-join}
-use Rattle.words.proofs.Sizes.{over-long, join-long, words-long}
+use Rattle.words.proofs.Sizes.{sized-long, over-long, join-long, words-long}
 use Rattle.nodes.specs.Own.{OwnStart, SourceCount}
 use Rattle.kept.specs.Kept.{Kept, kept}
 use Rattle.stream.specs.Stream.{Reading, StreamAt, Streamed, Streams, Finishes}
@@ -39,6 +39,13 @@ module _ {Lent : Schema → Type 0} {x : List ℕ} {lo hi tail : ℕ} {y : List 
       (omega arith, (omega arith, omega (arith, d .reading .fits, d .short-out)))
 
 -- ---- no source
+
+-- A node of one cell has none: a source has a cell of its own beside the node's.
+pub one-cell : {x : List ℕ} {lo hi : ℕ} → hi - lo ≡ 6 → SourceCount x lo hi 0
+one-cell e (leaf l) u = refl
+one-cell e (over o n) u = absurd (omega (arith, node-long (over o n) u, node-in n (over-source o n u refl) .0))
+one-cell e (join outer j l r) u =
+    absurd (omega (arith, node-long (join outer j l r) u, length-append (node-words l) (node-words r), ap length (node-shape r), sized-long (source-words r ++ own-words r) (cell (node-cell r))))
 
 module _ {Lent : Schema → Type 0} {x : List ℕ} {lo hi tail g : ℕ} {y : List ℕ} {at : ℕ} (c : SourceCount x lo hi g) (zero : g ≡ 0)
     (f : ℕ → Schema → ℕ → Node → Answer Node) where

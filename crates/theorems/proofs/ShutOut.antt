@@ -1,36 +1,104 @@
--- The proofs of ShutOut.antt: what each program answers to P1, or to a sheet of one cell, is not what the second promise asks.
-use Prim.Native.Nat.{ℕ, zero, suc, _≤_, _<_}
+-- The proofs of ShutOut.antt. A program that meets the second promise hands out the right sheet at every answerable input (`pass-asked`, `five-asked`), which
+-- no program with a fault does. What the programs of the second half always do is a fault for P1, for a sheet of one cell, or for one that every pass changes.
+use Prim.Native.Nat.{ℕ, zero, suc, _+_, _*_, _≤_, _<_}
 use native.Mathlib.Omega.{arith}
-use borrow.Author.Tests.{ltb-true}
+use borrow.Author.Tests.{ltb-true, leb-true, leb-false}
 use mathlib.Core.Path.{_≡_, refl, sym, ap, _∙_, subst}
-use mathlib.Core.Bool.{Bool, true, false, cond}
+use mathlib.Core.Bool.{Bool, true, false, _&&_, false≢true}
 use mathlib.Core.List.{List, [], _∷_, _++_}
-use lib.Dec.{eqb, leb, ltb}
-use lib.IntN.{pos}
-use lib.ListN.{length, drop, getD, replicate, length-append}
-use lib.Seq.{drop-append-seam}
-use Rattle.value.specs.Value.{False, True, truth, datum, integer}
-use Rattle.sql.specs.Expression.{constant, and, not}
-use Rattle.sql.specs.Plan.{nothing, values, filter, Node, leaf, over, columns, node-size}
-use Rattle.sql.specs.Answer.{Answer, done, _>>=_}
+use lib.Dec.{leb, ltb}
+use lib.ListN.{length, drop, getD, replicate}
+use Rattle.sql.specs.Plan.{Node, node-size}
+use Rattle.sql.specs.Answer.{Answer, done, refused, _>>=_}
 use Rattle.sql.specs.Optimizer.{pass, optimize}
 use Rattle.sql.specs.Optimizer
+use Rattle.sql.specs.Expression.{into-cnf, into-cnf-vec}
 use Rattle.sheet.specs.Bytes.{half, word}
-use Rattle.sheet.specs.Parts.{length-ok, edition-ok, parts-ok, bad-record}
+use Rattle.sheet.specs.Parts.{cells-at, length-ok, edition-ok, parts-ok, table-ok, column-ok, bad-record}
 use Rattle.sheet.specs.Cell.{cell, cell-ok, bad-cell}
 use Rattle.value.specs.Meaning.{integer-bits, integer-of-bits}
 use Rattle.sheet.specs.Tree.{read}
 use Rattle.sheet.specs.Check.{Numbers, schema, plan}
-use Rattle.sheet.specs.Write.{write}
-use Rattle.sheet.specs.Operations.{Outcome, written, hand-out, one-pass, all-five}
+use Rattle.sheet.specs.Operations.{Outcome, one-pass, all-five}
 use Rattle.sheet.specs.Worked.{P1}
 use Rattle.sheet_laws.specs.Content.{and-left, and-right}
+use Rattle.room.specs.Done.{done-same}
 use Rattle.rows.specs.Equalities.{all}
 use Rattle.sound.specs.Operations.{sheet-of}
 use Rattle.theorems.specs.Sizes
 use Rattle.theorems.specs.Theorems.{with-room, needed, Hands-out, Gives, Is-one-pass, Is-all-five}
-use Rattle.theorems.specs.ShutOut.{Program, Refusing-all, Fixed-sheet, fixed-to, Fixed-plan, hand-back, Handed-back, early, All-in-one, if-success, with-counts, more-cells, more-columns, Invented-counts, with-rest, Spoiled-rest}
+use Rattle.theorems.specs.ShutOut.{Program, Program-of-five, Settled, Answerable, Answerable-five, P1-answerable, Shut-out-unless, Refusing, Other-sheet, Invented-cells, Invented-columns, Spoiled-rest, Shut-out-if-always, Refusing-all, Fixed-sheet, Fixed-plan, Handed-back, Idle, All-in-one}
 use Rattle.theorems.proofs.Proofs.{one-pass-gives, all-five-gives}
+
+-- ======== all is settled
+
+same-outcome : (o p : Outcome) → o .numbers ≡ p .numbers → o .output ≡ p .output → o ≡ p
+same-outcome o p e f =
+    ap (λ (n : Numbers). record { numbers = n; output = o .output }) e ∙ ap (λ (l : List ℕ). record { numbers = p .numbers; output = l }) f
+
+gives-one : (s out : List ℕ) (r : Answer Node) (o p : Outcome) → Gives s out r o → Gives s out r p → o ≡ p
+gives-one s out (refused number place) o p g h = g ∙ sym h
+gives-one s out (done m) o p g h = go (leb (needed s m) (length out)) refl
+  where
+    go : (t : Bool) → leb (needed s m) (length out) ≡ t → o ≡ p
+    go true e =
+        let x = g .0 (leb-true (needed s m) (length out) e) in
+        let y = h .0 (leb-true (needed s m) (length out) e) in
+        same-outcome o p (x .returned ∙ sym (y .returned)) (x .rest-stays ∙ sym (y .rest-stays))
+    go false e = let short = leb-false (needed s m) (length out) e in g .1 short ∙ sym (h .1 short)
+
+abbrev passed : List ℕ → ℕ → Answer Node
+passed s k = plan s >>= λ (n : Node). with-room (Sizes.pass (schema s) k n) (pass (schema s) k n)
+
+abbrev optimized : List ℕ → Answer Node
+optimized s = plan s >>= λ (n : Node). with-room (Sizes.optimize (schema s) n) (optimize (schema s) n)
+
+pub settled : Settled
+settled = (
+  λ program is s b k low high out.
+      gives-one s out (passed s k) (program s k out) (one-pass s k out) (is s b k low high out) (one-pass-gives s b k low high out),
+  λ program is s b out. gives-one s out (optimized s) (program s out) (all-five s out) (is s b out) (all-five-gives s b out),
+)
+
+-- ======== faults at one answerable input
+
+-- what the second promise asks there
+asked : (s out : List ℕ) (r : Answer Node) (m : Node) (o : Outcome) → Gives s out r o → r ≡ done m → needed s m ≤ length out → Hands-out s out m o
+asked s out r m o g e fits = subst (λ (a : Answer Node). Gives s out a o) e g .0 fits
+
+pass-asked : (program : Program) → Is-one-pass program → (s : List ℕ) (k : ℕ) (out : List ℕ) (m : Node) → Answerable s k out m → Hands-out s out m (program s k out)
+pass-asked program is s k out m a = asked s out (passed s k) m (program s k out) (is s (a .bytes) k (a .from-1) (a .to-5) out) (a .gives) (a .fits)
+
+five-asked : (program : Program-of-five) → Is-all-five program → (s out : List ℕ) (m : Node) → Answerable-five s out m → Hands-out s out m (program s out)
+five-asked program is s out m a = asked s out (optimized s) m (program s out) (is s (a .bytes) out) (a .gives) (a .fits)
+
+unless : (right : (s out : List ℕ) → Node → Outcome → Type 0)
+    → ((s out : List ℕ) (m : Node) (o : Outcome) → Hands-out s out m o → right s out m o) → Shut-out-unless right
+unless right holds = (
+  λ program s k out m a wrong is. wrong (holds s out m (program s k out) (pass-asked program is s k out m a)),
+  λ program s out m a wrong is. wrong (holds s out m (program s out) (five-asked program is s out m a)),
+)
+
+pub refusing : Refusing
+refusing = unless _ (λ s out m o h. ap (λ (n : Numbers). n .number) (h .returned))
+
+pub other-sheet : Other-sheet
+other-sheet = unless _ (λ s out m o h. h .is-written)
+
+pub invented-cells : Invented-cells
+invented-cells = unless _ (λ s out m o h. ap (λ (n : Numbers). n .cells) (h .returned))
+
+pub invented-columns : Invented-columns
+invented-columns = unless _ (λ s out m o h. ap (λ (n : Numbers). n .columns) (h .returned))
+
+pub spoiled-rest : Spoiled-rest
+spoiled-rest =
+    unless _ (λ s out m o h.
+    h .rest-stays
+    ∙ (ap (λ (l : List ℕ). l ++ drop (needed s m) out) (sym (h .is-written))
+    ∙ ap (λ (n : Numbers). sheet-of o ++ drop (n .length) out) (sym (h .returned))))
+
+-- ======== answerable inputs
 
 are-bytes : (l : List ℕ) → all (λ (x : ℕ). ltb x 256) l ≡ true → (i : ℕ) → getD l i 0 < 256
 are-bytes [] h i = omega arith
@@ -42,193 +110,180 @@ abbrev one-cell : List ℕ
 one-cell =
     57 ∷ 0 ∷ 0 ∷ 0 ∷ 0 ∷ 0 ∷ 0 ∷ 0 ∷ 0 ∷ 0 ∷ 0 ∷ 0 ∷ 0 ∷ 0 ∷ 0 ∷ 0 ∷ 0 ∷ 0 ∷ 0 ∷ 0 ∷ 0 ∷ 0 ∷ 0 ∷ 0 ∷ 0 ∷ 0 ∷ 0 ∷ 0 ∷ 1 ∷ 0 ∷ 0 ∷ 0 ∷ 36 ∷ 0 ∷ 0 ∷ 0 ∷ []
 
--- an output that is long enough
+-- A table of one column, its key, and a plan of fourteen cells that each pass makes smaller: NestedLoopJoin on #0 = #1 of Filter(true) over a Scan, and a Scan
+-- with And(#0 = 1, Not(false)). Pass 1 folds Not and And, 2 pushes the Filter into its Scan, 3 looks up the key 1, 4 makes a HashJoin, 5 removes the Filter.
+abbrev busy : List ℕ
+busy =
+    0 ∷ 0 ∷ 0 ∷ 0 ∷ 0 ∷ 0 ∷ 0 ∷ 0 ∷ 1 ∷ 0 ∷ 0 ∷ 0 ∷ 0 ∷ 0 ∷ 0 ∷ 0 ∷ 0 ∷ 0 ∷ 0 ∷ 0 ∷ 1 ∷ 0 ∷ 0 ∷ 0 ∷ 0 ∷ 0 ∷ 0 ∷ 0 ∷ 0 ∷ 0 ∷ 0 ∷ 0 ∷ 62 ∷ 0 ∷ 0 ∷ 0 ∷
+    0 ∷ 0 ∷ 0 ∷ 0 ∷ 0 ∷ 0 ∷ 0 ∷ 0 ∷ 0 ∷ 0 ∷ 0 ∷ 0 ∷ 2 ∷ 0 ∷ 0 ∷ 0 ∷ 1 ∷ 0 ∷ 0 ∷ 0 ∷ 0 ∷ 0 ∷ 0 ∷ 0 ∷ 0 ∷ 0 ∷ 0 ∷ 0 ∷ 51 ∷ 0 ∷ 0 ∷ 0 ∷ 0 ∷ 0 ∷ 0 ∷ 0 ∷
+    0 ∷ 0 ∷ 0 ∷ 0 ∷ 0 ∷ 0 ∷ 0 ∷ 0 ∷ 6 ∷ 0 ∷ 0 ∷ 0 ∷ 0 ∷ 0 ∷ 0 ∷ 0 ∷ 0 ∷ 0 ∷ 0 ∷ 0 ∷ 0 ∷ 0 ∷ 0 ∷ 0 ∷ 3 ∷ 0 ∷ 0 ∷ 0 ∷ 1 ∷ 0 ∷ 0 ∷ 0 ∷ 0 ∷ 0 ∷ 0 ∷ 0 ∷
+    0 ∷ 0 ∷ 0 ∷ 0 ∷ 12 ∷ 0 ∷ 0 ∷ 0 ∷ 0 ∷ 0 ∷ 0 ∷ 0 ∷ 0 ∷ 0 ∷ 0 ∷ 0 ∷ 0 ∷ 0 ∷ 0 ∷ 0 ∷ 2 ∷ 0 ∷ 0 ∷ 0 ∷ 0 ∷ 0 ∷ 0 ∷ 0 ∷ 0 ∷ 0 ∷ 0 ∷ 0 ∷ 0 ∷ 0 ∷ 0 ∷ 0 ∷
+    30 ∷ 0 ∷ 0 ∷ 0 ∷ 0 ∷ 0 ∷ 0 ∷ 0 ∷ 0 ∷ 0 ∷ 0 ∷ 0 ∷ 0 ∷ 0 ∷ 0 ∷ 0 ∷ 10 ∷ 0 ∷ 0 ∷ 0 ∷ 0 ∷ 0 ∷ 0 ∷ 0 ∷ 0 ∷ 0 ∷ 0 ∷ 0 ∷ 0 ∷ 0 ∷ 0 ∷ 0 ∷ 62 ∷ 1 ∷ 0 ∷ 0 ∷
+    0 ∷ 0 ∷ 0 ∷ 0 ∷ 0 ∷ 0 ∷ 0 ∷ 0 ∷ 0 ∷ 0 ∷ 0 ∷ 0 ∷ 6 ∷ 0 ∷ 0 ∷ 0 ∷ 0 ∷ 0 ∷ 0 ∷ 0 ∷ 0 ∷ 0 ∷ 0 ∷ 0 ∷ 0 ∷ 0 ∷ 0 ∷ 0 ∷ 6 ∷ 0 ∷ 0 ∷ 0 ∷ 1 ∷ 0 ∷ 0 ∷ 0 ∷
+    0 ∷ 0 ∷ 0 ∷ 0 ∷ 0 ∷ 0 ∷ 0 ∷ 0 ∷ 12 ∷ 0 ∷ 0 ∷ 0 ∷ 0 ∷ 0 ∷ 0 ∷ 0 ∷ 0 ∷ 0 ∷ 0 ∷ 0 ∷ 0 ∷ 0 ∷ 0 ∷ 0 ∷ 56 ∷ 1 ∷ 0 ∷ 0 ∷ 0 ∷ 0 ∷ 0 ∷ 0 ∷ 0 ∷ 0 ∷ 0 ∷ 0 ∷
+    0 ∷ 0 ∷ 0 ∷ 0 ∷ 0 ∷ 0 ∷ 0 ∷ 0 ∷ 16 ∷ 0 ∷ 0 ∷ 0 ∷ 32 ∷ 0 ∷ 0 ∷ 0 ∷ 1 ∷ 0 ∷ 0 ∷ 0 ∷ 20 ∷ 1 ∷ 0 ∷ 0 ∷ []
+
+-- the cells of what is answered, if that is a plan, are from `least` to `most`
+abbrev within : (least most : ℕ) → Answer Node → Bool
+within least most (done m) = leb least (node-size m) && leb (node-size m) most
+within least most (refused number place) = false
+
+-- that plan
+record Found (least most : ℕ) (r : Answer Node) : Type 0 where
+  node : Node
+  is : r ≡ done node
+  low : least ≤ node-size node
+  high : node-size node ≤ most
+
+found : (least most : ℕ) (r : Answer Node) → within least most r ≡ true → Found least most r
+found least most (done m) h =
+    record {
+      node = m;
+      is = refl;
+      low = leb-true least (node-size m) (and-left (leb least (node-size m)) (leb (node-size m) most) h);
+      high = leb-true (node-size m) most (and-right (leb least (node-size m)) (leb (node-size m) most) h);
+    }
+found least most (refused number place) h = absurd (false≢true h)
+
+abbrev passes : List ℕ
+passes = 1 ∷ 2 ∷ 3 ∷ 4 ∷ 5 ∷ []
+
+each-pass : (f : ℕ → Bool) → all f passes ≡ true → (k : ℕ) → 1 ≤ k → k ≤ 5 → f k ≡ true
+each-pass f h zero low high = absurd (omega arith)
+each-pass f h (suc zero) low high = and-left (f 1) _ h
+each-pass f h (suc (suc zero)) low high = and-left (f 2) _ (and-right (f 1) _ h)
+each-pass f h (suc (suc (suc zero))) low high = and-left (f 3) _ (and-right (f 2) _ (and-right (f 1) _ h))
+each-pass f h (suc (suc (suc (suc zero)))) low high = and-left (f 4) _ (and-right (f 3) _ (and-right (f 2) _ (and-right (f 1) _ h)))
+each-pass f h (suc (suc (suc (suc (suc zero))))) low high =
+    and-left (f 5) _ (and-right (f 4) _ (and-right (f 3) _ (and-right (f 2) _ (and-right (f 1) _ h))))
+each-pass f h (suc (suc (suc (suc (suc (suc k)))))) low high = absurd (omega arith)
+
+-- A closed sheet whose cells start at `front`, and that gives plans of so many cells in each pass and in all five: what the checker computes.
+record Computed (s : List ℕ) (front least most least-five most-five : ℕ) : Type 0 where
+  are-small : all (λ (x : ℕ). ltb x 256) s ≡ true
+  fronts : cells-at s ≡ front
+  each : all (λ (k : ℕ). within least most (passed s k)) passes ≡ true
+  five : within least-five most-five (optimized s) ≡ true
+
+P1-computed : Computed P1 0 5 8 3 3
+unfolding plan schema half word length-ok edition-ok parts-ok bad-record bad-cell cell-ok cell read integer-of-bits integer-bits Sizes.maybe-push-filter Sizes.push-filters-from Optimizer.maybe-push-join Optimizer.maybe-push-filter Optimizer.push-filters-from Optimizer.FilterPushdown Optimizer.index-lookup Optimizer.IndexLookup
+P1-computed = record { are-small = refl; fronts = refl; each = refl; five = refl }
+
+one-cell-computed : Computed one-cell 0 1 1 1 1
+unfolding plan schema half word length-ok edition-ok parts-ok bad-record bad-cell cell-ok cell read integer-of-bits integer-bits Sizes.maybe-push-filter Sizes.push-filters-from Optimizer.maybe-push-join Optimizer.maybe-push-filter Optimizer.push-filters-from Optimizer.FilterPushdown Optimizer.index-lookup Optimizer.IndexLookup
+one-cell-computed = record { are-small = refl; fronts = refl; each = refl; five = refl }
+
+busy-computed : Computed busy 32 0 13 0 13 × (within 14 14 (plan busy) ≡ true)
+unfolding plan schema half word length-ok edition-ok parts-ok table-ok column-ok bad-record bad-cell cell-ok cell read integer-of-bits integer-bits into-cnf into-cnf-vec Sizes.maybe-push-filter Sizes.push-filters-from Optimizer.maybe-push-join Optimizer.maybe-push-filter Optimizer.push-filters-from Optimizer.FilterPushdown Optimizer.index-lookup Optimizer.IndexLookup
+busy-computed = (record { are-small = refl; fronts = refl; each = refl; five = refl }, refl)
+
+module _ {s : List ℕ} {front least most least-five most-five : ℕ} (c : Computed s front least most least-five most-five) where
+  pass-found : (k : ℕ) → 1 ≤ k → k ≤ 5 → Found least most (passed s k)
+  pass-found k low high = found least most (passed s k) (each-pass (λ k. within least most (passed s k)) (c .each) k low high)
+
+  pass-answerable : (k : ℕ) (low : 1 ≤ k) (high : k ≤ 5) (out : List ℕ) → front + 16 * most + 20 ≤ length out → Answerable s k out (pass-found k low high .node)
+  pass-answerable k low high out fits =
+      let x = pass-found k low high in
+      record {
+        bytes = are-bytes s (c .are-small);
+        from-1 = low;
+        to-5 = high;
+        gives = x .is;
+        fits = omega (arith, c .fronts, x .high, fits);
+      }
+
+  five-found : Found least-five most-five (optimized s)
+  five-found = found least-five most-five (optimized s) (c .five)
+
+  five-answerable : (out : List ℕ) → front + 16 * most-five + 20 ≤ length out → Answerable-five s out (five-found .node)
+  five-answerable out fits =
+      record { bytes = are-bytes s (c .are-small); gives = five-found .is; fits = omega (arith, c .fronts, five-found .high, fits) }
+
+pub p1-answerable : P1-answerable
+p1-answerable = (
+  λ k low high out fits. (pass-found P1-computed k low high .node, pass-answerable P1-computed k low high out (omega arith)),
+  λ out fits. (five-found P1-computed .node, five-answerable P1-computed out (omega arith)),
+)
+
+-- ======== what is always done
+
+-- an output that is long enough for all three
 abbrev lent : List ℕ
-lent = replicate 148 0
-
-abbrev one : Node
-one = leaf (values ((constant (datum (integer (pos 1))) ∷ []) ∷ []))
-
--- P1's plan, of eight cells
-abbrev whole : Node
-whole = over (filter (and (constant (truth True)) (not (constant (truth False))))) one
-
--- what pass 1 makes of it
-abbrev folded : Node
-folded = over (filter (constant (truth True))) one
-
-abbrev answer-1 : List ℕ → Answer Node
-answer-1 s = plan s >>= λ (n : Node). with-room (Sizes.pass (schema s) 1 n) (pass (schema s) 1 n)
-
-abbrev answer-all : List ℕ → Answer Node
-answer-all s = plan s >>= λ (n : Node). with-room (Sizes.optimize (schema s) n) (optimize (schema s) n)
-
-P1-is : (plan P1 ≡ done whole) × (answer-1 P1 ≡ done folded) × (answer-all P1 ≡ done one)
-unfolding plan schema half word length-ok edition-ok parts-ok bad-record bad-cell cell-ok cell read integer-of-bits integer-bits Sizes.maybe-push-filter Sizes.push-filters-from Optimizer.maybe-push-join Optimizer.maybe-push-filter Optimizer.push-filters-from Optimizer.FilterPushdown Optimizer.index-lookup Optimizer.IndexLookup
-P1-is = (refl, refl, refl)
-
-abbrev none : Node
-none = leaf (nothing [])
-
-one-cell-is : (plan one-cell ≡ done none) × (answer-1 one-cell ≡ done none) × (answer-all one-cell ≡ done none)
-unfolding plan schema half word length-ok edition-ok parts-ok bad-record bad-cell cell-ok cell read integer-of-bits integer-bits Sizes.maybe-push-filter Sizes.push-filters-from Optimizer.maybe-push-join Optimizer.maybe-push-filter Optimizer.push-filters-from Optimizer.FilterPushdown Optimizer.index-lookup Optimizer.IndexLookup
-one-cell-is = (refl, refl, refl)
-
-lengths : (needed P1 folded ≡ 100) × (needed P1 one ≡ 68) × (needed one-cell none ≡ 36)
-unfolding word
-lengths = (refl, refl, refl)
-
--- what the second promise asks, where there is a plan and the output is long enough
-asked : (s out : List ℕ) (r : Answer Node) (m : Node) (o : Outcome) → Gives s out r o → r ≡ done m → needed s m ≤ length out → Hands-out s out m o
-asked s out r m o g e fits = subst (λ (a : Answer Node). Gives s out a o) e g .0 fits
-
-module _ (program : Program) (is : Is-one-pass program) where
-  P1-passed : (out : List ℕ) → 100 ≤ length out → Hands-out P1 out folded (program P1 1 out)
-  P1-passed out fits =
-      asked P1 out (answer-1 P1) folded (program P1 1 out) (is P1 (are-bytes P1 refl) 1 (omega arith) (omega arith) out) (P1-is .1)
-      (let l = lengths .0 in omega arith)
-
-  of-P1 : program P1 1 lent .numbers ≡ record { number = 0; place = 0; length = needed P1 folded; cells = 5; columns = 1 }
-  of-P1 = P1-passed lent (omega arith) .returned
-
-  of-one-cell : program one-cell 1 lent .numbers ≡ record { number = 0; place = 0; length = needed one-cell none; cells = 1; columns = 0 }
-  of-one-cell =
-      asked one-cell lent (answer-1 one-cell) none (program one-cell 1 lent)
-      (is one-cell (are-bytes one-cell refl) 1 (omega arith) (omega arith) lent) (one-cell-is .1) (let l = lengths .2 in omega arith) .returned
-
-module _ (program : List ℕ → List ℕ → Outcome) (is : Is-all-five program) where
-  P1-optimized : (out : List ℕ) → 68 ≤ length out → Hands-out P1 out one (program P1 out)
-  P1-optimized out fits =
-      asked P1 out (answer-all P1) one (program P1 out) (is P1 (are-bytes P1 refl) out) (P1-is .2) (let l = lengths .1 in omega arith)
-
-  all-of-P1 : program P1 lent .numbers ≡ record { number = 0; place = 0; length = needed P1 one; cells = 3; columns = 1 }
-  all-of-P1 = P1-optimized lent (omega arith) .returned
-
-  all-of-one-cell : program one-cell lent .numbers ≡ record { number = 0; place = 0; length = needed one-cell none; cells = 1; columns = 0 }
-  all-of-one-cell =
-      asked one-cell lent (answer-all one-cell) none (program one-cell lent) (is one-cell (are-bytes one-cell refl) lent) (one-cell-is .2)
-      (let l = lengths .2 in omega arith) .returned
-
--- two answers with other counts of cells
-apart : (a b : Numbers) → a ≡ b → (a .cells ≡ b .cells → ⊥) → ⊥
-apart a b e ne = ne (ap (λ (n : Numbers). n .cells) e)
-
--- ======== refusing all, and one fixed sheet
+lent = replicate 276 0
 
 pub refusing-all : Refusing-all
-refusing-all program refuses = (
-  λ is. refuses P1 1 lent whole (P1-is .0) (ap (λ (n : Numbers). n .number) (of-P1 program is)),
-  λ is. refuses P1 0 lent whole (P1-is .0) (ap (λ (n : Numbers). n .number) (all-of-P1 (λ s out. program s 0 out) is)),
+refusing-all = (
+  λ program k low high h.
+      let (m, a) = p1-answerable .0 k low high lent (omega arith) in
+      refusing .0 program P1 k lent m a (h P1 lent m a),
+  λ program h.
+      let (m, a) = p1-answerable .1 lent (omega arith) in
+      refusing .1 program P1 lent m a (h P1 lent m a),
+)
+
+-- equal sheets stand for equal plans
+read-sheets : (f : (s out : List ℕ) → List ℕ) → Shut-out-if-always (λ s out o. plan (sheet-of o) ≡ plan (f s out)) → Shut-out-if-always (λ s out o. sheet-of o ≡ f s out)
+read-sheets f shut = (
+  λ program k low high h. shut .0 program k low high (λ s out m a. ap plan (h s out m a)),
+  λ program h. shut .1 program (λ s out m a. ap plan (h s out m a)),
+)
+
+-- plans of unlike sizes
+unlike : (r : Answer Node) (a b : Node) → node-size a < node-size b → r ≡ done a → r ≡ done b → ⊥
+unlike r a b less e f = let same = ap node-size (done-same (sym e ∙ f)) in absurd (omega arith)
+
+-- what is read of the sheet handed out, a plan or a refusal, would be the same for P1 and the sheet of one cell
+fixed-reading : (fixed : List ℕ → Answer Node) → Shut-out-if-always (λ s out o. plan (sheet-of o) ≡ fixed out)
+fixed-reading fixed = (
+  λ program k low high h is.
+      let x = pass-found one-cell-computed k low high in
+      let a = pass-answerable one-cell-computed k low high lent (omega arith) in
+      let y = pass-found P1-computed k low high in
+      let b = pass-answerable P1-computed k low high lent (omega arith) in
+      unlike (fixed lent) (x .node) (y .node) (omega (arith, x .high, y .low))
+      (sym (h one-cell lent (x .node) a) ∙ pass-asked program is one-cell k lent (x .node) a .stands-for)
+      (sym (h P1 lent (y .node) b) ∙ pass-asked program is P1 k lent (y .node) b .stands-for),
+  λ program h is.
+      let x = five-found one-cell-computed in
+      let a = five-answerable one-cell-computed lent (omega arith) in
+      let y = five-found P1-computed in
+      let b = five-answerable P1-computed lent (omega arith) in
+      unlike (fixed lent) (x .node) (y .node) (omega (arith, x .high, y .low))
+      (sym (h one-cell lent (x .node) a) ∙ five-asked program is one-cell lent (x .node) a .stands-for)
+      (sym (h P1 lent (y .node) b) ∙ five-asked program is P1 lent (y .node) b .stands-for),
 )
 
 pub fixed-sheet : Fixed-sheet
-fixed-sheet program fixed same =
-    let numbers : (k : ℕ) → program P1 k lent .numbers ≡ program one-cell k lent .numbers =
-    λ k. ap (λ (o : Outcome). o .numbers) (same P1 k lent whole (P1-is .0) ∙ sym (same one-cell k lent none (one-cell-is .0))) in (
-      λ is. apart _ _ (sym (of-P1 program is) ∙ (numbers 1 ∙ of-one-cell program is)) (λ z. absurd (omega arith)),
-      λ is.
-          apart _ _ (sym (all-of-P1 (λ s out. program s 0 out) is) ∙ (numbers 0 ∙ all-of-one-cell (λ s out. program s 0 out) is)) (λ z. absurd (omega arith)),
-    )
-
--- ======== a plan handed out
-
--- its cells, where the count of cells isn't 0
-cells-written : (s out : List ℕ) (m : Node) (w : List ℕ) (t : Bool) (c : ℕ) → written s out m w t .numbers .cells ≡ suc c → node-size m ≡ suc c
-cells-written s out m w true c e = e
-cells-written s out m w false c e = absurd (omega arith)
-
-cells-handed : (s out : List ℕ) (r : Answer Node) (m : Node) (c : ℕ) → r ≡ done m → hand-out s out r .numbers .cells ≡ suc c → node-size m ≡ suc c
-cells-handed s out r m c h e =
-    cells-written s out m (write s m) (leb (length (write s m)) (length out)) c
-    (ap (λ (a : Answer Node). hand-out s out a .numbers .cells) (sym h) ∙ e)
-
--- the fixed plan would have as many cells as two plans
-two-plans : (m : Node) (a : ℕ) → hand-out P1 lent (plan P1 >>= λ n. done m) .numbers .cells ≡ suc (suc a)
-    → hand-out one-cell lent (plan one-cell >>= λ n. done m) .numbers .cells ≡ 1 → ⊥
-two-plans m a e f =
-    let p = cells-handed P1 lent (plan P1 >>= λ n. done m) m (suc a) (ap (λ (r : Answer Node). r >>= λ n. done m) (P1-is .0)) e in
-    let q = cells-handed one-cell lent (plan one-cell >>= λ n. done m) m 0 (ap (λ (r : Answer Node). r >>= λ n. done m) (one-cell-is .0)) f in
-    absurd (omega (arith, p, q))
+fixed-sheet fixed = read-sheets (λ s out. fixed out) (fixed-reading (λ out. plan (fixed out)))
 
 pub fixed-plan : Fixed-plan
-fixed-plan m = (
-  λ is.
-      two-plans (m 1 lent) 3 (ap (λ (n : Numbers). n .cells) (of-P1 (fixed-to m) is)) (ap (λ (n : Numbers). n .cells) (of-one-cell (fixed-to m) is)),
-  λ is.
-      two-plans (m 0 lent) 1 (ap (λ (n : Numbers). n .cells) (all-of-P1 (λ s out. fixed-to m s 0 out) is))
-      (ap (λ (n : Numbers). n .cells) (all-of-one-cell (λ s out. fixed-to m s 0 out) is)),
-)
+fixed-plan fixed = fixed-reading (λ out. done (fixed out))
 
-pub handed-back : Handed-back
-handed-back = (
-  λ is.
-      let eight : node-size whole ≡ 5 = cells-handed P1 lent (plan P1) whole 4 (P1-is .0) (ap (λ (n : Numbers). n .cells) (of-P1 hand-back is)) in
-      absurd (omega (arith, eight)),
-  λ is.
-      let eight : node-size whole ≡ 3 = cells-handed P1 lent (plan P1) whole 2 (P1-is .0) (ap (λ (n : Numbers). n .cells) (all-of-P1 (λ s out. hand-back s 0 out) is)) in
-      absurd (omega (arith, eight)),
-)
-
--- all five are given by all-five, so its answer to P1 has three cells
-pub all-in-one : All-in-one
-all-in-one is = apart _ _ (sym (of-P1 early is) ∙ all-of-P1 all-five all-five-gives) (λ z. absurd (omega arith))
-
--- ======== a success changed
-
-without : (w a b : List ℕ) → w ++ a ≡ w ++ b → a ≡ b
-without w a b e = sym (drop-append-seam w a) ∙ (ap (drop (length w)) e ∙ drop-append-seam w b)
-
-module _ (s out : List ℕ) (m : Node) (o : Outcome) (right : Hands-out s out m o) where
-  success-changed : (change : Outcome → Outcome) → Hands-out s out m (if-success change o) → Hands-out s out m (change o)
-  success-changed change h =
-      subst (Hands-out s out m) (ap (λ (n : ℕ). cond (eqb n 0) (change o) o) (ap (λ (n : Numbers). n .number) (right .returned))) h
-
-  no-more-cells : Hands-out s out m (more-cells o) → ⊥
-  no-more-cells h =
-      let a : suc (o .numbers .cells) ≡ node-size m = ap (λ (n : Numbers). n .cells) (success-changed (with-counts suc (λ n. n)) h .returned) in
-      let b : o .numbers .cells ≡ node-size m = ap (λ (n : Numbers). n .cells) (right .returned) in
-      absurd (omega (arith, a, b))
-
-  no-more-columns : Hands-out s out m (more-columns o) → ⊥
-  no-more-columns h =
-      let a : suc (o .numbers .columns) ≡ columns (schema s) m = ap (λ (n : Numbers). n .columns) (success-changed (with-counts (λ n. n) suc) h .returned) in
-      let b : o .numbers .columns ≡ columns (schema s) m = ap (λ (n : Numbers). n .columns) (right .returned) in
-      absurd (omega (arith, a, b))
-
-  rest-same : (spoil : List ℕ → List ℕ) → Hands-out s out m (if-success (with-rest spoil out) o) → spoil (drop (needed s m) out) ≡ drop (needed s m) out
-  rest-same spoil h =
-      let long : o .numbers .length ≡ needed s m = ap (λ (n : Numbers). n .length) (right .returned) in
-      let same : sheet-of o ++ spoil (drop (o .numbers .length) out) ≡ write s m ++ drop (needed s m) out = success-changed (with-rest spoil out) h .rest-stays in
-      without (write s m) (spoil (drop (needed s m) out)) (drop (needed s m) out)
-      (sym (ap (λ (l : ℕ). write s m ++ spoil (drop l out)) long) ∙ (sym (ap (λ (l : List ℕ). l ++ spoil (drop (o .numbers .length) out)) (right .is-written)) ∙ same))
-
-pub invented-counts : Invented-counts
-invented-counts =
-    let right = P1-passed one-pass one-pass-gives lent (omega arith) in
-    let right-five = P1-optimized all-five all-five-gives lent (omega arith) in (
-      (
-        λ is. no-more-cells P1 lent folded (one-pass P1 1 lent) right (P1-passed (λ s k out. more-cells (one-pass s k out)) is lent (omega arith)),
-        λ is. no-more-cells P1 lent one (all-five P1 lent) right-five (P1-optimized (λ s out. more-cells (all-five s out)) is lent (omega arith)),
-      ),
-      (
-        λ is. no-more-columns P1 lent folded (one-pass P1 1 lent) right (P1-passed (λ s k out. more-columns (one-pass s k out)) is lent (omega arith)),
-        λ is. no-more-columns P1 lent one (all-five P1 lent) right-five (P1-optimized (λ s out. more-columns (all-five s out)) is lent (omega arith)),
-      ),
+pub idle : Idle
+idle =
+    let n = found 14 14 (plan busy) (busy-computed .1) in
+    let c = busy-computed .0 in (
+      λ program k low high h is.
+          let x = pass-found c k low high in
+          let a = pass-answerable c k low high lent (omega arith) in
+          unlike (plan busy) (x .node) (n .node) (omega (arith, x .high, n .low))
+          (sym (h busy lent (x .node) a) ∙ pass-asked program is busy k lent (x .node) a .stands-for) (n .is),
+      λ program h is.
+          let x = five-found c in
+          let a = five-answerable c lent (omega arith) in
+          unlike (plan busy) (x .node) (n .node) (omega (arith, x .high, n .low))
+          (sym (h busy lent (x .node) a) ∙ five-asked program is busy lent (x .node) a .stands-for) (n .is),
     )
 
--- the output is as long as the sheet needs, and what is behind it is the rest that is spoiled
-pub spoiled-rest : Spoiled-rest
-spoiled-rest spoil rest ne = (
-  λ is.
-      let out = replicate 100 0 ++ rest in
-      let fits : 100 ≤ length out = omega (arith, length-append (replicate 100 0) rest) in
-      let h = rest-same P1 out folded (one-pass P1 1 out) (P1-passed one-pass one-pass-gives out fits) spoil
-      (P1-passed (λ s k out. if-success (with-rest spoil out) (one-pass s k out)) is out fits) in
-      ne (subst (λ (n : ℕ). spoil (drop n out) ≡ drop n out) (lengths .0) h),
-  λ is.
-      let out = replicate 68 0 ++ rest in
-      let fits : 68 ≤ length out = omega (arith, length-append (replicate 68 0) rest) in
-      let h = rest-same P1 out one (all-five P1 out) (P1-optimized all-five all-five-gives out fits) spoil
-      (P1-optimized (λ s out. if-success (with-rest spoil out) (all-five s out)) is out fits) in
-      ne (subst (λ (n : ℕ). spoil (drop n out) ≡ drop n out) (lengths .1) h),
-)
+pub handed-back : Handed-back
+handed-back = read-sheets (λ s out. s) idle
+
+-- all five are given by all-five, whose sheet for P1 has three cells
+pub all-in-one : All-in-one
+all-in-one program k low high h is =
+    let x = five-found P1-computed in
+    let a = five-answerable P1-computed lent (omega arith) in
+    let y = pass-found P1-computed k low high in
+    let b = pass-answerable P1-computed k low high lent (omega arith) in
+    unlike (plan (sheet-of (all-five P1 lent))) (x .node) (y .node) (omega (arith, x .high, y .low)) (five-asked all-five all-five-gives P1 lent (x .node) a .stands-for)
+    (sym (ap plan (h P1 lent (y .node) (x .node) b a)) ∙ pass-asked program is P1 k lent (y .node) b .stands-for)

@@ -67,6 +67,14 @@ fn lookups(n: u32) -> Node {
     join(wide(0), wide(1), Some(all(pairs.chain(given))))
 }
 
+/// A join of two wide sources on n pairs of columns, with n lookups of a column that is in no pair.
+fn lookups_of_another(n: u32) -> Node {
+    let wide = |table: u32| Node::Remap { source: Box::new(scan(table)), targets: vec![Some(255), None, None] };
+    let pairs = (0..n).map(|i| equal(col(i), col(256 + i)));
+    let given = (0..n).map(|i| equal(col(255), int(i64::from(i))));
+    join(wide(0), wide(1), Some(all(pairs.chain(given))))
+}
+
 fn filters(n: usize, source: Node, predicate: impl Fn(usize) -> Rc<Expr>) -> Node {
     (0..n).fold(source, |node, i| filter(node, predicate(i)))
 }
@@ -100,6 +108,9 @@ fn shapes() -> Vec<(String, Sheet)> {
     }
     for n in [4, 16, 64, 160] {
         add(&format!("{n} equijoins and {n} lookups"), lookups(n));
+    }
+    for n in [4, 64, 250] {
+        add(&format!("{n} equijoins and {n} lookups of another column"), lookups_of_another(n));
     }
     add("1000 Filters of a column over a Scan", filters(1000, scan(0), |_| col(0)));
     add("1000 Filters of a column over a join", filters(1000, join(scan(0), scan(1), None), |_| col(0)));
@@ -138,6 +149,14 @@ fn optimized(node: Theirs) -> Option<Theirs> {
     }
 }
 
+/// The Rust's plan for a sheet, from bytes to bytes.
+fn decoded_and_encoded(bytes: &[u8]) -> Option<Vec<u8>> {
+    let numbers: HashMap<String, u32> = HashMap::new();
+    let node = sheet::decode(bytes, Texts::Bare).expect("text");
+    let cells = optimized(node).and_then(|n| sheet::encode(&n, &|t| Some(numbers.get(t).copied().unwrap_or(0))));
+    cells.map(|cells| sheet::with_cells(bytes, &cells))
+}
+
 /// One row of the table; false if the library is slower than the Rust's `optimize` alone.
 fn row(name: &str, bytes: &[u8], rust: bool) -> (f64, Option<f64>) {
     let mut output = vec![0; 45_332];
@@ -149,15 +168,7 @@ fn row(name: &str, bytes: &[u8], rust: bool) -> (f64, Option<f64>) {
         return (ours, None);
     };
     let alone = best(|| node.clone(), optimized);
-    let numbers: HashMap<String, u32> = HashMap::new();
-    let whole = best(
-        || (),
-        |()| {
-            let node = sheet::decode(bytes, Texts::Bare).expect("text");
-            let cells = optimized(node).and_then(|n| sheet::encode(&n, &|t| Some(numbers.get(t).copied().unwrap_or(0))));
-            cells.map(|cells| sheet::with_cells(bytes, &cells))
-        },
-    );
+    let whole = best(|| (), |()| decoded_and_encoded(bytes));
     println!(
         "| {name} | {} | {cells} | {ours:.0} | {:.1} | {alone:.0} | {:.2} | {whole:.0} | {:.2} |",
         answer.number,
@@ -202,4 +213,81 @@ pub fn bench() -> bool {
     println!();
     println!("the slowest: {} ({:.2} ms); slower than the Rust: {slower:?}", worst.1, worst.0 / 1e6);
     slower.is_empty() && worst.0 < 50e6
+}
+
+/// The library's time on a sheet, the Rust's `optimize` alone, the same with decode and encode, and the library's pass 4 alone, which on most plans does
+/// nothing but read, check, copy and write: in turns, the best of each. None where the Rust gives no plan.
+fn times(bytes: &[u8]) -> Option<[f64; 4]> {
+    let node = sheet::decode(bytes, Texts::Bare)?;
+    let mut output = vec![0; 45_332];
+    let once = Instant::now();
+    optimized(node.clone())?;
+    // Four milliseconds a turn, and at least one call.
+    let calls = (4_000_000 / once.elapsed().as_nanos().max(1)).clamp(1, 1_000) as usize;
+    let mut least = [f64::INFINITY; 4];
+    for _ in 0..5 {
+        let start = Instant::now();
+        for _ in 0..calls {
+            let _ = black_box(reqshabu::optimize(black_box(bytes), &mut output));
+        }
+        least[0] = least[0].min(start.elapsed().as_nanos() as f64);
+        let inputs: Vec<Theirs> = (0..calls).map(|_| node.clone()).collect();
+        let mut outputs = Vec::with_capacity(calls);
+        let start = Instant::now();
+        for input in inputs {
+            outputs.push(black_box(optimized(black_box(input))));
+        }
+        least[1] = least[1].min(start.elapsed().as_nanos() as f64);
+        let start = Instant::now();
+        for _ in 0..calls {
+            black_box(decoded_and_encoded(black_box(bytes)));
+        }
+        least[2] = least[2].min(start.elapsed().as_nanos() as f64);
+        let start = Instant::now();
+        for _ in 0..calls {
+            let _ = black_box(reqshabu::pass(black_box(bytes), 4, &mut output));
+        }
+        least[3] = least[3].min(start.elapsed().as_nanos() as f64);
+    }
+    Some(least)
+}
+
+/// How ratios are spread, and which are the largest; whether none is over 1.
+fn spread(name: &str, mut ratios: Vec<(f64, u64, u64)>) -> bool {
+    ratios.sort_by(|a, b| a.0.total_cmp(&b.0));
+    let at = |part: f64| ratios[((ratios.len() - 1) as f64 * part) as usize].0;
+    let slower = ratios.iter().filter(|r| r.0 > 1.0).count();
+    println!(
+        "{name}: {} sheets, least {:.2}, median {:.2}, 90 % {:.2}, 99 % {:.2}, largest {:.2}; {slower} over 1",
+        ratios.len(),
+        at(0.0),
+        at(0.5),
+        at(0.9),
+        at(0.99),
+        at(1.0)
+    );
+    for (ratio, cells, i) in ratios.iter().rev().take(5) {
+        println!("    case {i}, {cells} cells: {ratio:.2}");
+    }
+    slower == 0
+}
+
+/// `bench-random`: the library's time beside the Rust's on random sheets that all five passes hand out.
+pub fn random(n: u64, seed: u64) -> bool {
+    let (mut alone, mut whole, mut floor) = (Vec::new(), Vec::new(), 0);
+    for i in 0..n {
+        let bytes = generate::bytes(&mut Rng::case(seed, i));
+        if model::all_five(&bytes, 45_332).0.number != 0 {
+            continue;
+        }
+        if let Some([ours, optimize, all, pass]) = times(&bytes) {
+            let cells = model::check(&bytes).cells;
+            alone.push((ours / optimize, cells, i));
+            whole.push((ours / all, cells, i));
+            floor += u64::from(ours > optimize && pass > optimize);
+        }
+    }
+    spread("beside the Rust's optimize alone", alone);
+    println!("    on {floor} of those over 1, pass 4 alone takes longer than the Rust's five");
+    spread("with its decode and encode", whole)
 }

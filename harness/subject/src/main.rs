@@ -13,6 +13,7 @@
 //!     subject limits [KIB]             sheets at the limits, on a thread with so much stack (1024)
 //!     subject rows N SEED              the six plans that the library hands out, read over random tables
 //!     subject bench-all                all five passes beside the compiled Rust's `optimize`
+//!     subject bench-random N SEED      the same on N random accepted sheets: how the ratios are spread
 mod bench;
 mod operations;
 
@@ -117,8 +118,12 @@ fn main() {
         Some("limits") => operations::at_limits(words.get(1).map_or(1024, |_| number(1))),
         Some("rows") => operations::rows(number(1), number(2)),
         Some("bench-all") => original::on_deep_stack(bench::bench),
+        Some("bench-random") => {
+            let (n, seed) = (number(1), number(2));
+            original::on_deep_stack(move || bench::random(n, seed))
+        }
         _ => {
-            eprintln!("subject damaged | accepted | operations | capacities | rubbish | rows N SEED, or bench | bench-all | limits");
+            eprintln!("subject damaged | accepted | operations | capacities | rubbish | rows | bench-random N SEED, or bench | bench-all | limits");
             false
         }
     };

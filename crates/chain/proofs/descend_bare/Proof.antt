@@ -1,4 +1,4 @@
-use Rattle.chain.proofs.Bare.{bare-at, own-inside, down-bare, several-sources, own-left}
+use Rattle.chain.proofs.Bare.{bare-at, six-inside, down-bare, several-sources, own-left}
 use Rattle.chain.specs.Chain.{Bare, no-more}
 use native.Mathlib.Omega.{arith}
 use mathlib.Core.Path.{refl}
@@ -6,7 +6,7 @@ use Rattle.chain.proofs.descend_bare.Statement.{statement}
 use Rattle.chain.proofs.descend_bare.Tie as tie
 use Rattle.chain.proofs.descend_bare.Reads as reads
 use Rattle.chain.proofs.descend_bare.Lts as lts
-use Rattle.nodes.proofs.own_start.Reads as own-start-reads
+use Rattle.nodes.proofs.own_trees.Reads as own-trees-reads
 use Rattle.nodes.proofs.source_count.Reads as source-count-reads
 
 abbrev Inv-loop : tie.InvT-loop
@@ -24,23 +24,20 @@ source-count-requires c κs = bare-at (c .loop .inv) (c .before .before .pre)
 returns : tie.Need-returns Inv-loop μ-loop
 returns c = several-sources (c .before .before .loop .inv) (c .before .source-count .ensures) (c .if1 .taken)
 
-own-start-requires : tie.Need-own-start-requires Inv-loop μ-loop
-own-start-requires c κs = bare-at (c .before .before .loop .inv) (c .before .before .before .before .pre)
-
-sub-if2 : tie.Need-sub-if2 Inv-loop μ-loop
-sub-if2 c = omega (arith, own-inside (c .before .before .before .loop .inv) (c .before .before .before .before .before .pre) (c .own-start .ensures))
+own-trees-requires : tie.Need-own-trees-requires Inv-loop μ-loop
+own-trees-requires c κs = bare-at (c .before .before .loop .inv) (c .before .before .before .before .pre)
 
 returns-2 : tie.Need-returns-2 Inv-loop μ-loop
-returns-2 c = own-left (c .before .before .before .before .loop .inv) (c .before .own-start .ensures) (c .if2 .taken)
+returns-2 c = own-left (c .before .before .before .before .loop .inv) (c .before .before .before .source-count .ensures) (c .before .before .if1 .left) (c .before .own-trees .ensures) (c .if2 .taken)
 
 sub-end : tie.Need-sub-end Inv-loop μ-loop
-sub-end c = omega (arith, own-inside (c .before .before .before .before .loop .inv) (c .before .before .before .before .before .before .pre) (c .before .own-start .ensures))
+sub-end c = six-inside (c .before .before .before .before .loop .inv) (c .before .before .before .before .before .before .pre)
 
 loop-less : tie.Need-loop-less Inv-loop μ-loop
-loop-less c = omega (arith, own-inside (c .before .before .before .before .loop .inv) (c .before .before .before .before .before .before .pre) (c .before .own-start .ensures))
+loop-less c = omega (arith, six-inside (c .before .before .before .before .loop .inv) (c .before .before .before .before .before .before .pre))
 
 loop-again : tie.Need-loop-again Inv-loop μ-loop
-loop-again c = down-bare (c .before .before .before .before .loop .inv) (c .before .before .before .before .before .before .pre) (c .before .before .before .source-count .ensures) (c .before .before .if1 .left) (c .before .own-start .ensures) (c .if2 .left)
+loop-again c = down-bare (c .before .before .before .before .loop .inv) (c .before .before .before .before .before .before .pre) (c .before .before .before .source-count .ensures) (c .before .before .if1 .left) (c .before .own-trees .ensures) (c .if2 .left)
 
 pub descend-bare-spec : {M : Type 1} → statement M
 descend-bare-spec =
@@ -51,8 +48,7 @@ descend-bare-spec =
     loop-holds
     source-count-requires
     returns
-    own-start-requires
-    sub-if2
+    own-trees-requires
     returns-2
     sub-end
     loop-less

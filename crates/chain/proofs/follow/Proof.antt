@@ -1,4 +1,4 @@
-use Rattle.chain.proofs.Writing.{copy-up, follows-full, follows-done}
+use Rattle.chain.proofs.Writing.{copy-up, follows-none, follows-full, follows-same, follows-done}
 use native.Mathlib.Omega.{arith}
 use borrow.Author.Needs.{needs}
 use Rattle.chain.proofs.follow.Statement.{statement}
@@ -8,24 +8,59 @@ use Rattle.chain.proofs.follow.Lts as lts
 use Rattle.cells.proofs.copy.Reads as copy-reads
 use Rattle.chain.proofs.reseal.Reads as reseal-reads
 
+returns : tie.Need-returns
+returns c = follows-none (c .if1 .taken)
+
 copy-requires : tie.Need-copy-requires
 copy-requires c κs = search needs
 
 same-length : tie.Need-same-length
 same-length c = search needs
 
-returns : tie.Need-returns
-returns c = follows-full (c .before .before .before .copy .kept .1 .1 .1 .0) (c .before .before .before .copy .ensures) (c .if1 .taken)
+returns-2 : tie.Need-returns-2
+returns-2 c = follows-full (c .before .before .before .copy .kept .1 .1 .1 .0) (c .before .before .before .copy .ensures) (c .if2 .taken)
 
-reseal-requires : tie.Need-reseal-requires
-reseal-requires c κs = let e = copy-up (c .before .before .before .before .copy .ensures) (c .before .before .before .before .before .before .before .before .pre .0) (c .before .before .before .before .before .before .before .before .pre .1 .0) (omega (arith, c .before .before .before .before .copy .kept .1 .1 .1 .0, c .before .if1 .left)) in (c .before .before .before .before .before .before .before .before .pre .1 .1, (omega (arith, e), c .before .if1 .left))
+sub-if3 : tie.Need-sub-if3
+sub-if3 c = search needs
+
+mul-if3 : tie.Need-mul-if3
+mul-if3 c = search needs
+
+shared-slice-read-if3 : tie.Need-shared-slice-read-if3
+shared-slice-read-if3 c = search needs
+
+sub-if3-2 : tie.Need-sub-if3-2
+sub-if3-2 c = omega (arith, c .before .before .before .before .before .before .before .before .before .pre .1 .1, copy-up (c .before .before .before .before .copy .ensures) (c .before .before .before .before .before .before .before .before .before .pre .0) (c .before .before .before .before .before .before .before .before .before .pre .1 .0) (omega (arith, c .before .before .before .before .copy .kept .1 .1 .1 .0, c .before .if2 .left)))
 
 same-length-2 : tie.Need-same-length-2
 same-length-2 c = search needs
 
-returns-2 : tie.Need-returns-2
-returns-2 c = follows-done (c .before .before .before .before .before .before .before .copy .kept .1 .1 .1 .0) (c .before .before .before .before .before .before .before .copy .ensures) (c .before .before .before .before .before .before .before .before .before .before .before .pre .0) (c .before .before .before .before .before .before .before .before .before .before .before .pre .1 .0) (c .before .before .before .before .if1 .left) (c .before .before .reseal .kept .0) (c .before .before .reseal .ensures)
+returns-3 : tie.Need-returns-3
+returns-3 c = follows-same (c .before .before .before .before .before .copy .kept .1 .1 .1 .0) (c .before .before .before .before .before .copy .ensures) (c .before .before .before .before .before .before .before .before .before .before .pre .0) (c .before .before .before .before .before .before .before .before .before .before .pre .1 .0) (c .before .before .if2 .left) (c .if3 .taken)
+
+reseal-requires : tie.Need-reseal-requires
+reseal-requires c κs = let e = copy-up (c .before .before .before .before .before .before .copy .ensures) (c .before .before .before .before .before .before .before .before .before .before .before .pre .0) (c .before .before .before .before .before .before .before .before .before .before .before .pre .1 .0) (omega (arith, c .before .before .before .before .before .before .copy .kept .1 .1 .1 .0, c .before .before .before .if2 .left)) in (c .before .before .before .before .before .before .before .before .before .before .before .pre .1 .1, (omega (arith, e), c .before .before .before .if2 .left))
+
+same-length-3 : tie.Need-same-length-3
+same-length-3 c = search needs
+
+returns-4 : tie.Need-returns-4
+returns-4 c = follows-done (c .before .before .before .before .before .before .before .before .before .copy .kept .1 .1 .1 .0) (c .before .before .before .before .before .before .before .before .before .copy .ensures) (c .before .before .before .before .before .before .before .before .before .before .before .before .before .before .pre .0) (c .before .before .before .before .before .before .before .before .before .before .before .before .before .before .pre .1 .0) (c .before .before .before .before .before .before .if2 .left) (c .before .before .reseal .kept .0) (c .before .before .reseal .ensures)
 
 pub follow-spec : {M : Type 1} → statement M
 follow-spec =
-    tie.close (tie.spec copy-requires same-length returns reseal-requires same-length-2 returns-2)
+    tie.close
+    (tie.spec
+    returns
+    copy-requires
+    same-length
+    returns-2
+    sub-if3
+    mul-if3
+    shared-slice-read-if3
+    sub-if3-2
+    same-length-2
+    returns-3
+    reseal-requires
+    same-length-3
+    returns-4)

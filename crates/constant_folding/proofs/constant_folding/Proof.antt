@@ -1,4 +1,5 @@
 use Rattle.constant_folding.proofs.Plans.{source-at, plan-folded}
+use Rattle.words.proofs.Nodes.{node-in}
 use Prim.Native.Nat.{ℕ, _+_, _-_, _*_, _≤_, _<_}
 use native.Mathlib.Omega.{arith}
 use mathlib.Core.Path.{_≡_, refl, sym, ap, _∙_, subst}
@@ -12,7 +13,7 @@ use Rattle.constant_folding.proofs.constant_folding.Lts as lts
 use Rattle.constant_folding.proofs.fold_node.Reads as fold-node-reads
 
 fold-node-requires : tie.Need-fold-node-requires
-fold-node-requires c κs = (source-at (c .before .before .before .before .before .before .pre .0), (omega (arith, c .before .before .before .before .before .before .pre .1 .0), omega (arith, c .before .before .before .before .before .before .pre .1 .1)))
+fold-node-requires c κs = ((source-at (c .before .before .before .before .before .before .pre .0), omega (arith, node-in (c .before .before .before .before .before .before .pre .0 .p) (c .before .before .before .before .before .before .pre .0 .here) .0)), (omega (arith, c .before .before .before .before .before .before .pre .1 .0), omega (arith, c .before .before .before .before .before .before .pre .1 .1)))
 
 same-length : tie.Need-same-length
 same-length c = search needs

@@ -13,7 +13,7 @@ use Rattle.operations.proofs.+run.Lts-run as run-lts
 use Rattle.operations.proofs.in_16.Reads as in-16-reads
 use Rattle.operations.proofs.in_192.Reads as in-192-reads
 use Rattle.operations.proofs.in_2048.Reads as in-2048-reads
-use Rattle.operations.proofs.in_64.Reads as in-64-reads
+use Rattle.operations.proofs.in_96.Reads as in-96-reads
 use Rattle.operations.proofs.in_640.Reads as in-640-reads
 use Rattle.operations.proofs.+run.{statement}
 use Rattle.operations.proofs.+run.Tie.{close}
@@ -28,7 +28,7 @@ abbrev run-below : ℕ → In 2 run-kinds.ps
 run-below t = and 2 run-kinds.ps (falls 2 run-kinds.ps _<_ μ-run t) run.Pre
 
 abbrev run-claims : ℕ → run-lts.Claims
-run-claims t = (in-16-reads.Asked, in-16-reads.Learnt, run-below t, run.Post, in-64-reads.Asked, in-64-reads.Learnt, in-192-reads.Asked, in-192-reads.Learnt, in-640-reads.Asked, in-640-reads.Learnt, in-2048-reads.Asked, in-2048-reads.Learnt)
+run-claims t = (in-16-reads.Asked, in-16-reads.Learnt, run-below t, run.Post, in-96-reads.Asked, in-96-reads.Learnt, in-192-reads.Asked, in-192-reads.Learnt, in-640-reads.Asked, in-640-reads.Learnt, in-2048-reads.Asked, in-2048-reads.Learnt)
 
 run-in-16-requires : (t : ℕ) → run-lts.Need-in-16-requires (run-claims t) (run-at t) run.Post
 run-in-16-requires t c κs = (c .before .before .before .before .pre .1 .0, in-more (c .before .before .before .before .pre .1 .1 .0) (c .before .if1 .taken))
@@ -48,23 +48,23 @@ run-same-length-2 t c = c .before .before .before .before .in-16 .kept .1 .1 .1 
 run-returns-2 : (t : ℕ) → run-lts.Need-returns-2 (run-claims t) (run-at t) run.Post
 run-returns-2 t c = settles 16 2048 (omega arith) (c .before .before .before .before .before .before .before .before .before .args .s .now) (c .before .before .before .before .before .before .before .before .before .args .c) (c .before .before .before .before .before .before .before .before .before .args .count) (c .before .before .before .before .before .before .before .before .before .args .out .now) _ _ (c .if2 .left) (c .before .before .before .before .in-16 .ensures)
 
-run-in-64-requires : (t : ℕ) → run-lts.Need-in-64-requires (run-claims t) (run-at t) run.Post
-run-in-64-requires t c κs = (c .before .before .before .before .before .pre .1 .0, in-more (c .before .before .before .before .before .pre .1 .1 .0) (c .before .if3 .taken))
+run-in-96-requires : (t : ℕ) → run-lts.Need-in-96-requires (run-claims t) (run-at t) run.Post
+run-in-96-requires t c κs = (c .before .before .before .before .before .pre .1 .0, in-more (c .before .before .before .before .before .pre .1 .1 .0) (omega (arith, c .before .if3 .taken)))
 
 run-run-requires-2 : (t : ℕ) → run-lts.Need-run-requires-2 (run-claims t) (run-at t) run.Post
 run-run-requires-2 t c κs = (omega (arith, c .before .before .before .before .before .before .before .before .before .before .before .pre .0, c .before .before .before .before .before .before .before .if3 .taken), (c .before .before .before .before .before .before .before .before .before .before .before .pre .1 .0, (in-more (c .before .before .before .before .before .before .before .before .before .before .before .pre .1 .1 .0) (omega (arith, c .before .before .before .before .before .before .before .if3 .taken)), omega arith)))
 
 run-same-length-3 : (t : ℕ) → run-lts.Need-same-length-3 (run-claims t) (run-at t) run.Post
-run-same-length-3 t c = c .before .before .run2 .kept .1 .1 .1 .1 .0 ∙ c .before .before .before .before .before .before .before .before .in-64 .kept .1 .1 .1 .0
+run-same-length-3 t c = c .before .before .run2 .kept .1 .1 .1 .1 .0 ∙ c .before .before .before .before .before .before .before .before .in-96 .kept .1 .1 .1 .0
 
 run-returns-3 : (t : ℕ) → run-lts.Need-returns-3 (run-claims t) (run-at t) run.Post
-run-returns-3 t c = again 64 2048 (c .before .before .before .before .before .before .before .before .before .before .before .before .before .before .args .s .now) (c .before .before .before .before .before .before .before .before .before .before .before .before .before .before .args .c) (c .before .before .before .before .before .before .before .before .before .before .before .before .before .before .args .count) (c .before .before .before .before .before .before .before .before .before .before .before .before .before .before .args .out .now) _ _ _ _ (c .before .before .before .before .if4 .taken) (c .before .before .before .before .before .before .before .before .in-64 .ensures) (c .before .before .run2 .ensures)
+run-returns-3 t c = again 96 2048 (c .before .before .before .before .before .before .before .before .before .before .before .before .before .before .args .s .now) (c .before .before .before .before .before .before .before .before .before .before .before .before .before .before .args .c) (c .before .before .before .before .before .before .before .before .before .before .before .before .before .before .args .count) (c .before .before .before .before .before .before .before .before .before .before .before .before .before .before .args .out .now) _ _ _ _ (c .before .before .before .before .if4 .taken) (c .before .before .before .before .before .before .before .before .in-96 .ensures) (c .before .before .run2 .ensures)
 
 run-same-length-4 : (t : ℕ) → run-lts.Need-same-length-4 (run-claims t) (run-at t) run.Post
-run-same-length-4 t c = c .before .before .before .before .in-64 .kept .1 .1 .1 .0
+run-same-length-4 t c = c .before .before .before .before .in-96 .kept .1 .1 .1 .0
 
 run-returns-4 : (t : ℕ) → run-lts.Need-returns-4 (run-claims t) (run-at t) run.Post
-run-returns-4 t c = settles 64 2048 (omega arith) (c .before .before .before .before .before .before .before .before .before .before .args .s .now) (c .before .before .before .before .before .before .before .before .before .before .args .c) (c .before .before .before .before .before .before .before .before .before .before .args .count) (c .before .before .before .before .before .before .before .before .before .before .args .out .now) _ _ (c .if4 .left) (c .before .before .before .before .in-64 .ensures)
+run-returns-4 t c = settles 96 2048 (omega arith) (c .before .before .before .before .before .before .before .before .before .before .args .s .now) (c .before .before .before .before .before .before .before .before .before .before .args .c) (c .before .before .before .before .before .before .before .before .before .before .args .count) (c .before .before .before .before .before .before .before .before .before .before .args .out .now) _ _ (c .if4 .left) (c .before .before .before .before .in-96 .ensures)
 
 run-in-192-requires : (t : ℕ) → run-lts.Need-in-192-requires (run-claims t) (run-at t) run.Post
 run-in-192-requires t c κs = (c .before .before .before .before .before .before .pre .1 .0, in-more (c .before .before .before .before .before .before .pre .1 .1 .0) (c .before .if5 .taken))
@@ -119,7 +119,7 @@ pub +run-spec : {M : Type 1} → statement M
     (run-returns t)
     (run-same-length-2 t)
     (run-returns-2 t)
-    (run-in-64-requires t)
+    (run-in-96-requires t)
     (run-run-requires-2 t)
     (run-same-length-3 t)
     (run-returns-3 t)

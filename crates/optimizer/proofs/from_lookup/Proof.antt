@@ -24,37 +24,37 @@ enum-known-n : tie.Need-enum-known-n
 enum-known-n c = search needs
 
 from-hash-requires : tie.Need-from-hash-requires
-from-hash-requires c κs = (plan-with (λ schema text g. (g .named, g .inside)) (plan-next (λ schema text g. g .indexed) (λ room schema p. Room.IndexLookup room schema 0 p) (c .before .before .before .before .before .before .before .before .before .before .before .before .before .before .before .before .before .before .before .before .before .before .before .before .before .before .args .x .now) (c .before .before .before .before .before .before .before .before .before .before .before .before .before .before .before .before .before .before .before .before .before .before .before .before .before .before .args .t) _ _ _ (c .before .before .before .before .n .given .1) (c .before .before .before .before .before .before .before .before .before .before .before .before .look-up .ensures) (omega (arith, c .before .before .before .before .before .before .before .before .before .before .before .before .look-up .kept .1 .0, c .before .before .before .before .before .before .before .before .before .before .before .before .before .before .before .before .before .before .before .before .before .before .before .before .before .before .pre .1 .second)) (c .before .before .before .before .before .before .before .before .before .before .before .before .before .before .before .before .before .before .before .before .before .before .before .before .before .before .pre .0)), (omega (arith, c .before .before .before .before .before .before .before .before .before .before .before .before .look-up .kept .1 .0, c .before .before .before .before .before .before .before .before .before .before .before .before .before .before .before .before .before .before .before .before .before .before .before .before .before .before .pre .1 .second), omega (arith, c .before .before .before .before .before .before .before .before .before .before .before .before .look-up .kept .1 .0, c .before .before .before .before .before .before .before .before .before .before .before .before .look-up .kept .1 .1 .0, c .before .before .before .before .before .before .before .before .before .before .before .before .before .before .before .before .before .before .before .before .before .before .before .before .before .before .pre .1 .second, c .before .before .before .before .before .before .before .before .before .before .before .before .before .before .before .before .before .before .before .before .before .before .before .before .before .before .pre .1 .third)))
+from-hash-requires c κs = (plan-with (λ schema text g. (g .named, g .inside)) (plan-next (λ schema text g. g .indexed) (λ room schema p. Room.IndexLookup room schema 0 p) (c .before .before .before .before .before .before .before .before .before .before .before .before .before .before .before .before .before .before .before .before .before .before .before .before .before .before .args .x .now) (c .before .before .before .before .before .before .before .before .before .before .before .before .before .before .before .before .before .before .before .before .before .before .before .before .before .before .args .t) _ _ _ (c .before .before .before .before .n .given .1) (c .before .before .before .before .before .before .before .before .before .before .before .before .look-up .ensures) (omega (arith, c .before .before .before .before .before .before .before .before .before .before .before .before .look-up .kept .1 .0, c .before .before .before .before .before .before .before .before .before .before .before .before .before .before .before .before .before .before .before .before .before .before .before .before .before .before .pre .1 .second)) (c .before .before .before .before .before .before .before .before .before .before .before .before .before .before .before .before .before .before .before .before .before .before .before .before .before .before .pre .0)), (omega (arith, c .before .before .before .before .before .before .before .before .before .before .before .before .look-up .kept .1 .0, c .before .before .before .before .before .before .before .before .before .before .before .before .look-up .kept .1 .1 .0, c .before .before .before .before .before .before .before .before .before .before .before .before .before .before .before .before .before .before .before .before .before .before .before .before .before .before .pre .1 .second, c .before .before .before .before .before .before .before .before .before .before .before .before .before .before .before .before .before .before .before .before .before .before .before .before .before .before .pre .1 .third), omega (arith, c .before .before .before .before .before .before .before .before .before .before .before .before .look-up .kept .1 .0, c .before .before .before .before .before .before .before .before .before .before .before .before .before .before .before .before .before .before .before .before .before .before .before .before .before .before .pre .1 .second)))
 
 enum-known-number : tie.Need-enum-known-number
 enum-known-number c = search needs
 
 same-length : tie.Need-same-length
-same-length c = c .before .before .before .before .before .before .from-hash .kept .1 .0
+same-length c = search needs
 
 same-length-2 : tie.Need-same-length-2
-same-length-2 c = c .before .before .before .before .before .before .from-hash .kept .0 ∙ c .before .before .before .before .before .before .before .before .before .before .before .before .before .before .before .before .before .before .before .look-up .kept .1 .0
+same-length-2 c = search needs
 
 same-length-3 : tie.Need-same-length-3
-same-length-3 c = c .before .before .before .before .before .before .from-hash .kept .1 .1 .0 ∙ c .before .before .before .before .before .before .before .before .before .before .before .before .before .before .before .before .before .before .before .look-up .kept .1 .1 .0
+same-length-3 c = search needs
 
 same-length-4 : tie.Need-same-length-4
-same-length-4 c = c .before .before .before .before .before .before .before .before .before .before .before .before .before .before .before .before .before .before .before .look-up .kept .1 .1 .1 .0
+same-length-4 c = search needs
 
 returns : tie.Need-returns
 returns c = runs-then (λ schema text g. g .indexed) (λ room schema p. Room.IndexLookup room schema 0 p) (c .before .before .before .before .before .before .before .before .before .before .before .before .before .before .before .before .before .before .before .before .before .before .before .before .before .before .before .before .before .before .before .before .before .args .x .now) (c .before .before .before .before .before .before .before .before .before .before .before .before .before .before .before .before .before .before .before .before .before .before .before .before .before .before .before .before .before .before .before .before .before .args .t) _ _ _ (c .before .before .before .before .before .before .before .before .before .before .before .n .given .1) (c .before .before .before .before .before .before .before .before .before .before .before .before .before .before .before .before .before .before .before .look-up .ensures) (omega (arith, c .before .before .before .before .before .before .before .before .before .before .before .before .before .before .before .before .before .before .before .look-up .kept .1 .0, c .before .before .before .before .before .before .before .before .before .before .before .before .before .before .before .before .before .before .before .before .before .before .before .before .before .before .before .before .before .before .before .before .before .pre .1 .second)) (λ schema text g. (g .named, g .inside)) (λ room schema q. in-turn (from-hash room schema) q) _ _ (c .before .before .before .before .before .before .from-hash .ensures)
 
 same-length-5 : tie.Need-same-length-5
-same-length-5 c = refl
+same-length-5 c = search needs
 
 same-length-6 : tie.Need-same-length-6
-same-length-6 c = c .before .before .before .before .before .before .before .before .before .look-up .kept .1 .0
+same-length-6 c = search needs
 
 same-length-7 : tie.Need-same-length-7
-same-length-7 c = c .before .before .before .before .before .before .before .before .before .look-up .kept .1 .1 .0
+same-length-7 c = search needs
 
 same-length-8 : tie.Need-same-length-8
-same-length-8 c = c .before .before .before .before .before .before .before .before .before .look-up .kept .1 .1 .1 .0
+same-length-8 c = search needs
 
 returns-2 : tie.Need-returns-2
 returns-2 c = runs-stop (λ schema text g. g .indexed) (λ room schema p. Room.IndexLookup room schema 0 p) (c .before .before .before .before .before .before .before .before .before .before .before .before .before .before .before .before .before .before .before .before .before .before .before .args .x .now) (c .before .before .before .before .before .before .before .before .before .before .before .before .before .before .before .before .before .before .before .before .before .before .before .args .t) _ _ _ _ (c .before .number .given .1) (c .before .before .before .before .before .before .before .before .before .look-up .ensures) (λ room schema q. in-turn (from-hash room schema) q) _

@@ -15,55 +15,55 @@ use Rattle.optimizer.proofs.from_pushdown.Tie as tie
 use Rattle.optimizer.proofs.from_pushdown.Reads as reads
 use Rattle.optimizer.proofs.from_pushdown.Lts as lts
 use Rattle.optimizer.proofs.from_lookup.Reads as from-lookup-reads
-use Rattle.passes.proofs.push_down.Reads as push-down-reads
+use Rattle.passes.proofs.push_down_in_place.Reads as push-down-in-place-reads
 
-push-down-requires : tie.Need-push-down-requires
-push-down-requires c κs = (plan-with (λ schema text g. g .named .tables) (c .before .before .before .before .before .before .before .before .before .before .before .before .before .pre .0), c .before .before .before .before .before .before .before .before .before .before .before .before .before .pre .1)
+push-down-in-place-requires : tie.Need-push-down-in-place-requires
+push-down-in-place-requires c κs = (plan-with (λ schema text g. g .named .tables) (c .before .before .before .before .before .before .before .before .before .before .before .before .before .pre .0), c .before .before .before .before .before .before .before .before .before .before .before .before .before .pre .1)
 
 enum-known-n : tie.Need-enum-known-n
 enum-known-n c = search needs
 
 from-lookup-requires : tie.Need-from-lookup-requires
-from-lookup-requires c κs = (plan-next (λ schema text g. g .named .tables) (λ room schema p. Room.FilterPushdown room schema 0 p) (c .before .before .before .before .before .before .before .before .before .before .before .before .before .before .before .before .before .before .before .before .before .before .before .before .before .before .before .before .before .args .x .now) (c .before .before .before .before .before .before .before .before .before .before .before .before .before .before .before .before .before .before .before .before .before .before .before .before .before .before .before .before .before .args .t) _ _ _ (c .before .before .before .before .before .n .given .1) (c .before .before .before .before .before .before .before .before .before .before .before .before .before .before .before .push-down .ensures) (omega (arith, c .before .before .before .before .before .before .before .before .before .before .before .before .before .before .before .push-down .kept .1 .0, c .before .before .before .before .before .before .before .before .before .before .before .before .before .before .before .before .before .before .before .before .before .before .before .before .before .before .before .before .before .pre .1 .second)) (c .before .before .before .before .before .before .before .before .before .before .before .before .before .before .before .before .before .before .before .before .before .before .before .before .before .before .before .before .before .pre .0), record { second = omega (arith, c .before .before .before .before .before .before .before .before .before .before .before .before .before .before .before .push-down .kept .0, c .before .before .before .before .before .before .before .before .before .before .before .before .before .before .before .push-down .kept .1 .0, c .before .before .before .before .before .before .before .before .before .before .before .before .before .before .before .before .before .before .before .before .before .before .before .before .before .before .before .before .before .pre .1 .second); third = omega (arith, c .before .before .before .before .before .before .before .before .before .before .before .before .before .before .before .push-down .kept .1 .0, c .before .before .before .before .before .before .before .before .before .before .before .before .before .before .before .push-down .kept .1 .1 .0, c .before .before .before .before .before .before .before .before .before .before .before .before .before .before .before .before .before .before .before .before .before .before .before .before .before .before .before .before .before .pre .1 .second, c .before .before .before .before .before .before .before .before .before .before .before .before .before .before .before .before .before .before .before .before .before .before .before .before .before .before .before .before .before .pre .1 .third); fourth = omega (arith, c .before .before .before .before .before .before .before .before .before .before .before .before .before .before .before .push-down .kept .1 .0, c .before .before .before .before .before .before .before .before .before .before .before .before .before .before .before .push-down .kept .1 .1 .1 .0, c .before .before .before .before .before .before .before .before .before .before .before .before .before .before .before .before .before .before .before .before .before .before .before .before .before .before .before .before .before .pre .1 .second, c .before .before .before .before .before .before .before .before .before .before .before .before .before .before .before .before .before .before .before .before .before .before .before .before .before .before .before .before .before .pre .1 .fourth) })
+from-lookup-requires c κs = (plan-next (λ schema text g. g .named .tables) (λ room schema p. Room.FilterPushdown room schema 0 p) (c .before .before .before .before .before .before .before .before .before .before .before .before .before .before .before .before .before .before .before .before .before .before .before .before .before .before .before .before .before .args .x .now) (c .before .before .before .before .before .before .before .before .before .before .before .before .before .before .before .before .before .before .before .before .before .before .before .before .before .before .before .before .before .args .t) _ _ _ (c .before .before .before .before .before .n .given .1) (c .before .before .before .before .before .before .before .before .before .before .before .before .before .before .before .push-down-in-place .ensures) (c .before .before .before .before .before .before .before .before .before .before .before .before .before .before .before .push-down-in-place .kept .0) (c .before .before .before .before .before .before .before .before .before .before .before .before .before .before .before .before .before .before .before .before .before .before .before .before .before .before .before .before .before .pre .0), record { second = omega (arith, c .before .before .before .before .before .before .before .before .before .before .before .before .before .before .before .push-down-in-place .kept .0, c .before .before .before .before .before .before .before .before .before .before .before .before .before .before .before .push-down-in-place .kept .1 .0, c .before .before .before .before .before .before .before .before .before .before .before .before .before .before .before .before .before .before .before .before .before .before .before .before .before .before .before .before .before .pre .1 .second); third = omega (arith, c .before .before .before .before .before .before .before .before .before .before .before .before .before .before .before .push-down-in-place .kept .0, c .before .before .before .before .before .before .before .before .before .before .before .before .before .before .before .push-down-in-place .kept .1 .1 .0, c .before .before .before .before .before .before .before .before .before .before .before .before .before .before .before .before .before .before .before .before .before .before .before .before .before .before .before .before .before .pre .1 .third); fourth = omega (arith, c .before .before .before .before .before .before .before .before .before .before .before .before .before .before .before .push-down-in-place .kept .0, c .before .before .before .before .before .before .before .before .before .before .before .before .before .before .before .push-down-in-place .kept .1 .1 .1 .0, c .before .before .before .before .before .before .before .before .before .before .before .before .before .before .before .before .before .before .before .before .before .before .before .before .before .before .before .before .before .pre .1 .fourth) })
 
 enum-known-number : tie.Need-enum-known-number
 enum-known-number c = search needs
 
 same-length : tie.Need-same-length
-same-length c = c .before .before .before .before .before .before .before .before .from-lookup .kept .1 .0 ∙ c .before .before .before .before .before .before .before .before .before .before .before .before .before .before .before .before .before .before .before .before .before .before .before .before .push-down .kept .0
+same-length c = search needs
 
 same-length-2 : tie.Need-same-length-2
-same-length-2 c = c .before .before .before .before .before .before .before .before .from-lookup .kept .0 ∙ c .before .before .before .before .before .before .before .before .before .before .before .before .before .before .before .before .before .before .before .before .before .before .before .before .push-down .kept .1 .0
+same-length-2 c = search needs
 
 same-length-3 : tie.Need-same-length-3
-same-length-3 c = c .before .before .before .before .before .before .before .before .from-lookup .kept .1 .1 .0 ∙ c .before .before .before .before .before .before .before .before .before .before .before .before .before .before .before .before .before .before .before .before .before .before .before .before .push-down .kept .1 .1 .0
+same-length-3 c = search needs
 
 same-length-4 : tie.Need-same-length-4
-same-length-4 c = c .before .before .before .before .before .before .before .before .from-lookup .kept .1 .1 .1 .0 ∙ c .before .before .before .before .before .before .before .before .before .before .before .before .before .before .before .before .before .before .before .before .before .before .before .before .push-down .kept .1 .1 .1 .0
+same-length-4 c = search needs
 
 returns : tie.Need-returns
-returns c = runs-then (λ schema text g. g .named .tables) (λ room schema p. Room.FilterPushdown room schema 0 p) (c .before .before .before .before .before .before .before .before .before .before .before .before .before .before .before .before .before .before .before .before .before .before .before .before .before .before .before .before .before .before .before .before .before .before .before .before .before .before .args .x .now) (c .before .before .before .before .before .before .before .before .before .before .before .before .before .before .before .before .before .before .before .before .before .before .before .before .before .before .before .before .before .before .before .before .before .before .before .before .before .before .args .t) _ _ _ (c .before .before .before .before .before .before .before .before .before .before .before .before .before .before .n .given .1) (c .before .before .before .before .before .before .before .before .before .before .before .before .before .before .before .before .before .before .before .before .before .before .before .before .push-down .ensures) (omega (arith, c .before .before .before .before .before .before .before .before .before .before .before .before .before .before .before .before .before .before .before .before .before .before .before .before .push-down .kept .1 .0, c .before .before .before .before .before .before .before .before .before .before .before .before .before .before .before .before .before .before .before .before .before .before .before .before .before .before .before .before .before .before .before .before .before .before .before .before .before .before .pre .1 .second)) (λ schema text g. g) (λ room schema q. in-turn (from-lookup room schema) q) _ _ (c .before .before .before .before .before .before .before .before .from-lookup .ensures)
+returns c = runs-then (λ schema text g. g .named .tables) (λ room schema p. Room.FilterPushdown room schema 0 p) (c .before .before .before .before .before .before .before .before .before .before .before .before .before .before .before .before .before .before .before .before .before .before .before .before .before .before .before .before .before .before .before .before .before .before .before .before .before .before .args .x .now) (c .before .before .before .before .before .before .before .before .before .before .before .before .before .before .before .before .before .before .before .before .before .before .before .before .before .before .before .before .before .before .before .before .before .before .before .before .before .before .args .t) _ _ _ (c .before .before .before .before .before .before .before .before .before .before .before .before .before .before .n .given .1) (c .before .before .before .before .before .before .before .before .before .before .before .before .before .before .before .before .before .before .before .before .before .before .before .before .push-down-in-place .ensures) (c .before .before .before .before .before .before .before .before .before .before .before .before .before .before .before .before .before .before .before .before .before .before .before .before .push-down-in-place .kept .0) (λ schema text g. g) (λ room schema q. in-turn (from-lookup room schema) q) _ _ (c .before .before .before .before .before .before .before .before .from-lookup .ensures)
 
 same-length-5 : tie.Need-same-length-5
-same-length-5 c = c .before .before .before .before .before .before .before .before .before .before .before .push-down .kept .0
+same-length-5 c = search needs
 
 same-length-6 : tie.Need-same-length-6
-same-length-6 c = c .before .before .before .before .before .before .before .before .before .before .before .push-down .kept .1 .0
+same-length-6 c = search needs
 
 same-length-7 : tie.Need-same-length-7
-same-length-7 c = c .before .before .before .before .before .before .before .before .before .before .before .push-down .kept .1 .1 .0
+same-length-7 c = search needs
 
 same-length-8 : tie.Need-same-length-8
-same-length-8 c = c .before .before .before .before .before .before .before .before .before .before .before .push-down .kept .1 .1 .1 .0
+same-length-8 c = search needs
 
 returns-2 : tie.Need-returns-2
-returns-2 c = runs-stop (λ schema text g. g .named .tables) (λ room schema p. Room.FilterPushdown room schema 0 p) (c .before .before .before .before .before .before .before .before .before .before .before .before .before .before .before .before .before .before .before .before .before .before .before .before .before .args .x .now) (c .before .before .before .before .before .before .before .before .before .before .before .before .before .before .before .before .before .before .before .before .before .before .before .before .before .args .t) _ _ _ _ (c .before .number .given .1) (c .before .before .before .before .before .before .before .before .before .before .before .push-down .ensures) (λ room schema q. in-turn (from-lookup room schema) q) _
+returns-2 c = runs-stop (λ schema text g. g .named .tables) (λ room schema p. Room.FilterPushdown room schema 0 p) (c .before .before .before .before .before .before .before .before .before .before .before .before .before .before .before .before .before .before .before .before .before .before .before .before .before .args .x .now) (c .before .before .before .before .before .before .before .before .before .before .before .before .before .before .before .before .before .before .before .before .before .before .before .before .before .args .t) _ _ _ _ (c .before .number .given .1) (c .before .before .before .before .before .before .before .before .before .before .before .push-down-in-place .ensures) (λ room schema q. in-turn (from-lookup room schema) q) _
 
 pub from-pushdown-spec : {M : Type 1} → statement M
 from-pushdown-spec =
     tie.close
     (tie.spec
-    push-down-requires
+    push-down-in-place-requires
     enum-known-n
     from-lookup-requires
     enum-known-number

@@ -1,5 +1,5 @@
 use Rattle.sql.specs.Room.{FilterPushdown}
-use Rattle.passes.proofs.Running.{push-asked, push-refused, push-copied}
+use Rattle.passes.proofs.Turns.{plan-next, runs-copied, runs-refused}
 use Prim.Native.Nat.{ℕ, _+_, _-_, _*_, _≤_, _<_}
 use native.Mathlib.Omega.{arith}
 use mathlib.Core.Path.{_≡_, refl, sym, ap, _∙_, subst}
@@ -11,10 +11,21 @@ use Rattle.passes.proofs.push_down.Tie as tie
 use Rattle.passes.proofs.push_down.Reads as reads
 use Rattle.passes.proofs.push_down.Lts as lts
 use Rattle.cells.proofs.copy.Reads as copy-reads
-use Rattle.filter_pushdown.proofs.filter_pushdown.Reads as filter-pushdown-reads
+use Rattle.passes.proofs.push_down_in_place.Reads as push-down-in-place-reads
 
-filter-pushdown-requires : tie.Need-filter-pushdown-requires
-filter-pushdown-requires c κs = (push-asked (c .before .before .before .before .before .before .before .before .before .pre .0), record { first = c .before .before .before .before .before .before .before .before .before .pre .1 .second; second = c .before .before .before .before .before .before .before .before .before .pre .1 .third; third = c .before .before .before .before .before .before .before .before .before .pre .1 .fourth })
+push-down-in-place-requires : tie.Need-push-down-in-place-requires
+push-down-in-place-requires c κs = (c .before .before .before .before .before .before .before .before .before .pre .0, c .before .before .before .before .before .before .before .before .before .pre .1)
+
+enum-known-n : tie.Need-enum-known-n
+enum-known-n c = search needs
+
+copy-requires : tie.Need-copy-requires
+copy-requires c κs =
+    let at = plan-next (λ schema text g. g) (λ room schema p. FilterPushdown room schema 0 p) (c .before .before .before .before .before .before .before .before .before .before .before .before .before .before .before .before .before .before .before .before .before .before .before .args .x .now) (c .before .before .before .before .before .before .before .before .before .before .before .before .before .before .before .before .before .before .before .before .before .before .before .args .t) _ _ _ (c .before .before .before .n .given .1) (c .before .before .before .before .before .before .before .before .before .before .before .before .before .push-down-in-place .ensures) (c .before .before .before .before .before .before .before .before .before .before .before .before .before .push-down-in-place .kept .0) (c .before .before .before .before .before .before .before .before .before .before .before .before .before .before .before .before .before .before .before .before .before .before .before .pre .0) in
+    (omega arith, at .plan .inside)
+
+enum-known-number : tie.Need-enum-known-number
+enum-known-number c = search needs
 
 same-length : tie.Need-same-length
 same-length c = search needs
@@ -29,10 +40,7 @@ same-length-4 : tie.Need-same-length-4
 same-length-4 c = search needs
 
 returns : tie.Need-returns
-returns c = push-refused FilterPushdown _ _ _ (c .before .before .before .before .before .before .before .before .before .filter-pushdown .ensures) (omega arith)
-
-copy-requires : tie.Need-copy-requires
-copy-requires c κs = search needs
+returns c = runs-copied (λ room schema p. FilterPushdown room schema 0 p) (c .before .before .before .before .before .before .before .before .before .before .before .before .before .before .before .before .before .before .before .before .before .before .before .before .before .before .args .x .now) (c .before .before .before .before .before .before .before .before .before .before .before .before .before .before .before .before .before .before .before .before .before .before .before .before .before .before .args .t) _ _ _ _ _ _ (c .before .before .before .before .before .before .n .given .1) (c .before .before .before .before .before .before .before .before .before .before .before .before .before .before .before .before .push-down-in-place .ensures) (omega (arith, c .before .before .before .before .before .before .before .before .before .before .before .before .before .before .before .before .push-down-in-place .kept .0, c .before .before .before .before .before .before .before .before .before .before .before .before .before .before .before .before .push-down-in-place .kept .1 .0, c .before .before .before .before .before .before .before .before .before .before .before .before .before .before .before .before .before .before .before .before .before .before .before .before .before .before .pre .1 .second)) (c .before .before .copy .kept .1 .1 .1 .0) (c .before .before .copy .ensures)
 
 same-length-5 : tie.Need-same-length-5
 same-length-5 c = search needs
@@ -47,19 +55,21 @@ same-length-8 : tie.Need-same-length-8
 same-length-8 c = search needs
 
 returns-2 : tie.Need-returns-2
-returns-2 c = push-copied FilterPushdown _ _ _ _ _ (c .before .before .before .before .before .before .before .before .before .before .before .before .before .before .filter-pushdown .ensures) (omega arith) (omega (arith, c .before .before .before .before .before .before .before .before .before .before .before .before .before .before .filter-pushdown .kept .0, c .before .before .before .before .before .before .before .before .before .before .before .before .before .before .filter-pushdown .kept .1 .0, c .before .before .before .before .before .before .before .before .before .before .before .before .before .before .before .before .before .before .before .before .before .before .before .before .pre .1 .second)) (c .before .before .copy .kept .1 .1 .1 .0) (c .before .before .copy .ensures)
+returns-2 c = runs-refused (λ room schema p. FilterPushdown room schema 0 p) (c .before .before .before .before .before .before .before .before .before .before .before .before .before .before .before .before .before .before .before .before .before .args .x .now) (c .before .before .before .before .before .before .before .before .before .before .before .before .before .before .before .before .before .before .before .before .before .args .t) _ _ _ _ _ (c .before .number .given .1) (c .before .before .before .before .before .before .before .before .before .before .before .push-down-in-place .ensures)
 
 pub push-down-spec : {M : Type 1} → statement M
 push-down-spec =
     tie.close
     (tie.spec
-    filter-pushdown-requires
+    push-down-in-place-requires
+    enum-known-n
+    copy-requires
+    enum-known-number
     same-length
     same-length-2
     same-length-3
     same-length-4
     returns
-    copy-requires
     same-length-5
     same-length-6
     same-length-7
