@@ -1,4 +1,4 @@
--- Laws for the two functions of the crate: a cell put over its trees, and the loop over the cells of a sheet.
+-- Laws for three functions of the crate: where a cell's trees start, the cell put over them, and the loop over the cells of a sheet.
 -- Assumes nothing.
 use Prim.Native.Nat.{ℕ, suc, _+_, _-_, _*_, _≤_, _<_}
 use native.Mathlib.Omega.{arith}
@@ -21,14 +21,15 @@ use Rattle.layout.specs.Layout.{Whole, Laid, IsCell, as-cell}
 use Rattle.layout.specs.declared.Cell.{Cell}
 use Rattle.layout.specs.declared.Parts.{Parts}
 use Rattle.layout.proofs.Laws.{cells-are, cell-there}
-use Rattle.cells.specs.Cells.{words, sized, Part}
+use Rattle.cells.specs.Cells.{words, sized, start-at, Part, Sized}
 use Rattle.cells.specs.Room.{Wrote, Seals}
 use Rattle.cells.proofs.Laws as cells
 use Rattle.cells.proofs.Laws.{part-in, wrote-up, lt-or-ge}
 use Rattle.words.specs.Words.{node-words}
 use Rattle.nodes.specs.Trees.{Trees, TreesAt, trees-start}
-use Rattle.nodes.proofs.Trees.{trees-start-is}
+use Rattle.nodes.proofs.Trees.{trees-start-is, last-sized, before-last}
 use Rattle.decode.specs.Decode.{Acceptable, Decodes, trees, as-words, Last, Put}
+use Rattle.decode.proofs.Trees.{leaf-trees, two-trees, one-tree}
 use Rattle.decode.proofs.Builds.{in-words, Builds, at-end, on, builds-grow, node-builds}
 
 -- ---- one cell
@@ -41,14 +42,48 @@ stood {x} {lo} {at} {w} p =
     ∙ take-at (p .before ++ w) (p .after) at (length-append (p .before) w ∙ omega (arith, p .low, p .high))
     ∙ ap (λ (l : List ℕ). l ++ w) (sym (ap (take lo) (p .whole) ∙ take-at (p .before) (w ++ p .after) lo (p .low))))
 
-module _ (k : Cell) {r : ℕ} (a : r ≡ trees (as-cell k)) where
-  pub last-trees : {x : List ℕ} {at : ℕ} → Last x at k → TreesAt x r at
-  last-trees l = rw a (l .last)
+-- where the trees start that a cell asks for
+module _ {k : Cell} {x : List ℕ} {at : ℕ} (l : Last x at k) where
+  module _ {r : ℕ} (a : r ≡ trees (as-cell k)) where
+    pub last-trees : TreesAt x r at
+    last-trees = rw a (l .last)
 
-  pub put-said : {x x′ : List ℕ} {at lo n : ℕ} → lo ≡ trees-start x r at → Seals x lo at (as-words k) n x′ → Put x at k n x′
-  put-said {x} {x′} {at} {lo} {n} e s from w t p =
-      let f : lo ≡ from = e ∙ ap (λ (m : ℕ). trees-start x m at) a ∙ trees-start-is t p in
-      subst (λ (m : ℕ). Wrote x m (sized w (as-words k)) n x′) f (s x w refl (subst (λ (m : ℕ). Wrote x m w at x) (sym f) (stood p)))
+    pub start-said : {lo : ℕ} → lo ≡ trees-start x r at → lo ≡ trees-start x (trees (as-cell k)) at
+    start-said e = e ∙ ap (λ (m : ℕ). trees-start x m at) a
+
+  pub leaf-start : k .tag < 10 → at ≡ trees-start x (trees (as-cell k)) at
+  unfolding trees-start
+  leaf-start h = start-said (leaf-trees (as-cell k) h) refl
+
+  -- of an operator's two operands
+  module _ (h : 10 ≤ k .tag) (i : k .tag < 30) where
+    two-last : TreesAt x 2 at
+    two-last = last-trees (two-trees (as-cell k) h i)
+
+    pub right-sized : Sized x at
+    right-sized = last-sized (λ z. omega arith) two-last
+
+    module _ {mid : ℕ} (e : mid ≡ start-at x at) where
+      pub left-sized : Sized x mid
+      left-sized = last-sized (λ z. omega arith) (before-last (λ z. omega arith) e two-last)
+
+      pub two-start : {lo : ℕ} → lo ≡ start-at x mid → lo ≡ trees-start x (trees (as-cell k)) at
+      unfolding trees-start
+      two-start f = start-said (two-trees (as-cell k) h i) (f ∙ ap (start-at x) e)
+
+  -- of an operator's one operand
+  module _ (h : 10 ≤ k .tag) (i : 30 ≤ k .tag) (j : k .tag < 40) where
+    pub operand-sized : Sized x at
+    operand-sized = last-sized (λ z. omega arith) (last-trees (one-tree (as-cell k) h i j))
+
+    pub one-start : {lo : ℕ} → lo ≡ start-at x at → lo ≡ trees-start x (trees (as-cell k)) at
+    unfolding trees-start
+    one-start e = start-said (one-tree (as-cell k) h i j) e
+
+pub put-said : (k : Cell) {x x′ : List ℕ} {at lo n : ℕ} → lo ≡ trees-start x (trees (as-cell k)) at → Seals x lo at (as-words k) n x′ → Put x at k n x′
+put-said k {x} {x′} {at} {lo} {n} e s from w t p =
+    let f : lo ≡ from = e ∙ trees-start-is t p in
+    subst (λ (m : ℕ). Wrote x m (sized w (as-words k)) n x′) f (s x w refl (subst (λ (m : ℕ). Wrote x m w at x) (sym f) (stood p)))
 
 -- ---- all cells of a sheet
 

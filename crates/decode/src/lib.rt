@@ -3,6 +3,7 @@ ghost use mathlib.Core.Path.{_≡_};
 ghost use Prim.Native.Nat.{_-_, _≤_, _<_};
 ghost use lib.ListN.{getD};
 ghost use Rattle.layout.specs.Layout.{as-cell};
+ghost use Rattle.nodes.specs.Trees.{trees-start};
 ghost use Rattle.decode.specs.Decode.{Acceptable, Decodes, part-trees, node-trees, trees, Last, Put};
 
 // How many trees the cell k stands over: its operands, or its sources and parts. Tags are told apart by tests: a constant array over all tags would be
@@ -84,12 +85,31 @@ fn trees_from_57(k: layout::Cell) -> usize
     }
 }
 
+// Where the trees start that the cell k asks for, the last ones before `at`. Most cells are leaves or operators, for which a loop takes longer than the
+// steps that they need.
+fn start_of(x: &[usize], at: usize, k: layout::Cell) -> usize
+    requires { ⌜ Last (now x) at k ⌝ }
+    ensures { λ r. ⌜ r ≡ trees-start (now (x .entry)) (trees (as-cell k)) at ⌝ }
+{
+    if k.tag < 10 {
+        return at;
+    }
+    if k.tag < 30 {
+        let mid = cells::start(x, at);
+        return cells::start(x, mid);
+    }
+    if k.tag < 40 {
+        return cells::start(x, at);
+    }
+    nodes::trees_start(x, trees_of(k), at)
+}
+
 // The cell k over the trees that it asks for, which are the last ones before `at`.
 fn put_over(x: &mut [usize], at: usize, k: layout::Cell) -> usize
     requires { ⌜ Last (now x) at k ⌝ }
     ensures { λ r. ⌜ Put (now (x .entry)) at k r (now (x .exit)) ⌝ }
 {
-    let lo = nodes::trees_start(x, trees_of(k), at);
+    let lo = start_of(x, at, k);
     let cell = cells::Cell {
         tag: k.tag,
         flag: k.flag,

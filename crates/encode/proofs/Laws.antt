@@ -70,7 +70,7 @@ module _ (x : List ℕ) (n i : ℕ) (h : i + 6 ≤ n) (long : n ≤ length x) wh
   word : (p j : ℕ) → p ≡ i + j → j < 6 → getD (drop i (take n x)) j 0 ≡ getD x p 0
   word p j e k = getD-drop i (take n x) j 0 ∙ getD-take n x (i + j) 0 (omega arith) ∙ ap (λ (m : ℕ). getD x m 0) (sym e)
 
-  next-cell : cells-in (drop i (take n x)) ≡ as-cell (cell-at x (i + 6)) ∷ cells-in (drop (i + 6) (take n x))
+  pub next-cell : cells-in (drop i (take n x)) ≡ as-cell (cell-at x (i + 6)) ∷ cells-in (drop (i + 6) (take n x))
   next-cell =
       let l = drop i (take n x) in
       let e : length l ≡ n - i = length-drop i (take n x) ∙ ap (λ (m : ℕ). m - i) (length-take-le n x long) in

@@ -23,8 +23,9 @@ use Rattle.words.proofs.Nodes.{node-cell-is, node-tag, own-part, over-source, j
 use Rattle.words.proofs.Tags.{tagged, leaf-tag, over-tag, by-leaf, by-over, by-join, by-nothing, leaf-nothing, leaf-values}
 use Rattle.words.proofs.Sizes.{all-single}
 use Rattle.nodes.specs.Own.{OwnStart, SourceCount}
-use Rattle.nodes.specs.Columns.{Tables, Narrow, ColumnsAt, ColumnCount}
-use Rattle.nodes.proofs.Widths.{a-here, tag-here, columns-node, source-in, source-columns-at, sources-in}
+use Rattle.nodes.specs.Columns.{Tables, Narrow, ColumnsAt, ColumnCount, GoesThrough}
+use Rattle.nodes.proofs.Own.{tag-in}
+use Rattle.nodes.proofs.Widths.{a-here, tag-here, columns-node, source-in, source-columns-at, through-in, sources-in}
 use Rattle.labels.specs.declared.Label.{Label}
 use Rattle.labels.specs.declared.Label.the-variants.{Unlabelled, Unqualified, Qualified}
 use Rattle.labels.specs.declared.Route.{Route}
@@ -34,7 +35,7 @@ use Rattle.labels.specs.declared.Origin.the-variants.{Said, Column}
 use Rattle.labels.specs.declared.Spot.{Spot}
 use Rattle.labels.specs.declared.Next.{Next}
 use Rattle.labels.specs.declared.Next.the-variants.{Done, More}
-use Rattle.labels.specs.Labels.{label, alias-if, named, routed-by, Labelled, Routes, is-aliased, says-columns, LeafOrigin, CountedAt, LeftColumns, Traces, Reached, Moves, Steps}
+use Rattle.labels.specs.Labels.{label, alias-if, named, routed-by, Labelled, Routes, is-aliased, says-columns, LeafOrigin, Asked, AskedCount, CountedAt, LeftColumns, Traces, Reached, Moves, Steps}
 use Rattle.labels.proofs.Parts.{Nth, nth, all-split}
 use Rattle.labels.proofs.Routes.{chosen, passed}
 
@@ -167,14 +168,14 @@ ends-leaf {s = s} {lo = lo} {hi = hi} i c o g schema p t u =
 
 -- a node with the columns of its source
 module _ {s : List ℕ} {lo hi m : ℕ} (c : SourceCount s lo hi 1) (own : OwnStart s lo hi m) (y : tag-at s hi ≡ 50 → ⊥) (z : tag-at s hi < 60) where
-  same-columns : (schema : Schema) (o : Over) (n : Node) → tag-at s hi ≡ over-tag o → columns schema (over o n) ≡ columns schema n
-  same-columns schema (filter e) n k = refl
-  same-columns schema (other (limit a)) n k = refl
-  same-columns schema (other (offset a)) n k = refl
-  same-columns schema (other (order ks)) n k = refl
-  same-columns schema (other (projection is)) n k = absurd (omega arith)
-  same-columns schema (other (remap ts)) n k = absurd (omega arith)
-  same-columns schema (other (aggregate es gs)) n k = absurd (y k)
+  same-columns : (schema : Schema) (o : Over) (n : Node) (w : ℕ) → tag-at s hi ≡ over-tag o → Asked schema (over o n) w → Asked schema n w
+  same-columns schema (filter e) n w k f h = f refl
+  same-columns schema (other (limit a)) n w k f h = f refl
+  same-columns schema (other (offset a)) n w k f h = f refl
+  same-columns schema (other (order ks)) n w k f h = f refl
+  same-columns schema (other (projection is)) n w k f h = absurd (omega arith)
+  same-columns schema (other (remap ts)) n w k f h = absurd (omega arith)
+  same-columns schema (other (aggregate es gs)) n w k f h = absurd (y k)
 
   same-label : (schema : Schema) (o : Over) (n : Node) (i : ℕ) → tag-at s hi ≡ over-tag o → column-label schema n i ≡ column-label schema (over o n) i
   same-label schema (filter e) n i k = refl
@@ -185,12 +186,12 @@ module _ {s : List ℕ} {lo hi m : ℕ} (c : SourceCount s lo hi 1) (own : OwnSt
   same-label schema (other (remap ts)) n i k = absurd (omega arith)
   same-label schema (other (aggregate es gs)) n i k = absurd (y k)
 
-  reached-source : (schema : Schema) (i w : ℕ) (p : Node) → NodeHere s lo hi p → w ≡ columns schema p → Reached schema s p i lo m i w
+  reached-source : (schema : Schema) (i w : ℕ) (p : Node) → NodeHere s lo hi p → Asked schema p w → Reached schema s p i lo m i w
   reached-source schema i w p u e =
-      by-over (λ p. NodeHere s lo hi p → w ≡ columns schema p → Reached schema s p i lo m i w)
+      by-over (λ p. NodeHere s lo hi p → Asked schema p w → Reached schema s p i lo m i w)
       (λ o n u e.
       let k = node-tag (over o n) u ∙ tagged (over o n) in
-      record { q = n; here = over-source o n u (own (over o n) u); count = e ∙ same-columns schema o n k; same = same-label schema o n i k })
+      record { q = n; here = over-source o n u (own (over o n) u); count = same-columns schema o n w k e; same = same-label schema o n i k })
       p (sym (c p u)) u e
 
   pub moves-source : {widths : List ℕ} {w : ℕ} (i : ℕ) → CountedAt widths s lo hi w → Moves widths s lo hi i w (record { lo = lo; hi = m; column = i; columns = w })
@@ -205,12 +206,21 @@ module _ {s : List ℕ} {lo hi m : ℕ} (c : SourceCount s lo hi 1) (own : OwnSt
       go : CountedAt widths s lo m w
       go =
           let (a, b) = source-in c own (columns-node (t .at)) in
-          by-over (λ p. NodeHere s lo hi p → Narrow p → w ≡ columns (t .at .schema) p → CountedAt widths s lo m w)
+          by-over (λ p. NodeHere s lo hi p → Narrow p → Asked (t .at .schema) p w → CountedAt widths s lo m w)
           (λ o n u k e. record {
             at = record { schema = t .at .schema; tables = t .at .tables; p = n; here = over-source o n u (own (over o n) u); narrow = k .1; short = omega (arith, t .at .short) };
-            count = e ∙ same-columns (t .at .schema) o n (node-tag (over o n) u ∙ tagged (over o n));
+            count = same-columns (t .at .schema) o n w (node-tag (over o n) u ∙ tagged (over o n)) e;
           })
           (t .at .p) (sym (c (t .at .p) (t .at .here))) (t .at .here) (t .at .narrow) (t .count)
+
+-- a count that isn't asked for
+pub not-asked : {widths s : List ℕ} {lo hi : ℕ} → NodeAt s lo hi → (tag-at s hi ≡ 50) ⊎ (60 ≤ tag-at s hi) → AskedCount widths s lo hi 0
+not-asked {s = s} {lo = lo} {hi = hi} t g schema p k u h = let z = own p u in absurd (omega arith)
+  where
+    own : GoesThrough s lo hi 0
+    own =
+        ⊎-elim (λ (j : tag-at s hi ≡ 50). through-in 0 50 1 refl refl (omega arith) (omega arith))
+        (λ (j : 60 ≤ tag-at s hi). let (a, b) = tag-in t refl in through-in 0 60 4 refl refl (omega arith) (omega arith)) g
 
 -- a node with columns of its own
 module _ {s : List ℕ} {lo hi m : ℕ} (i : ℕ) (c : SourceCount s lo hi 1) (own : OwnStart s lo hi m) (g : (tag-at s hi ≡ 50) ⊎ (60 ≤ tag-at s hi)) (r : Route)
@@ -220,7 +230,7 @@ module _ {s : List ℕ} {lo hi m : ℕ} (i : ℕ) (c : SourceCount s lo hi 1) (o
       not-filter c g (λ p. label l ≡ column-label schema p i)
       (λ o n u. ap (routed-by (column-label schema n)) (sym e) ∙ route (column-label schema n) o n u) p u
 
-  pub moves-own : {widths : List ℕ} {w : ℕ} (j : ℕ) → r ≡ To j → CountedAt widths s lo hi w → {n : ℕ} → ColumnCount widths s lo m n
+  pub moves-own : {widths : List ℕ} {w : ℕ} (j : ℕ) → r ≡ To j → CountedAt widths s lo hi w → {n : ℕ} → AskedCount widths s lo m n
       → Moves widths s lo hi i w (record { lo = lo; hi = m; column = j; columns = n })
   moves-own {widths} {w} j e t {n} f =
       let (a, b) = source-in c own (columns-node (t .at)) in
@@ -255,7 +265,7 @@ module _ {s : List ℕ} {lo hi m mid : ℕ} (c : SourceCount s lo hi 2) (own : O
 
     pub right-below : CountedAt widths s lo hi w → {r : ℕ} → ColumnCount widths s mid m r → r ≤ w
     right-below t {r} f =
-        a-join (λ p. w ≡ columns (t .at .schema) p → r ≤ w) (λ outer j a b u v x e. omega (arith, f (t .at .schema) b (t .at .tables) x))
+        a-join (λ p. Asked (t .at .schema) p w → r ≤ w) (λ outer j a b u v x e. omega (arith, e refl, f (t .at .schema) b (t .at .tables) x))
         (t .at .p) (t .at .here) (t .count)
 
     pub left-by-right : {r : ℕ} → ColumnCount widths s mid m r → LeftColumns widths s lo hi w (w - r)
@@ -264,26 +274,26 @@ module _ {s : List ℕ} {lo hi m mid : ℕ} (c : SourceCount s lo hi 2) (own : O
     module _ (t : CountedAt widths s lo hi w) {left : ℕ} (f : LeftColumns widths s lo hi w left) where
       pub left-below : left ≤ w
       left-below =
-          a-join (λ p. w ≡ columns (t .at .schema) p → left ≤ w)
-          (λ outer j a b u v x e. omega (arith, f (t .at .schema) outer j a b (t .at .tables) u e)) (t .at .p) (t .at .here) (t .count)
+          a-join (λ p. Asked (t .at .schema) p w → left ≤ w)
+          (λ outer j a b u v x e. omega (arith, e refl, f (t .at .schema) outer j a b (t .at .tables) u (e refl))) (t .at .p) (t .at .here) (t .count)
 
       left-there : CountedAt widths s lo mid left
       left-there =
           let (p₁, (p₂, p₃)) = sources-in c own st (columns-node (t .at)) in
-          a-join (λ p. Narrow p → w ≡ columns (t .at .schema) p → CountedAt widths s lo mid left)
+          a-join (λ p. Narrow p → Asked (t .at .schema) p w → CountedAt widths s lo mid left)
           (λ outer j a b u v x k e. record {
             at = record { schema = t .at .schema; tables = t .at .tables; p = a; here = v; narrow = k .0; short = omega (arith, t .at .short) };
-            count = f (t .at .schema) outer j a b (t .at .tables) u e;
+            count = λ h. f (t .at .schema) outer j a b (t .at .tables) u (e refl);
           })
           (t .at .p) (t .at .here) (t .at .narrow) (t .count)
 
       right-there : CountedAt widths s mid m (w - left)
       right-there =
           let (p₁, (p₂, p₃)) = sources-in c own st (columns-node (t .at)) in
-          a-join (λ p. Narrow p → w ≡ columns (t .at .schema) p → CountedAt widths s mid m (w - left))
+          a-join (λ p. Narrow p → Asked (t .at .schema) p w → CountedAt widths s mid m (w - left))
           (λ outer j a b u v x k e. record {
             at = record { schema = t .at .schema; tables = t .at .tables; p = b; here = x; narrow = k .1; short = omega (arith, t .at .short) };
-            count = omega (arith, f (t .at .schema) outer j a b (t .at .tables) u e);
+            count = λ h. omega (arith, e refl, f (t .at .schema) outer j a b (t .at .tables) u (e refl));
           })
           (t .at .p) (t .at .here) (t .at .narrow) (t .count)
 
@@ -293,13 +303,13 @@ module _ {s : List ℕ} {lo hi m mid : ℕ} (c : SourceCount s lo hi 2) (own : O
           record {
             there = left-there;
             shorter = omega arith;
-            reaches = λ schema p k u e. a-join (λ p. w ≡ columns schema p → Reached schema s p i lo mid i left)
+            reaches = λ schema p k u e. a-join (λ p. Asked schema p w → Reached schema s p i lo mid i left)
                 (λ outer j a b u v x e.
-                let q = f schema outer j a b k u e in
+                let q = f schema outer j a b k u (e refl) in
                 record {
                   q = a;
                   here = v;
-                  count = q;
+                  count = λ h. q;
                   same = chosen (ltb i (columns schema a)) (column-label schema a i) (column-label schema b (i - columns schema a)) (lt-ltb i (columns schema a) (omega arith));
                 })
                 p u e;
@@ -311,13 +321,13 @@ module _ {s : List ℕ} {lo hi m mid : ℕ} (c : SourceCount s lo hi 2) (own : O
           record {
             there = right-there;
             shorter = omega arith;
-            reaches = λ schema p k u e. a-join (λ p. w ≡ columns schema p → Reached schema s p i mid m (i - left) (w - left))
+            reaches = λ schema p k u e. a-join (λ p. Asked schema p w → Reached schema s p i mid m (i - left) (w - left))
                 (λ outer j a b u v x e.
-                let q = f schema outer j a b k u e in
+                let q = f schema outer j a b k u (e refl) in
                 record {
                   q = b;
                   here = x;
-                  count = omega arith;
+                  count = λ h. omega (arith, e refl);
                   same = ap (λ (n : ℕ). column-label schema b (i - n)) q
                       ∙ passed (ltb i (columns schema a)) (column-label schema a i) (column-label schema b (i - columns schema a)) (le-ltb i (columns schema a) (omega arith));
                 })
@@ -335,8 +345,8 @@ module _ {widths s : List ℕ} {lo hi i : ℕ} where
   pub way-first : (t : ColumnsAt widths s lo hi) {w : ℕ} → ColumnCount widths s lo hi w → Way widths s lo hi i lo hi i w
   way-first t f =
       record {
-        there = record { at = t; count = f (t .schema) (t .p) (t .tables) (t .here) };
-        reaches = λ schema p k u. record { q = p; here = u; count = f schema p k u; same = refl };
+        there = record { at = t; count = λ h. f (t .schema) (t .p) (t .tables) (t .here) };
+        reaches = λ schema p k u. record { q = p; here = u; count = λ h. f schema p k u; same = refl };
       }
 
   module _ {lo′ hi′ c w : ℕ} (a : Way widths s lo hi i lo′ hi′ c w) {r : Next} (f : Steps widths s lo′ hi′ c w r) where

@@ -14,7 +14,7 @@ use Rattle.sheet.specs.Content.{label-of}
 use Rattle.cells.specs.Cells.{Part}
 use Rattle.words.specs.Words.{all-words, expression-words, item-words, label-words, target-words}
 use Rattle.words.specs.Place.{NodeHere}
-use Rattle.nodes.specs.Columns.{Tables, ColumnsAt}
+use Rattle.nodes.specs.Columns.{Tables, ColumnsAt, through}
 use Rattle.labels.specs.declared.Label.{Label}
 use Rattle.labels.specs.declared.Label.the-variants.{Unlabelled, Unqualified, Qualified}
 use Rattle.labels.specs.declared.Route.{Route}
@@ -93,10 +93,18 @@ says-columns tag = eqb tag 50 || leb 60 tag
 abbrev pub LeafOrigin : List ℕ → ℕ → ℕ → ℕ → Origin → Type 0
 LeafOrigin s lo hi i r = (schema : Schema) (l : Leaf) → NodeHere s lo hi (leaf l) → named schema r ≡ leaf-label schema l i
 
--- Some node whose columns can be counted stands there, and has w of them.
+-- p has w columns, where that is asked for: if its columns are those of its sources.
+abbrev pub Asked : Schema → Node → ℕ → Type 0
+Asked schema p w = through p ≡ 1 → w ≡ columns schema p
+
+-- r is the number of columns of the node there, where that is asked for.
+abbrev pub AskedCount : (widths s : List ℕ) (lo hi r : ℕ) → Type 0
+AskedCount widths s lo hi r = (schema : Schema) (p : Node) → Tables schema widths → NodeHere s lo hi p → Asked schema p r
+
+-- Some node whose columns can be counted stands there, and has w of them, where that is asked for.
 pub record CountedAt (widths s : List ℕ) (lo hi w : ℕ) : Type 0 where
   pub at : ColumnsAt widths s lo hi
-  pub count : w ≡ columns (at .schema) (at .p)
+  pub count : Asked (at .schema) (at .p) w
 
 -- r is the number of columns of the left source of the node there, which has w columns.
 abbrev pub LeftColumns : (widths s : List ℕ) (lo hi w r : ℕ) → Type 0
@@ -108,18 +116,18 @@ LeftColumns widths s lo hi w r =
 abbrev pub Traces : List ℕ → List ℕ → ℕ → ℕ → ℕ → Origin → Type 0
 Traces widths s lo hi i r = (schema : Schema) (p : Node) → Tables schema widths → NodeHere s lo hi p → named schema r ≡ column-label schema p i
 
--- Column i of p has the label of column c of the node from lo to hi, which has w columns.
+-- Column i of p has the label of column c of the node from lo to hi, which has w columns, where that is asked for.
 pub record Reached (schema : Schema) (s : List ℕ) (p : Node) (i lo hi c w : ℕ) : Type 0 where
   pub q : Node
   pub here : NodeHere s lo hi q
-  pub count : w ≡ columns schema q
+  pub count : Asked schema q w
   pub same : column-label schema q c ≡ column-label schema p i
 
 -- A step to another column, of a shorter node.
 pub record Moves (widths s : List ℕ) (lo hi i w : ℕ) (x : Spot) : Type 0 where
   pub there : CountedAt widths s (x .lo) (x .hi) (x .columns)
   pub shorter : x .hi - x .lo < hi - lo
-  pub reaches : (schema : Schema) (p : Node) → Tables schema widths → NodeHere s lo hi p → w ≡ columns schema p
+  pub reaches : (schema : Schema) (p : Node) → Tables schema widths → NodeHere s lo hi p → Asked schema p w
       → Reached schema s p i (x .lo) (x .hi) (x .column) (x .columns)
 
 abbrev pub Steps : (widths s : List ℕ) (lo hi i w : ℕ) → Next → Type 0

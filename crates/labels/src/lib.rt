@@ -11,7 +11,7 @@ ghost use Rattle.words.specs.Place.{NodeAt};
 ghost use Rattle.nodes.specs.Own.{OwnStart, SourceCount};
 ghost use Rattle.nodes.specs.Columns.{ColumnsAt, ColumnCount};
 ghost use Rattle.labels.specs.Names.{first-column, NamesAt, ColumnName, TableLabel, qualifier-text, ColumnLabel};
-ghost use Rattle.labels.specs.Labels.{Labelled, ExpressionRoute, ExpressionEnds, ItemRoute, ItemEnds, RemapRoute, TargetsUp, Routes, alias-if, is-aliased, says-columns, LeafOrigin, CountedAt, LeftColumns, Steps, Traces};
+ghost use Rattle.labels.specs.Labels.{Labelled, ExpressionRoute, ExpressionEnds, ItemRoute, ItemEnds, RemapRoute, TargetsUp, Routes, alias-if, is-aliased, says-columns, LeafOrigin, AskedCount, CountedAt, LeftColumns, Steps, Traces};
 
 // The label of a column: none, a name, or a name with its table's; names are text references.
 pub enum Label {
@@ -32,7 +32,7 @@ pub enum Origin {
     Column(usize, bool, usize, usize),
 }
 
-// A column of the node from lo to hi, which has so many columns.
+// A column of the node from lo to hi, which has so many columns; their number is right where they are those of its sources, and isn't asked for elsewhere.
 pub struct Spot {
     pub lo: usize,
     pub hi: usize,
@@ -197,7 +197,19 @@ pub fn own_columns(tag: usize) -> bool
     60 <= tag
 }
 
-// One step from column i of a node with one source, which ends at m; the node has w columns.
+// The number of columns of the node from lo to hi, which is asked for only where they are those of its sources. So 0 stands for a Remap's, which would be
+// found by going through all its Targets for each label, and for that of an Aggregate, a Projection, a Scan or a Values.
+fn columns_for(s: &[usize], lo: usize, hi: usize, widths: &[usize]) -> usize
+    requires { ⌜ ColumnsAt (now widths) (now s) lo hi ⌝ }
+    ensures { λ r. ⌜ AskedCount (now (widths .entry)) (now (s .entry)) lo hi r ⌝ }
+{
+    if own_columns(cells::tag_at(s, hi)) {
+        return 0;
+    }
+    nodes::columns(s, lo, hi, widths)
+}
+
+// One step from column i of a node with one source, which ends at m; the node has w columns, where that is asked for.
 fn next_over(
     s: &[usize],
     lo: usize,
@@ -220,7 +232,7 @@ fn next_over(
                 return Next::Done(Origin::Said(l));
             }
             Route::To(j) => {
-                let n = nodes::columns(s, lo, m, widths);
+                let n = columns_for(s, lo, m, widths);
                 return Next::More(Spot {
                     lo: lo,
                     hi: m,
@@ -295,7 +307,7 @@ fn next_join(
     })
 }
 
-// One step from column i of the node from lo to hi, which has w columns.
+// One step from column i of the node from lo to hi, which has w columns, where that is asked for.
 fn next_of(s: &[usize], lo: usize, hi: usize, i: usize, w: usize, widths: &[usize]) -> Next
     requires { ⌜ CountedAt (now widths) (now s) lo hi w ⌝ }
     ensures { λ r. ⌜ Steps (now (widths .entry)) (now (s .entry)) lo hi i w r ⌝ }

@@ -26,16 +26,24 @@ module _ (ok : ℕ → Bool) where
   unfolding first-failing
   fails-here i k e = left (ok i) (first-failing ok (suc i) k) (some i) e
 
-  -- Of the numbers below n, none below i fails.
-  pub record Passed (n i : ℕ) : Type 0 where
+  -- None of the numbers passed so far fails: what those from i on answer, up to n, is the answer to all.
+  pub record Goes (all : Option ℕ) (n i : ℕ) : Type 0 where
     pub within : i ≤ n
-    pub rest : first-failing ok 0 n ≡ first-failing ok i (n - i)
+    pub rest : all ≡ first-failing ok i (n - i)
+
+  -- Of the numbers below n, none below i fails.
+  abbrev pub Passed : ℕ → ℕ → Type 0
+  Passed n i = Goes (first-failing ok 0 n) n i
+
+  -- Nothing is passed yet: k numbers from i on.
+  pub goes-from : (i k : ℕ) → Goes (first-failing ok i k) (i + k) i
+  goes-from i k = record { within = omega arith; rest = let e : k ≡ i + k - i = omega arith in ap (first-failing ok i) e }
 
   pub passed-none : (n : ℕ) → Passed n 0
   passed-none n = record { within = omega arith; rest = let e : n ≡ n - 0 = omega arith in ap (first-failing ok 0) e }
 
-  module _ {n i : ℕ} (g : Passed n i) where
-    pub passed-more : i < n → ok i ≡ true → Passed n (i + 1)
+  module _ {all : Option ℕ} {n i : ℕ} (g : Goes all n i) where
+    pub passed-more : i < n → ok i ≡ true → Goes all n (i + 1)
     passed-more h e =
         let f : n - i ≡ suc (n - (i + 1)) = omega arith in
         record {
@@ -43,16 +51,22 @@ module _ (ok : ℕ → Bool) where
           rest = g .rest ∙ ap (first-failing ok i) f ∙ passes i (n - (i + 1)) e ∙ ap (λ (j : ℕ). first-failing ok j (n - (i + 1))) (sym (add-one i));
         }
 
-    pub passed-but : i < n → ok i ≡ false → some i ≡ first-failing ok 0 n
+    pub passed-but : i < n → ok i ≡ false → some i ≡ all
     passed-but h e =
         let f : n - i ≡ suc (n - (i + 1)) = omega arith in
         sym (g .rest ∙ ap (first-failing ok i) f ∙ fails-here i (n - (i + 1)) e)
 
-    pub passed-all : n ≤ i → none ≡ first-failing ok 0 n
+    pub passed-all : n ≤ i → none ≡ all
     unfolding first-failing
     passed-all h =
         let f : n - i ≡ 0 = omega arith in
         sym (g .rest ∙ ap (first-failing ok i) f)
+
+    -- what is left is k numbers from j on
+    pub passed-to : (j k : ℕ) → i ≡ j → n ≡ j + k → first-failing ok j k ≡ all
+    passed-to j k e f =
+        let h : n - i ≡ k = omega arith in
+        sym (g .rest ∙ cc)
 
   -- What an answer says: every number passes, or the one found is in the range and fails.
   pub none-fails : (i k : ℕ) → first-failing ok i k ≡ none → (j : ℕ) → i ≤ j → j < i + k → ok j ≡ true

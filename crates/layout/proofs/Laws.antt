@@ -7,7 +7,7 @@ use mathlib.Core.List.{List}
 use mathlib.Core.Option.{Option}
 use lib.Dec.{leb, ltb, eqb}
 use lib.ListN.{length}
-use borrow.Author.Tests.{lt-ltb, le-ltb, le-leb, lt-leb, eq-eqb, ne-eqb, leb-true, eqb-true}
+use borrow.Author.Tests.{lt-ltb, le-ltb, le-leb, lt-leb, eq-eqb, ne-eqb, leb-true, ltb-true, eqb-true}
 use Rattle.sheet.specs.Bytes.{byte, half, word}
 use Rattle.sheet.specs.Parts.{length-ok, parts-ok, records-ok, tables-at, columns-at, cells-at, table-count, column-count, cell-count, said-length, inside, columns-before, table-ok, column-ok, record-ok, first-failing, bad-record}
 use Rattle.sheet.specs.Cell as Sheet
@@ -15,7 +15,7 @@ use Rattle.layout.specs.declared.Cell.{Cell}
 use Rattle.layout.specs.declared.Column.{Column}
 use Rattle.layout.specs.declared.Parts.{Parts}
 use Rattle.layout.specs.declared.Table.{Table}
-use Rattle.layout.specs.Layout.{Number, Whole, Laid, IsTable, IsColumn, IsCell, parts-of, table-from, table-at, column-from, column-at}
+use Rattle.layout.specs.Layout.{Number, Whole, Laid, IsTable, IsColumn, IsCell, parts-of, table-from, table-at, column-from, column-at, column-fields-ok, bad-column}
 
 -- ---- a conjunction of tests
 
@@ -26,6 +26,19 @@ and-left false q e = e
 pub and-right : (p q : Bool) → (p && q) ≡ true → q ≡ true
 and-right true q e = e
 and-right false q e = let z : _≡_ {A = ℕ} 0 1 = cc in absurd (omega arith)
+
+both-hold : {p q : Bool} → p ≡ true → q ≡ true → (p && q) ≡ true
+both-hold {p} {q} e f = ap (λ (b : Bool). b && q) e ∙ f
+
+and-assoc : (p q r : Bool) → ((p && q) && r) ≡ (p && (q && r))
+and-assoc true q r = refl
+and-assoc false q r = refl
+
+-- Tests that hold of the same are the same.
+same : (p q : Bool) → (p ≡ true → q ≡ true) → (q ≡ true → p ≡ true) → p ≡ q
+same true q f g = sym (f refl)
+same false true f g = g refl
+same false false f g = refl
 
 -- The answer of a function that tests one after the other.
 pub fails : {p : Bool} (q : Bool) → p ≡ false → false ≡ (p && q)
@@ -208,11 +221,56 @@ pub column-reads : (s : List ℕ) (i : ℕ) {x y z : ℕ}
     → IsColumn (column-from s i) (record { name = x; kind = y; index = z })
 column-reads s i x y z = record { is = cc (x .is, y .is, z .is); name-small = x .small; kind-small = y .small; index-small = z .small }
 
--- The tests of a column record, on the numbers that the code holds.
-abbrev column-tests : (text i before : ℕ) → Column → (x y z : ℕ) → Bool
-column-tests text i before k x y z =
-    ltb i before
-    && (inside text (k .name) && (ltb (k .kind) 4 && (ltb (k .index) 2 && (eqb x 0 && (eqb y 0 && eqb z 0)))))
+-- A column's kind, index mark and two zeros are tested as one word.
+module _ (s : List ℕ) (i : ℕ) where
+  marks-are : word s (i + 4) ≡ byte s (i + 4) + 256 * byte s (i + 5) + 65536 * half s (i + 6)
+  unfolding word half
+  marks-are =
+      let e : i + 4 + 1 ≡ i + 5 = omega arith in
+      let f : i + 4 + 2 ≡ i + 6 = omega arith in
+      let g : i + 4 + 3 ≡ i + 6 + 1 = omega arith in
+      omega (arith, ap (byte s) e, ap (byte s) f, ap (byte s) g)
+
+  marks-tested : byte s (i + 4) < 256 → byte s (i + 5) < 256
+      → (ltb (word s (i + 4)) 512 && ltb (word s (i + 4) % 256) 4) ≡ (ltb (byte s (i + 4)) 4 && (ltb (byte s (i + 5)) 2 && eqb (half s (i + 6)) 0))
+  marks-tested hk hx =
+      let m = word s (i + 4) in
+      let k = byte s (i + 4) in
+      let x = byte s (i + 5) in
+      let are = marks-are in
+      same _ _
+      (λ e.
+      let p = ltb-true m 512 (and-left (ltb m 512) _ e) in
+      let q = ltb-true (m % 256) 4 (and-right (ltb m 512) _ e) in
+      both-hold (lt-ltb k 4 (omega arith)) (both-hold (lt-ltb x 2 (omega arith)) (eq-eqb (half s (i + 6)) 0 (omega arith))))
+      (λ e.
+      let p = ltb-true k 4 (and-left (ltb k 4) _ e) in
+      let f = and-right (ltb k 4) _ e in
+      let q = ltb-true x 2 (and-left (ltb x 2) _ f) in
+      let r = eqb-true (half s (i + 6)) 0 (and-right (ltb x 2) _ f) in
+      both-hold (lt-ltb m 512 (omega arith)) (lt-ltb (m % 256) 4 (omega arith)))
+
+  pub fields-tested : (text : ℕ) {x m y z : ℕ} {a b c d e : Bool}
+      → byte s (i + 4) < 256
+      → byte s (i + 5) < 256
+      → m ≡ word s (i + 4)
+      → a ≡ (ltb m 512 && ltb (m % 256) 4)
+      → y ≡ word s (i + 8)
+      → z ≡ word s (i + 12)
+      → b ≡ (eqb y 0 && eqb z 0)
+      → x ≡ word s i
+      → c ≡ inside text x
+      → d ≡ (a && b)
+      → e ≡ (c && d)
+      → e ≡ column-fields-ok s i text
+  fields-tested text {x} {m} {y} {z} {a} {b} {c} {d} {e} hk hx em ea ey ez eb ex ec ed ee =
+      let k = ltb (byte s (i + 4)) 4 in
+      let j = ltb (byte s (i + 5)) 2 in
+      let h = eqb (half s (i + 6)) 0 in
+      let f : a ≡ (k && (j && h)) = ea ∙ ap (λ (n : ℕ). ltb n 512 && ltb (n % 256) 4) em ∙ marks-tested hk hx in
+      let g : b ≡ (eqb (word s (i + 8)) 0 && eqb (word s (i + 12)) 0) = cc in
+      let l : d ≡ (k && (j && (h && b))) = ed ∙ ap (λ (n : Bool). n && b) f ∙ and-assoc k (j && h) b ∙ ap (λ (n : Bool). k && n) (and-assoc j h b) in
+      cc
 
 -- The tests of a table record, on the numbers that the code holds.
 abbrev table-tests : (text columns before : ℕ) → Table → Bool
@@ -268,27 +326,17 @@ module _ {s : List ℕ} {p : Parts} (g : Laid s p) where
   pub column-there : {k : Column} (i : ℕ) → IsColumn (column-from s (p .columns .at + i * 16)) k → IsColumn (column-at s i) k
   column-there {k} i h = subst (λ (n : ℕ). IsColumn (column-from s (n + i * 16)) k) columns-start h
 
-  pub column-tested : {k : Column} (i : ℕ) → IsColumn (column-from s (p .columns .at + i * 16)) k
-      → {before x y z : ℕ} {a b c d e f g′ : Bool}
-      → before ≡ columns-before s (p .tables .count)
-      → y ≡ word s (p .columns .at + i * 16 + 8)
-      → z ≡ word s (p .columns .at + i * 16 + 12)
-      → a ≡ (eqb y 0 && eqb z 0)
-      → x ≡ half s (p .columns .at + i * 16 + 6)
-      → b ≡ (eqb x 0 && a)
-      → c ≡ (ltb (k .index) 2 && b)
-      → d ≡ inside (p .tables .at) (k .name)
-      → e ≡ (ltb (k .kind) 4 && c)
-      → f ≡ (d && e)
-      → g′ ≡ (ltb i before && f)
-      → g′ ≡ column-ok s i
+  -- Its number tells its range.
+  pub column-out : (i : ℕ) {before : ℕ} → before ≡ columns-before s (p .tables .count) → before ≤ i → column-ok s i ≡ false
   unfolding column-ok
-  column-tested {k} i h {before} {x} {y} {z} {a} {b} {c} {d} {e} {f} {g′} eh ey ez ea ex eb ec ed ee ef eg =
-      let q : g′ ≡ column-tests (p .tables .at) i before k x y z = cc in
-      let m : column-tests (p .tables .at) i before k x y z
-      ≡ column-tests (tables-at s) i (columns-before s (table-count s)) (column-at s i) (half s (columns-at s + i * 16 + 6)) (word s (columns-at s + i * 16 + 8)) (word s (columns-at s + i * 16 + 12))
-      = cc (text-is, tables-are, columns-start, column-there i h .is) in
-      q ∙ m
+  column-out i e h = sym (fails _ (le-ltb i (columns-before s (table-count s)) (subst (λ (n : ℕ). n ≤ i) (e ∙ ap (columns-before s) tables-are) h)))
+
+  pub column-in : (i : ℕ) {before : ℕ} {r : Bool} → before ≡ columns-before s (p .tables .count) → i < before
+      → r ≡ column-fields-ok s (p .columns .at + i * 16) (p .tables .at) → r ≡ column-ok s i
+  unfolding column-ok
+  column-in i e h f =
+      goes-on _ (lt-ltb i (columns-before s (table-count s)) (subst (λ (n : ℕ). i < n) (e ∙ ap (columns-before s) tables-are) h))
+      (f ∙ ap (λ (n : ℕ). column-fields-ok s (n + i * 16) (p .tables .at)) columns-start ∙ ap (λ (n : ℕ). column-fields-ok s (columns-at s + i * 16) n) text-is)
 
   -- Record i is a table's or, behind the tables, a column's.
   pub record-table : (i : ℕ) {r : Bool} → i < p .tables .count → r ≡ table-ok s i → r ≡ record-ok s i
@@ -306,6 +354,10 @@ module _ {s : List ℕ} {p : Parts} (g : Laid s p) where
   records-walked e =
       let n : p .tables .count + p .columns .count ≡ table-count s + column-count s = cc (tables-are, columns-are) in
       e ∙ ap (first-failing (record-ok s) 0) n
+
+  -- and that behind the tables is the one that `bad-column` walks
+  pub columns-walked : {o : Option ℕ} → o ≡ first-failing (record-ok s) (p .tables .count) (p .columns .count) → o ≡ bad-column s
+  columns-walked e = e ∙ ap (λ (n : ℕ). first-failing (record-ok s) n (p .columns .count)) tables-are ∙ ap (first-failing (record-ok s) (table-count s)) columns-are
 
 -- ---- cells
 

@@ -1,12 +1,13 @@
 -- What the code holds of a sheet, set beside the definitions of crate `sheet`.
 use Prim.Native.Nat.{ℕ, _+_, _*_, _≤_, _<_}
 use mathlib.Core.Path.{_≡_}
-use mathlib.Core.Bool.{Bool, true}
+use mathlib.Core.Bool.{Bool, true, _&&_}
 use mathlib.Core.List.{List}
 use mathlib.Core.Option.{Option, none, some}
+use lib.Dec.{ltb, eqb}
 use lib.ListN.{length}
-use Rattle.sheet.specs.Parts.{length-ok, parts-ok, tables-at, columns-at, cells-at, table-count, column-count, cell-count, table-name, first-column, columns-of, key-of, column-name, kind-of, index-mark}
-use Rattle.sheet.specs.Bytes.{byte, word}
+use Rattle.sheet.specs.Parts.{length-ok, parts-ok, tables-at, columns-at, cells-at, table-count, column-count, cell-count, table-name, first-column, columns-of, key-of, column-name, kind-of, index-mark, inside, record-ok, first-failing}
+use Rattle.sheet.specs.Bytes.{byte, half, word}
 use Rattle.sheet.specs.Cell as Sheet
 use Rattle.layout.specs.declared.Part.{Part}
 use Rattle.layout.specs.declared.Parts.{Parts}
@@ -75,6 +76,16 @@ pub record IsColumn (x k : Column) : Type 0 where
   pub name-small : k .name < 4294967296
   pub kind-small : k .kind < 256
   pub index-small : k .index < 256
+
+-- What `column-ok` asks of the column record that starts at byte i, but that it is in some table's range.
+abbrev pub column-fields-ok : (s : List ℕ) (i text : ℕ) → Bool
+column-fields-ok s i text =
+    inside text (word s i)
+    && (ltb (byte s (i + 4)) 4 && (ltb (byte s (i + 5)) 2 && (eqb (half s (i + 6)) 0 && (eqb (word s (i + 8)) 0 && eqb (word s (i + 12)) 0))))
+
+-- The lowest record behind the tables that breaks its layout.
+abbrev pub bad-column : List ℕ → Option ℕ
+bad-column s = first-failing (record-ok s) (table-count s) (column-count s)
 
 -- A cell of the code, as the definitions have it.
 abbrev pub as-cell : Cell → Sheet.Cell

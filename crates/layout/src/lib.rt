@@ -5,10 +5,10 @@ ghost use mathlib.Core.Bool.{Bool, true, false, _&&_};
 ghost use Prim.Native.Nat.{ℕ, _+_, _-_, _*_, _≤_, _<_};
 ghost use lib.ListN.{length};
 ghost use Rattle.sheet.specs.Bytes.{byte, half, word};
-ghost use Rattle.sheet.specs.Parts.{length-ok, edition-ok, records-ok, parts-ok, table-count, column-count, cell-count, columns-before, table-ok, column-ok, record-ok, bad-record};
+ghost use Rattle.sheet.specs.Parts.{length-ok, edition-ok, records-ok, parts-ok, table-count, column-count, cell-count, columns-before, table-ok, bad-record};
 ghost use Rattle.sheet.specs.Parts as Sheet;
 ghost use Rattle.sheet.specs.Cell.{cell, cell-from, tag-of, field-ok, fields-ok, float-ok, cell-ok, bad-cell, bad-number};
-ghost use Rattle.layout.specs.Layout.{Number, Whole, Laid, IsTable, IsCell, IsColumn, table-from, table-at, column-from, column-at, as-cell, found};
+ghost use Rattle.layout.specs.Layout.{Number, Whole, Laid, IsTable, IsCell, IsColumn, table-from, table-at, column-from, column-at, column-fields-ok, bad-column, as-cell, found};
 ghost use Rattle.layout.specs.Row.{field-of, tag-from};
 
 // ---- numbers, little-endian
@@ -254,33 +254,39 @@ pub fn column_at(s: &[u8], i: usize) -> Column
     column_from(s, p.columns.at + i * 16)
 }
 
-// The record of column i is as it should be.
-fn column_ok(s: &[u8], p: Parts, i: usize) -> bool
-    requires { ⌜ Laid (now s) p × (i < p .columns .count) ⌝ }
-    ensures { λ r. ⌜ r ≡ column-ok (now (s .entry)) i ⌝ }
+// All that a column record should have but its range, which its number tells. It starts at byte i, and the text has so many bytes. Its kind, its index mark
+// and two zeros are one word.
+fn column_fields_ok(s: &[u8], i: usize, text: usize) -> bool
+    requires { ⌜ i + 16 ≤ length (now s) ⌝ }
+    ensures { λ r. ⌜ r ≡ column-fields-ok (now (s .entry)) i text ⌝ }
 {
-    let at = p.columns.at + i * 16;
-    let k = column_from(s, at);
-    let in_range = i < columns_before(s, p, p.tables.count);
-    let zeros = both(word_at(s, at + 8) == 0, word_at(s, at + 12) == 0);
-    let marks = both(k.index < 2, both(half_at(s, at + 6) == 0, zeros));
-    both(
-        in_range,
-        both(inside(p.tables.at, k.name), both(k.kind < 4, marks)),
-    )
+    let marks = word_at(s, i + 4);
+    let marked = both(marks < 512, marks % 256 < 4);
+    let zeros = both(word_at(s, i + 8) == 0, word_at(s, i + 12) == 0);
+    both(inside(text, word_at(s, i)), both(marked, zeros))
 }
 
-// Record i is as it should be, tables counted first.
-fn record_ok(s: &[u8], p: Parts, i: usize) -> bool
-    requires { ⌜ Laid (now s) p × (i < p .tables .count + p .columns .count) ⌝ }
-    ensures { λ r. ⌜ r ≡ record-ok (now (s .entry)) i ⌝ }
+// The lowest column record that breaks its layout, by its number among the records, tables counted first. There can be many columns, so how many the tables
+// have is read once.
+fn bad_column(s: &[u8], p: Parts) -> Found
+    requires { ⌜ Laid (now s) p ⌝ }
+    ensures { λ r. ⌜ found r ≡ bad-column (now (s .entry)) ⌝ }
 {
     let tables = p.tables.count;
-    if i < tables {
-        table_ok(s, p, i)
-    } else {
-        column_ok(s, p, i - tables)
+    let count = tables + p.columns.count;
+    let covered = columns_before(s, p, tables);
+    let mut i = tables;
+    while i < count {
+        let column = i - tables;
+        if covered <= column {
+            return Found::At(i);
+        }
+        if !column_fields_ok(s, p.columns.at + column * 16, p.tables.at) {
+            return Found::At(i);
+        }
+        i += 1;
     }
+    Found::Nothing
 }
 
 // Refusal 5: the lowest record that breaks its layout.
@@ -289,15 +295,15 @@ pub fn bad_record(s: &[u8]) -> Found
     ensures { λ r. ⌜ found r ≡ bad-record (now (s .entry)) ⌝ }
 {
     let p = parts_of(s);
-    let count = p.tables.count + p.columns.count;
+    let tables = p.tables.count;
     let mut i: usize = 0;
-    while i < count {
-        if !record_ok(s, p, i) {
+    while i < tables {
+        if !table_ok(s, p, i) {
             return Found::At(i);
         }
         i += 1;
     }
-    Found::Nothing
+    bad_column(s, p)
 }
 
 // ---- cells

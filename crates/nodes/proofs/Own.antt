@@ -8,56 +8,83 @@ use mathlib.Core.List.{List, [], _∷_, _++_, append-nil}
 use mathlib.Core.Option.{Option, none, some}
 use lib.ListN.{length, length-append}
 use Rattle.sql.specs.Expression.{Expression, constant, column, unary, binary}
-use Rattle.sql.specs.Plan.{by-key, by-index, Leaf, scan, lookup, nothing, values, limit, offset, order, projection, remap, aggregate, Over, filter, other, Join, nested-loop, hash, Node, leaf, over, join}
+use Rattle.sql.specs.Plan.{Label, unlabelled, unqualified, qualified, by-key, by-index, Leaf, scan, lookup, nothing, values, limit, offset, order, projection, remap, aggregate, Over, filter, other, Join, nested-loop, hash, Node, leaf, over, join}
 use Rattle.sheet.specs.Content.{constant-cell, label-cell, target-cell, item-cell, key-cell, agg-cell, row-cell}
 use Rattle.cells.specs.declared.Cell.{Cell}
 use Rattle.cells.specs.Cells.{sized, cell-at, tag-at, Part}
 use Rattle.cells.proofs.Laws.{lt-or-ge}
 use Rattle.words.specs.Words.{cell, all-words, root, operand-words, expression-words, optional-words, constant-words, label-words, target-words, item-words, key-words, agg-words, row-words, leaf-own, over-own, join-own, own-words, source-words, node-cell, leaf-cell, over-cell, join-cell, source-count}
 use Rattle.words.specs.Place.{NodeHere, NodeAt}
-use Rattle.words.proofs.Expressions.{shape}
+use Rattle.words.proofs.Expressions.{tag-cell, shape, by-leaf}
 use Rattle.words.proofs.Nodes.{node-cell-is, node-tag, own-part, node-in, node-long}
 use Rattle.words.proofs.Sizes.{over-long}
 use Rattle.words.proofs.Tags.{tag-of, tagged, tag-known, told, sources-by-tag, by-aggregate, by-filter, by-remap, by-nested-loop}
-use Rattle.nodes.specs.Trees.{Trees, TreesAt, trees-start}
+use Rattle.nodes.specs.Trees.{Trees, Parts, PartsAt, trees-start}
 use Rattle.nodes.specs.Trees as trees
 use Rattle.nodes.specs.Own.{leaf-count, over-count, join-count, own-count, OwnStart, OwnTrees, SourceCount}
-use Rattle.nodes.proofs.Trees.{append-all, all-trees, trees-start-is, trees-few}
+use Rattle.nodes.proofs.Trees.{plain, parts-one, append-parts, all-parts, trees-start-is, trees-few}
 
--- ---- a node's own words are so many trees
+-- ---- a node's own words are so many parts
+
+-- an expression of a tag below 10 has no operands
+leaf-alone : (e : Expression) → cell (root e) .tag < 10 → length (operand-words e) ≡ 0
+leaf-alone e h = by-leaf (λ e. length (operand-words e) ≡ 0) (λ v. refl) (λ i. refl) e (rw (tag-cell (root e)) at h)
+
+one-part : (e : Expression) → Parts 1 (expression-words e)
+one-part e = rw (shape e) (parts-one (operand-words e) (cell (root e)) (leaf-alone e))
+
+expression-parts : (es : List Expression) → Parts (length es) (all-words expression-words es)
+expression-parts es = all-parts expression-words operand-words (λ e. cell (root e)) shape leaf-alone es
 
 pub one-tree : (e : Expression) → Trees 1 (expression-words e)
-one-tree e = rw (shape e) (trees.one-more trees.none (operand-words e) (cell (root e)))
+one-tree e = plain (one-part e)
 
 pub expression-trees : (es : List Expression) → Trees (length es) (all-words expression-words es)
-expression-trees es = all-trees expression-words operand-words (λ e. cell (root e)) shape es
+expression-trees es = plain (expression-parts es)
 
-leaf-trees : (l : Leaf) → Trees (leaf-count l) (leaf-own l)
-leaf-trees (scan t al none) = trees.none
-leaf-trees (scan t al (some e)) = one-tree e
-leaf-trees (lookup a t al vs) = all-trees constant-words (λ v. []) (λ v. cell (constant-cell v)) (λ v. refl) vs
-leaf-trees (nothing ls) = all-trees label-words (λ l. []) (λ l. cell (label-cell l)) (λ l. refl) ls
-leaf-trees (values rs) = all-trees row-words (all-words expression-words) (λ es. cell (row-cell (length es))) (λ es. refl) rs
+-- an Item's tag
+item-tag : (l : Label) → cell (item-cell l) .tag ≡ 41
+unfolding cell
+item-tag unlabelled = refl
+item-tag (unqualified n) = refl
+item-tag (qualified q n) = refl
 
-over-trees : (o : Over) → Trees (over-count o) (over-own o)
-over-trees (filter e) = one-tree e
-over-trees (other (limit n)) = trees.none
-over-trees (other (offset n)) = trees.none
-over-trees (other (order ks)) = all-trees key-words (λ k. expression-words (k .0)) (λ k. cell (key-cell (k .1))) (λ k. refl) ks
-over-trees (other (projection is)) = all-trees item-words (λ i. expression-words (i .0)) (λ i. cell (item-cell (i .1))) (λ i. refl) is
-over-trees (other (remap ts)) = all-trees target-words (λ t. []) (λ t. cell (target-cell t)) (λ t. refl) ts
-over-trees (other (aggregate es gs)) =
-    append-all (expression-trees es) (all-trees agg-words (λ g. expression-words (g .1)) (λ g. cell (agg-cell (g .0))) (λ g. refl) gs)
+leaf-parts : (l : Leaf) → Parts (leaf-count l) (leaf-own l)
+unfolding cell
+leaf-parts (scan t al none) = trees.no-part
+leaf-parts (scan t al (some e)) = one-part e
+leaf-parts (lookup a t al vs) = all-parts constant-words (λ v. []) (λ v. cell (constant-cell v)) (λ v. refl) (λ v h. refl) vs
+leaf-parts (nothing ls) = all-parts label-words (λ l. []) (λ l. cell (label-cell l)) (λ l. refl) (λ l h. refl) ls
+leaf-parts (values rs) =
+    all-parts row-words (all-words expression-words) (λ es. cell (row-cell (length es))) (λ es. refl) (λ es h. absurd (omega arith)) rs
 
-join-trees : (j : Join) → Trees (join-count j) (join-own j)
-join-trees (nested-loop none) = trees.none
-join-trees (nested-loop (some e)) = one-tree e
-join-trees (hash i j) = trees.none
+over-parts : (o : Over) → Parts (over-count o) (over-own o)
+unfolding cell
+over-parts (filter e) = one-part e
+over-parts (other (limit n)) = trees.no-part
+over-parts (other (offset n)) = trees.no-part
+over-parts (other (order ks)) =
+    all-parts key-words (λ k. expression-words (k .0)) (λ k. cell (key-cell (k .1))) (λ k. refl) (λ k h. absurd (omega arith)) ks
+over-parts (other (projection is)) =
+    all-parts item-words (λ i. expression-words (i .0)) (λ i. cell (item-cell (i .1))) (λ i. refl)
+    (λ i h. absurd (omega (arith, item-tag (i .1)))) is
+over-parts (other (remap ts)) = all-parts target-words (λ t. []) (λ t. cell (target-cell t)) (λ t. refl) (λ t h. refl) ts
+over-parts (other (aggregate es gs)) =
+    append-parts (expression-parts es)
+    (all-parts agg-words (λ g. expression-words (g .1)) (λ g. cell (agg-cell (g .0))) (λ g. refl) (λ g h. absurd (omega arith)) gs)
+
+join-parts : (j : Join) → Parts (join-count j) (join-own j)
+join-parts (nested-loop none) = trees.no-part
+join-parts (nested-loop (some e)) = one-part e
+join-parts (hash i j) = trees.no-part
+
+own-parts : (p : Node) → Parts (own-count p) (own-words p)
+own-parts (leaf l) = leaf-parts l
+own-parts (over o n) = over-parts o
+own-parts (join outer j l r) = join-parts j
 
 pub own-trees : (p : Node) → Trees (own-count p) (own-words p)
-own-trees (leaf l) = leaf-trees l
-own-trees (over o n) = over-trees o
-own-trees (join outer j l r) = join-trees j
+own-trees p = plain (own-parts p)
 
 -- ---- the number of them, by the node's cell
 
@@ -136,10 +163,10 @@ module _ {s : List ℕ} {lo hi n : ℕ} (k : SourceCount s lo hi n) where
       go (join outer j l r) h = absurd (omega arith)
 
   module _ (z : n ≡ 0 → ⊥) {r : ℕ} (f : OwnTrees s lo hi r) where
-    pub own-at : NodeAt s lo hi → TreesAt s r (hi - 6)
+    pub own-at : NodeAt s lo hi → PartsAt s r (hi - 6)
     own-at t =
-        subst (λ (m : ℕ). TreesAt s m (hi - 6)) (sym (f (t .p) (t .here) (λ y. z (k (t .p) (t .here) ∙ y))))
-        (record { lo = lo + length (source-words (t .p)); w = own-words (t .p); trees = own-trees (t .p); part = own-part (t .p) (t .here) refl })
+        subst (λ (m : ℕ). PartsAt s m (hi - 6)) (sym (f (t .p) (t .here) (λ y. z (k (t .p) (t .here) ∙ y))))
+        (record { lo = lo + length (source-words (t .p)); w = own-words (t .p); parts = own-parts (t .p); part = own-part (t .p) (t .here) refl })
 
     pub own-start-said : {m : ℕ} → m ≡ trees-start s r (hi - 6) → OwnStart s lo hi m
     own-start-said e p u =

@@ -5,7 +5,7 @@ ghost use Prim.Native.Nat.{ℕ, _+_, _-_, _≤_, _<_, max};
 ghost use lib.ListN.{getD};
 ghost use Rattle.cells.specs.Cells.{tag-at};
 ghost use Rattle.words.specs.Place.{NodeAt};
-ghost use Rattle.nodes.specs.Trees.{TreesAt, trees-start};
+ghost use Rattle.nodes.specs.Trees.{TreesAt, PartsAt, trees-start};
 ghost use Rattle.nodes.specs.Own.{OwnStart, OwnTrees, SourceCount};
 ghost use Rattle.nodes.specs.Columns.{ColumnsAt, ColumnCount, past, TargetsAt, RemapColumns, GoesThrough};
 
@@ -19,6 +19,25 @@ pub fn trees_start(s: &[usize], n: usize, hi: usize) -> usize
     while 0 < i {
         at = cells::start(s, at);
         i -= 1;
+    }
+    at
+}
+
+// The same of a node's parts, of which many can be constants or columns: one cell each, as the tag tells. A branch by the tag is foreseen, where the walk
+// would wait for the size.
+fn parts_start(s: &[usize], n: usize, hi: usize) -> usize
+    requires { ⌜ PartsAt (now s) n hi ⌝ }
+    ensures { λ r. ⌜ r ≡ trees-start (now (s .entry)) n hi ⌝ }
+{
+    let mut at = hi;
+    let mut left = n;
+    while 0 < left {
+        if cells::tag_at(s, at) < 10 {
+            at -= 6;
+        } else {
+            at = cells::start(s, at);
+        }
+        left -= 1;
     }
     at
 }
@@ -85,7 +104,7 @@ pub fn own_start(s: &[usize], lo: usize, hi: usize) -> usize
     if cells::tag_at(s, hi) == 61 {
         return hi - 6 - 6 * n;
     }
-    trees_start(s, n, hi - 6)
+    parts_start(s, n, hi - 6)
 }
 
 // The number of columns of table t; a table that there isn't has none.

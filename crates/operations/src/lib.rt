@@ -93,7 +93,7 @@ fn run(s: &[u8], c: Chosen, count: usize, cells: usize, out: &mut [u8]) -> Answe
     if cells <= 64 {
         let a = in_96(s, c, count, out);
         if a.number == 14 {
-            return run(s, c, count, 192, out);
+            return run(s, c, count, 640, out);
         }
         return a;
     }

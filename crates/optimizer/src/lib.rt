@@ -44,7 +44,7 @@ pub fn pass(
     passes::short_circuit(x, y, z, t, widths, names, columns)
 }
 
-// The passes from the fourth on. The plan that they give is in z.
+// The passes from the fourth on. The plan that they give is in z. HashJoin leaves a plan without a join's predicate as it is, and isn't run then.
 fn from_hash(
     x: &mut [usize],
     y: &mut [usize],
@@ -58,13 +58,16 @@ fn from_hash(
     requires { ⌜ (length (now y) ≡ length (now x)) × (length (now z) ≡ length (now x)) ⌝ }
     ensures { λ r. ⌜ Runs (For-labels (now (widths .entry)) (now (names .entry)) (now (columns .entry))) (λ room schema p. in-turn (from-hash room schema) p) (now (x .entry)) t (now (z .exit)) r ⌝ }
 {
+    if !predicates::has_join_predicate(x, t) {
+        return passes::short_circuit(x, z, y, t, widths, names, columns);
+    }
     match passes::hash_join(x, y, t, widths) {
         Folded::Done(n) => passes::short_circuit(y, z, x, n, widths, names, columns),
         Folded::Refused(number, place) => Folded::Refused(number, place),
     }
 }
 
-// The passes from the third on. The plan that they give is in x.
+// The passes from the third on. The plan that they give is in y. IndexLookup leaves a plan without a Scan's filter as it is, and isn't run then.
 fn from_lookup(
     x: &mut [usize],
     y: &mut [usize],
@@ -79,15 +82,18 @@ fn from_lookup(
 ) -> Folded
     requires { ⌜ PlanAt (For-lent (now widths) (now names) (now columns) (now keys) (now marks)) (now x) t ⌝ }
     requires { ⌜ Alike (now x) (now y) (now z) (now w) ⌝ }
-    ensures { λ r. ⌜ Runs (For-lent (now (widths .entry)) (now (names .entry)) (now (columns .entry)) (now (keys .entry)) (now (marks .entry))) (λ room schema p. in-turn (from-lookup room schema) p) (now (x .entry)) t (now (x .exit)) r ⌝ }
+    ensures { λ r. ⌜ Runs (For-lent (now (widths .entry)) (now (names .entry)) (now (columns .entry)) (now (keys .entry)) (now (marks .entry))) (λ room schema p. in-turn (from-lookup room schema) p) (now (x .entry)) t (now (y .exit)) r ⌝ }
 {
-    match passes::look_up(x, y, z, w, t, widths, keys, marks) {
-        Folded::Done(n) => from_hash(y, z, x, n, widths, names, columns),
+    if !predicates::has_scan_filter(x, t) {
+        return from_hash(x, z, y, t, widths, names, columns);
+    }
+    match passes::look_up(x, z, y, w, t, widths, keys, marks) {
+        Folded::Done(n) => from_hash(z, x, y, n, widths, names, columns),
         Folded::Refused(number, place) => Folded::Refused(number, place),
     }
 }
 
-// The passes from the second on. The plan that they give is in x.
+// The passes from the second on. The plan that they give is in y.
 fn from_pushdown(
     x: &mut [usize],
     y: &mut [usize],
@@ -102,7 +108,7 @@ fn from_pushdown(
 ) -> Folded
     requires { ⌜ PlanAt (For-lent (now widths) (now names) (now columns) (now keys) (now marks)) (now x) t ⌝ }
     requires { ⌜ Alike (now x) (now y) (now z) (now w) ⌝ }
-    ensures { λ r. ⌜ Runs (For-lent (now (widths .entry)) (now (names .entry)) (now (columns .entry)) (now (keys .entry)) (now (marks .entry))) (λ room schema p. in-turn (from-pushdown room schema) p) (now (x .entry)) t (now (x .exit)) r ⌝ }
+    ensures { λ r. ⌜ Runs (For-lent (now (widths .entry)) (now (names .entry)) (now (columns .entry)) (now (keys .entry)) (now (marks .entry))) (λ room schema p. in-turn (from-pushdown room schema) p) (now (x .entry)) t (now (y .exit)) r ⌝ }
 {
     match passes::push_down_in_place(x, y, z, w, t, widths) {
         Folded::Done(n) => from_lookup(x, y, z, w, n, widths, names, columns, keys, marks),
@@ -128,8 +134,8 @@ pub fn optimize(
     requires { ⌜ Alike (now x) (now y) (now z) (now w) ⌝ }
     ensures { λ r. ⌜ Runs (For-all (now (text .entry)) (now (widths .entry)) (now (names .entry)) (now (columns .entry)) (now (keys .entry)) (now (marks .entry))) (λ room schema p. Room.optimize room schema p) (now (x .entry)) t (now (y .exit)) r ⌝ }
 {
-    match passes::fold(text, x, y, z, t) {
-        Folded::Done(n) => from_pushdown(y, x, z, w, n, widths, names, columns, keys, marks),
+    match passes::fold(text, x, z, y, t) {
+        Folded::Done(n) => from_pushdown(z, y, x, w, n, widths, names, columns, keys, marks),
         Folded::Refused(number, place) => Folded::Refused(number, place),
     }
 }

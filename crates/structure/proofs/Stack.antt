@@ -18,10 +18,11 @@ use Rattle.layout.specs.declared.Cell.{Cell}
 use Rattle.layout.specs.declared.Found.{Found}
 use Rattle.layout.specs.declared.Found.the-variants.{At, Nothing}
 use Rattle.arity.specs.Sort
-use Rattle.arity.specs.Arity.{sort-of, children-of, Sorted, Asked}
+use Rattle.arity.specs.Arity.{sort-of, childless, parts-only, children-of, Sorted, Asked}
 use Rattle.arity.specs.declared.Children.{Children}
+use Rattle.arity.proofs.Laws.{sorted-by, asked-by}
 use Rattle.structure.specs.Sorts.{serves, if-so, taken, reduced}
-use Rattle.structure.specs.Structure.{stacked, left, Takes, Reduces}
+use Rattle.structure.specs.Structure.{stacked, left, Takes, Reduces, Operates}
 
 -- ---- the array
 
@@ -194,6 +195,63 @@ module _ (k : Cell) {asked : Children} (is : Asked (k .tag) (k .flag) (k .a) (k 
                   ∙ nodes-left sort
                   ∙ of-content text (stacked a height) (s .is text (as-cell k) refl);
             }
+
+-- ---- the cells that are most
+
+-- a leaf takes nothing off
+pub leaf-reduces : (k : Cell) {a : List ℕ} {height sort : ℕ} → k .tag < 10 → height < length a → Sorted (k .tag) sort
+    → Reduces a height k (At (height + 1)) (set a height sort)
+unfolding taken
+leaf-reduces k {a} {height} {sort} h l s =
+    let asked = asked-by {tag = k .tag} {flag = k .flag} {a = k .a} {b = k .b} {c = k .c} childless 0 10 (λ text zeros. refl) (omega arith) (omega arith) (omega arith) refl in
+    record {
+      is = λ text. ap some (stacked-push a height sort l) ∙ of-content k asked text (stacked a height) (s .is text (as-cell k) refl);
+    }
+
+-- an operator of two operands, by its tag
+pub binary-reduces : (k : Cell) {a : List ℕ} {height : ℕ} {r : Found} {after : List ℕ} → 10 ≤ k .tag → k .tag < 17 → Operates a height r after
+    → Reduces a height k r after
+binary-reduces k {a} {height} h i o =
+    let asked = asked-by {tag = k .tag} {flag = k .flag} {a = k .a} {b = k .b} {c = k .c} (parts-only Sort.expression 2) 10 7 (λ text zeros. refl) h (omega arith) (omega arith) refl in
+    let sort = sorted-by {tag = k .tag} (λ t. Sort.expression) 10 7 (λ text x. refl) h (omega arith) (omega arith) in
+    record { is = λ text. o .is ∙ of-content k asked text (stacked a height) (sort .is text (as-cell k) refl) }
+
+module _ {a : List ℕ} {height : ℕ} where
+  operands-lack : Takes a height Sort.expression 2 Nothing → Operates a height Nothing a
+  unfolding taken
+  operands-lack t = record { is = then (λ rest. some (Sort.expression ∷ rest)) (t .is) }
+
+  pub no-two : height < 2 → Operates a height Nothing a
+  no-two h = operands-lack (too-few h)
+
+  module _ (h : 2 ≤ height) where
+    two-start : Taking a Sort.expression 2 height (height - 2) height
+    two-start = taking-start h refl
+
+    pub right-lacks : serves (getD a (height - 1) 0) Sort.expression ≡ false → Operates a height Nothing a
+    right-lacks p = operands-lack (taking-fails two-start (omega arith) p)
+
+    module _ (p : serves (getD a (height - 1) 0) Sort.expression ≡ true) where
+      right-taken : Taking a Sort.expression 2 height (height - 2) (height - 1)
+      right-taken = taking-next two-start (omega arith) p
+
+      pub left-lacks : serves (getD a (height - 2) 0) Sort.expression ≡ false → Operates a height Nothing a
+      left-lacks q =
+          let e : height - 1 - 1 ≡ height - 2 = omega arith in
+          operands-lack (taking-fails right-taken (omega arith) (rw e q))
+
+      pub both-serve : height < length a → serves (getD a (height - 2) 0) Sort.expression ≡ true
+          → Operates a height (At (height - 1)) (set a (height - 2) Sort.expression)
+      unfolding taken
+      both-serve l q =
+          let d : height - 1 - 1 ≡ height - 2 = omega arith in
+          let t = taking-ends (taking-next right-taken (omega arith) (rw d q)) (omega arith) in
+          let e : height - 1 ≡ height - 2 + 1 = omega arith in
+          record {
+            is = ap (λ (n : ℕ). some (stacked (set a (height - 2) Sort.expression) n)) e
+                ∙ ap some (stacked-push a (height - 2) Sort.expression (omega arith))
+                ∙ then (λ rest. some (Sort.expression ∷ rest)) (t .is);
+          }
 
 -- A cell leaves at most one tree more than there were.
 pub reduced-length : (sort : ℕ) (asked : Children) (st after : List ℕ) → some after ≡ reduced sort asked st → length after ≤ length st + 1

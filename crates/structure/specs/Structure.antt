@@ -10,7 +10,8 @@ use Rattle.sheet.specs.Parts.{cell-count}
 use Rattle.sheet.specs.Tree.{read}
 use Rattle.sheet.specs.Check.{text, cells-of, one-plan}
 use Rattle.sheet.specs.Content.{content-of}
-use Rattle.arity.specs.Arity.{sort-of, children-of}
+use Rattle.arity.specs.Sort
+use Rattle.arity.specs.Arity.{sort-of, parts-only, children-of}
 use Rattle.layout.specs.Layout.{as-cell}
 use Rattle.layout.specs.declared.Cell.{Cell}
 use Rattle.layout.specs.declared.Found.{Found}
@@ -44,3 +45,7 @@ pub record Takes (entries : List ℕ) (height want n : ℕ) (r : Found) : Type 0
 pub record Reduces (entries : List ℕ) (height : ℕ) (k : Cell) (r : Found) (after : List ℕ) : Type 0 where
   pub is : (text : List ℕ)
       → left after r ≡ reduced (sort-of (content-of text (as-cell k))) (children-of (content-of text (as-cell k))) (stacked entries height)
+
+-- r is what a cell over two expressions, an expression itself, leaves of a stack.
+pub record Operates (entries : List ℕ) (height : ℕ) (r : Found) (after : List ℕ) : Type 0 where
+  pub is : left after r ≡ reduced Sort.expression (parts-only Sort.expression 2) (stacked entries height)

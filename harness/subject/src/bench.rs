@@ -215,41 +215,67 @@ pub fn bench() -> bool {
     slower.is_empty() && worst.0 < 50e6
 }
 
-/// The library's time on a sheet, the Rust's `optimize` alone, the same with decode and encode, and the library's pass 4 alone, which on most plans does
-/// nothing but read, check, copy and write: in turns, the best of each. None where the Rust gives no plan.
-fn times(bytes: &[u8]) -> Option<[f64; 4]> {
+/// What every program from bytes to bytes does at the least: it reads each byte of the sheet, as any of them can make it a refusal's, and writes each byte of
+/// the sheet that it hands out. Nothing is decoded, checked or optimized here.
+fn least_work(bytes: &[u8], handed: &[u8], output: &mut [u8]) -> u64 {
+    let words = bytes.chunks_exact(8).map(|c| u64::from_le_bytes(c.try_into().expect("eight bytes")));
+    let seen = words.fold(0, |all, word| all | word);
+    let rest = bytes.chunks_exact(8).remainder().iter().fold(0, |all, byte| all | byte);
+    output[..handed.len()].copy_from_slice(handed);
+    seen | u64::from(rest)
+}
+
+/// Nanoseconds a call on one sheet.
+struct Times {
+    /// the library's all five
+    ours: f64,
+    /// the Rust's `optimize` alone
+    optimize: f64,
+    /// the same with decode and encode
+    whole: f64,
+    /// the library's check
+    check: f64,
+    /// `least_work`
+    least: f64,
+}
+
+fn nanoseconds(calls: usize, mut work: impl FnMut()) -> f64 {
+    let start = Instant::now();
+    (0..calls).for_each(|_| work());
+    start.elapsed().as_nanos() as f64 / calls as f64
+}
+
+/// All of these in turns, the best of each. None where the Rust gives no plan.
+fn times(bytes: &[u8], turns: usize) -> Option<Times> {
     let node = sheet::decode(bytes, Texts::Bare)?;
     let mut output = vec![0; 45_332];
     let once = Instant::now();
     optimized(node.clone())?;
     // Four milliseconds a turn, and at least one call.
     let calls = (4_000_000 / once.elapsed().as_nanos().max(1)).clamp(1, 1_000) as usize;
-    let mut least = [f64::INFINITY; 4];
-    for _ in 0..5 {
-        let start = Instant::now();
-        for _ in 0..calls {
+    let length = reqshabu::optimize(bytes, &mut output).ok()?.length as usize;
+    let handed = output[..length].to_vec();
+    let mut t = Times { ours: f64::INFINITY, optimize: f64::INFINITY, whole: f64::INFINITY, check: f64::INFINITY, least: f64::INFINITY };
+    for _ in 0..turns {
+        t.ours = t.ours.min(nanoseconds(calls, || {
             let _ = black_box(reqshabu::optimize(black_box(bytes), &mut output));
-        }
-        least[0] = least[0].min(start.elapsed().as_nanos() as f64);
-        let inputs: Vec<Theirs> = (0..calls).map(|_| node.clone()).collect();
+        }));
+        let mut inputs: Vec<Theirs> = (0..calls).map(|_| node.clone()).collect();
         let mut outputs = Vec::with_capacity(calls);
-        let start = Instant::now();
-        for input in inputs {
-            outputs.push(black_box(optimized(black_box(input))));
-        }
-        least[1] = least[1].min(start.elapsed().as_nanos() as f64);
-        let start = Instant::now();
-        for _ in 0..calls {
+        t.optimize = t.optimize.min(nanoseconds(calls, || {
+            outputs.push(black_box(optimized(black_box(inputs.pop().expect("a copy for each call")))));
+        }));
+        t.whole = t.whole.min(nanoseconds(calls, || {
             black_box(decoded_and_encoded(black_box(bytes)));
-        }
-        least[2] = least[2].min(start.elapsed().as_nanos() as f64);
-        let start = Instant::now();
-        for _ in 0..calls {
-            let _ = black_box(reqshabu::pass(black_box(bytes), 4, &mut output));
-        }
-        least[3] = least[3].min(start.elapsed().as_nanos() as f64);
+        }));
+        t.check = t.check.min(nanoseconds(calls, || {
+            let _ = black_box(reqshabu::check(black_box(bytes)));
+        }));
+        t.least = t.least.min(nanoseconds(calls, || {
+            black_box(least_work(black_box(bytes), black_box(&handed), &mut output));
+        }));
     }
-    Some(least)
+    Some(t)
 }
 
 /// How ratios are spread, and which are the largest; whether none is over 1.
@@ -272,22 +298,66 @@ fn spread(name: &str, mut ratios: Vec<(f64, u64, u64)>) -> bool {
     slower == 0
 }
 
-/// `bench-random`: the library's time beside the Rust's on random sheets that all five passes hand out.
+/// The number of column records of a sheet.
+fn column_records(bytes: &[u8]) -> u32 {
+    let word = |back: usize| u32::from_le_bytes(bytes[bytes.len() - back..][..4].try_into().expect("four bytes"));
+    (word(12) - word(16)) / 16
+}
+
+/// `bench-random`: the library's time beside the Rust's on random sheets that all five passes hand out. Whether none takes longer than the Rust's way from
+/// bytes to bytes.
 pub fn random(n: u64, seed: u64) -> bool {
-    let (mut alone, mut whole, mut floor) = (Vec::new(), Vec::new(), 0);
+    let (mut alone, mut whole) = (Vec::new(), Vec::new());
+    let (mut least, mut check) = (0, 0);
     for i in 0..n {
         let bytes = generate::bytes(&mut Rng::case(seed, i));
         if model::all_five(&bytes, 45_332).0.number != 0 {
             continue;
         }
-        if let Some([ours, optimize, all, pass]) = times(&bytes) {
-            let cells = model::check(&bytes).cells;
-            alone.push((ours / optimize, cells, i));
-            whole.push((ours / all, cells, i));
-            floor += u64::from(ours > optimize && pass > optimize);
+        let Some(t) = times(&bytes, 5) else { continue };
+        let cells = model::check(&bytes).cells;
+        alone.push((t.ours / t.optimize, cells, i));
+        whole.push((t.ours / t.whole, cells, i));
+        if t.ours > t.optimize {
+            least += u64::from(t.least > t.optimize);
+            check += u64::from(t.least <= t.optimize && t.check + t.least > t.optimize);
+            println!(
+                "slower than optimize alone: case {i}, {cells} cells, {} columns: {:.0} ns, optimize {:.0}, check {:.0}, least {:.0}",
+                column_records(&bytes),
+                t.ours,
+                t.optimize,
+                t.check,
+                t.least
+            );
         }
     }
     spread("beside the Rust's optimize alone", alone);
-    println!("    on {floor} of those over 1, pass 4 alone takes longer than the Rust's five");
+    println!("    of those over 1, on {least} the reading and writing of all bytes takes longer than optimize, on {check} more with the check");
     spread("with its decode and encode", whole)
+}
+
+/// `bench-least`: plans of which the Rust moves nearly all by a pointer. Any program from bytes to bytes takes longer than its `optimize` alone there, once the
+/// sheet is long enough.
+pub fn least() -> bool {
+    println!("| plan | bytes | cells | all five, ns | check, ns | least work, ns | Rust's optimize alone, ns | least work by optimize | with decode and encode, ns | ratio |");
+    println!("|---|---|---|---|---|---|---|---|---|---|");
+    for n in [10, 100, 500, 1000, 2046] {
+        let group_by = vec![con(Val::Null); n];
+        let root = Node::Aggregate { source: Box::new(scan(0)), group_by, aggregates: Vec::new() };
+        let bytes = tree::encode(&over(root));
+        let Some(t) = times(&bytes, 25) else { return false };
+        println!(
+            "| Aggregate of {n} Nulls over a Scan | {} | {} | {:.0} | {:.0} | {:.0} | {:.0} | {:.2} | {:.0} | {:.2} |",
+            bytes.len(),
+            n + 2,
+            t.ours,
+            t.check,
+            t.least,
+            t.optimize,
+            t.least / t.optimize,
+            t.whole,
+            t.ours / t.whole
+        );
+    }
+    true
 }

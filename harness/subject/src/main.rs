@@ -14,6 +14,7 @@
 //!     subject rows N SEED              the six plans that the library hands out, read over random tables
 //!     subject bench-all                all five passes beside the compiled Rust's `optimize`
 //!     subject bench-random N SEED      the same on N random accepted sheets: how the ratios are spread
+//!     subject bench-least              plans on which the reading and writing of all bytes alone takes longer than the Rust's `optimize`
 mod bench;
 mod operations;
 
@@ -118,12 +119,13 @@ fn main() {
         Some("limits") => operations::at_limits(words.get(1).map_or(1024, |_| number(1))),
         Some("rows") => operations::rows(number(1), number(2)),
         Some("bench-all") => original::on_deep_stack(bench::bench),
+        Some("bench-least") => original::on_deep_stack(bench::least),
         Some("bench-random") => {
             let (n, seed) = (number(1), number(2));
             original::on_deep_stack(move || bench::random(n, seed))
         }
         _ => {
-            eprintln!("subject damaged | accepted | operations | capacities | rubbish | rows | bench-random N SEED, or bench | bench-all | limits");
+            eprintln!("subject damaged | accepted | operations | capacities | rubbish | rows | bench-random N SEED, or bench | bench-all | bench-least | limits");
             false
         }
     };

@@ -1,23 +1,11 @@
-use Rattle.decode.proofs.Laws.{last-trees, put-said}
-use Prim.Native.Nat.{ℕ, _+_, _-_, _*_, _≤_, _<_}
-use native.Mathlib.Omega.{arith}
-use mathlib.Core.Path.{_≡_, refl, sym, ap, _∙_, subst}
-use mathlib.Core.List.{List, [], _∷_, _++_}
-use lib.ListN.{length, take, drop}
+-- `decode::put_over` meets its contract. Assumes nothing.
+use Rattle.decode.proofs.Laws.{put-said}
 use borrow.Author.Needs.{needs}
 use Rattle.decode.proofs.put_over.Statement.{statement}
 use Rattle.decode.proofs.put_over.Tie as tie
-use Rattle.decode.proofs.put_over.Reads as reads
-use Rattle.decode.proofs.put_over.Lts as lts
-use Rattle.cells.proofs.put.Reads as put-reads
-use Rattle.decode.proofs.trees_of.Reads as trees-of-reads
-use Rattle.nodes.proofs.trees_start.Reads as trees-start-reads
 
-trees-of-requires : tie.Need-trees-of-requires
-trees-of-requires c κs = (c .before .before .pre .a-small, c .before .before .pre .b-small)
-
-trees-start-requires : tie.Need-trees-start-requires
-trees-start-requires c κs = last-trees (c .before .before .before .args .k) (c .trees-of .ensures) (c .before .before .before .pre)
+start-of-requires : tie.Need-start-of-requires
+start-of-requires c κs = search needs
 
 put-requires : tie.Need-put-requires
 put-requires c κs = search needs
@@ -26,8 +14,10 @@ same-length : tie.Need-same-length
 same-length c = search needs
 
 returns : tie.Need-returns
-returns c = put-said (c .before .before .before .before .before .before .before .before .args .k) (c .before .before .before .before .before .trees-of .ensures) (c .before .before .before .before .trees-start .ensures) (c .before .before .put .ensures)
+returns c =
+    let put = c .before .before in
+    let started = put .before .before in
+    put-said (started .before .before .before .args .k) (started .start-of .ensures) (put .put .ensures)
 
 pub put-over-spec : {M : Type 1} → statement M
-put-over-spec =
-    tie.close (tie.spec trees-of-requires trees-start-requires put-requires same-length returns)
+put-over-spec = tie.close (tie.spec start-of-requires put-requires same-length returns)

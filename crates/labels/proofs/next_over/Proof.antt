@@ -14,7 +14,7 @@ use Rattle.labels.proofs.next_over.Lts as lts
 use Rattle.cells.proofs.tag_at.Reads as tag-at-reads
 use Rattle.labels.proofs.own_columns.Reads as own-columns-reads
 use Rattle.labels.proofs.own_route.Reads as own-route-reads
-use Rattle.nodes.proofs.columns.Reads as columns-reads
+use Rattle.labels.proofs.columns_for.Reads as columns-for-reads
 
 tag-at-requires : tie.Need-tag-at-requires
 tag-at-requires c κs = let (h, k) = at-in (columns-node (c .before .before .pre .0 .at)) in (omega arith, k)
@@ -34,11 +34,11 @@ returns c = ends-own (c .before .before .before .before .before .before .before 
 enum-known-route-2 : tie.Need-enum-known-route-2
 enum-known-route-2 c = search needs
 
-columns-requires : tie.Need-columns-requires
-columns-requires c κs = source-columns-at (c .before .before .before .before .before .before .before .before .before .pre .1 .0) (c .before .before .before .before .before .before .before .before .before .pre .1 .1) (c .before .before .before .before .before .before .before .before .before .pre .0 .at)
+columns-for-requires : tie.Need-columns-for-requires
+columns-for-requires c κs = source-columns-at (c .before .before .before .before .before .before .before .before .before .pre .1 .0) (c .before .before .before .before .before .before .before .before .before .pre .1 .1) (c .before .before .before .before .before .before .before .before .before .pre .0 .at)
 
 returns-2 : tie.Need-returns-2
-returns-2 c = moves-own (c .before .before .before .before .before .before .before .before .before .before .args .i) (c .before .before .before .before .before .before .before .before .before .before .pre .1 .0) (c .before .before .before .before .before .before .before .before .before .before .pre .1 .1) (says-here (c .before .before .before .before .before .before .before .tag-at .ensures) (sym (c .before .before .before .before .before .before .own-columns .ensures) ∙ c .before .before .before .before .before .if1 .taken)) (c .before .before .before .before .own-route .result) (c .before .before .before .before .own-route .ensures) (c .before .before .route2 .given .0 .0) (c .before .before .route2 .given .1) (c .before .before .before .before .before .before .before .before .before .before .pre .0) (c .columns .ensures)
+returns-2 c = moves-own (c .before .before .before .before .before .before .before .before .before .before .args .i) (c .before .before .before .before .before .before .before .before .before .before .pre .1 .0) (c .before .before .before .before .before .before .before .before .before .before .pre .1 .1) (says-here (c .before .before .before .before .before .before .before .tag-at .ensures) (sym (c .before .before .before .before .before .before .own-columns .ensures) ∙ c .before .before .before .before .before .if1 .taken)) (c .before .before .before .before .own-route .result) (c .before .before .before .before .own-route .ensures) (c .before .before .route2 .given .0 .0) (c .before .before .route2 .given .1) (c .before .before .before .before .before .before .before .before .before .before .pre .0) (c .columns-for .ensures)
 
 returns-3 : tie.Need-returns-3
 returns-3 c = let (y, z) = says-false-here (c .before .before .tag-at .ensures) (sym (c .before .own-columns .ensures) ∙ c .if1 .left) in moves-source (c .before .before .before .before .before .pre .1 .0) (c .before .before .before .before .before .pre .1 .1) y z (c .before .before .before .before .before .args .i) (c .before .before .before .before .before .pre .0)
@@ -53,6 +53,6 @@ next-over-spec =
     enum-known-route
     returns
     enum-known-route-2
-    columns-requires
+    columns-for-requires
     returns-2
     returns-3)

@@ -1,36 +1,36 @@
--- `layout::bad_record` meets its contract: the loop's invariant is that no record passed so far fails.
-use Rattle.layout.proofs.Laws.{records-walked}
-use Rattle.layout.proofs.Failing.{Passed, passed-none, passed-more, passed-but, passed-all}
+-- `layout::bad_record` meets its contract: the loop's invariant is that no table passed so far fails, and the columns are left behind them.
+use Rattle.layout.proofs.Laws.{tables-are, columns-are, record-table, records-walked}
+use Rattle.layout.proofs.Failing.{Passed, passed-none, passed-more, passed-but, passed-to}
 use Rattle.sheet.specs.Parts.{record-ok}
 use borrow.Author.Tests.{not-true, not-false}
-use Prim.Native.Nat.{_-_}
+use Prim.Native.Nat.{_+_, _-_, _≤_}
+use native.Mathlib.Omega.{arith}
 use mathlib.Core.Path.{sym, _∙_}
 use borrow.Author.Needs.{needs}
 use Rattle.layout.proofs.bad_record.Statement.{statement}
 use Rattle.layout.proofs.bad_record.Tie as tie
 
 abbrev Inv-loop : tie.InvT-loop
-Inv-loop s p count i₀ i = Passed (record-ok s) count i
+Inv-loop s p tables i₀ i = (i ≤ tables) × Passed (record-ok s) (tables + p .columns .count) i
 
 abbrev μ-loop : tie.MeasureT-loop
-μ-loop s p count i₀ i = count - i
+μ-loop s p tables i₀ i = tables - i
 
 parts-of-requires : tie.Need-parts-of-requires Inv-loop μ-loop
 parts-of-requires c κs = search needs
 
-add-count : tie.Need-add-count Inv-loop μ-loop
-add-count c = search needs
-
 loop-holds : tie.Need-loop-holds Inv-loop μ-loop
-loop-holds c = passed-none _ _
+loop-holds c = (omega arith, passed-none _ _)
 
-record-ok-requires : tie.Need-record-ok-requires Inv-loop μ-loop
-record-ok-requires c κs = search needs
+table-ok-requires : tie.Need-table-ok-requires Inv-loop μ-loop
+table-ok-requires c κs = search needs
 
 returns : tie.Need-returns Inv-loop μ-loop
 returns c =
-    records-walked (c .before .before .before .before .before .parts-of .ensures)
-    (passed-but _ (c .before .before .before .loop .inv) (c .before .before .loop-test .taken) (sym (c .before .record-ok .ensures) ∙ not-true _ (c .if1 .taken)))
+    let g = c .before .before .before .before .parts-of .ensures in
+    let h = c .before .before .loop-test .taken in
+    records-walked g
+    (passed-but _ (c .before .before .before .loop .inv .1) (omega (arith, h)) (sym (record-table g _ h (c .before .table-ok .ensures)) ∙ not-true _ (c .if1 .taken)))
 
 add-i : tie.Need-add-i Inv-loop μ-loop
 add-i c = search needs
@@ -40,11 +40,21 @@ loop-less c = search needs
 
 loop-again : tie.Need-loop-again Inv-loop μ-loop
 loop-again c =
-    passed-more _ (c .before .before .before .loop .inv) (c .before .before .loop-test .taken)
-    (sym (c .before .record-ok .ensures) ∙ not-false _ (c .if1 .left))
+    let g = c .before .before .before .before .parts-of .ensures in
+    let h = c .before .before .loop-test .taken in (
+      omega (arith, h),
+      passed-more _ (c .before .before .before .loop .inv .1) (omega (arith, h)) (sym (record-table g _ h (c .before .table-ok .ensures)) ∙ not-false _ (c .if1 .left)),
+    )
+
+bad-column-requires : tie.Need-bad-column-requires Inv-loop μ-loop
+bad-column-requires c κs = search needs
 
 returns-2 : tie.Need-returns-2 Inv-loop μ-loop
-returns-2 c = records-walked (c .before .before .before .parts-of .ensures) (passed-all _ (c .before .loop .inv) (c .loop-test .left))
+returns-2 c =
+    let g = c .before .before .before .parts-of .ensures in
+    let (h, inv) = c .before .before .loop .inv in
+    records-walked g
+    (c .bad-column .ensures ∙ passed-to _ inv _ _ (omega (arith, h, c .before .loop-test .left, tables-are g)) (cc (tables-are g, columns-are g)))
 
 pub bad-record-spec : {M : Type 1} → statement M
 bad-record-spec =
@@ -53,11 +63,11 @@ bad-record-spec =
     Inv-loop
     μ-loop
     parts-of-requires
-    add-count
     loop-holds
-    record-ok-requires
+    table-ok-requires
     returns
     add-i
     loop-less
     loop-again
+    bad-column-requires
     returns-2)

@@ -32,14 +32,14 @@ sub-result-2 c = omega (arith, targets-fit (c .before .before .own-trees .ensure
 returns-2 : tie.Need-returns-2
 returns-2 c = remap-start (c .before .before .own-trees .ensures) (sym (c .before .tag-at .ensures) ∙ c .if2 .taken)
 
-sub-trees-start : tie.Need-sub-trees-start
-sub-trees-start c = omega (arith, at-in (c .before .before .before .before .before .before .pre) .0)
+sub-parts-start : tie.Need-sub-parts-start
+sub-parts-start c = omega (arith, at-in (c .before .before .before .before .before .before .pre) .0)
 
-trees-start-requires : tie.Need-trees-start-requires
-trees-start-requires c κs = own-at (c .before .before .before .before .source-count .ensures) (c .before .before .before .if1 .left) (c .before .before .own-trees .ensures) (c .before .before .before .before .before .before .pre)
+parts-start-requires : tie.Need-parts-start-requires
+parts-start-requires c κs = own-at (c .before .before .before .before .source-count .ensures) (c .before .before .before .if1 .left) (c .before .before .own-trees .ensures) (c .before .before .before .before .before .before .pre)
 
 returns-3 : tie.Need-returns-3
-returns-3 c = own-start-said (c .before .before .before .before .before .source-count .ensures) (c .before .before .before .before .if1 .left) (c .before .before .before .own-trees .ensures) (c .trees-start .ensures)
+returns-3 c = own-start-said (c .before .before .before .before .before .source-count .ensures) (c .before .before .before .before .if1 .left) (c .before .before .before .own-trees .ensures) (c .parts-start .ensures)
 
 pub own-start-spec : {M : Type 1} → statement M
 own-start-spec =
@@ -53,6 +53,6 @@ own-start-spec =
     mul-result
     sub-result-2
     returns-2
-    sub-trees-start
-    trees-start-requires
+    sub-parts-start
+    parts-start-requires
     returns-3)

@@ -4,11 +4,11 @@ use Rattle.sql.specs.Optimizer.{in-turn}
 use Rattle.sql.specs.Optimizer as Optimizer
 use Rattle.sql.specs.Answer.{done, _>>=_}
 use Rattle.passes.proofs.Turns.{plan-with, runs-with, plan-next, runs-then, runs-stop, runs-end}
+use Rattle.optimizer.proofs.Skipping.{plan-there, without-lookup, without-hash}
 use Prim.Native.Nat.{ℕ, _+_, _-_, _*_, _≤_, _<_}
 use native.Mathlib.Omega.{arith}
 use mathlib.Core.Path.{_≡_, refl, sym, ap, _∙_, subst}
-use mathlib.Core.List.{List, [], _∷_, _++_}
-use lib.ListN.{length, take, drop}
+use borrow.Author.Tests.{not-true}
 use borrow.Author.Needs.{needs}
 use Rattle.optimizer.proofs.from_pushdown.Statement.{statement}
 use Rattle.optimizer.proofs.from_pushdown.Tie as tie
