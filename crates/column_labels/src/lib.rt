@@ -56,7 +56,7 @@ fn each_label(
     at: usize,
     widths: &[usize],
     names: &[usize],
-    columns: &[usize],
+    columns: &[u8],
 ) -> usize
     requires { ⌜ ColumnsAt (now widths) (now s) lo hi ⌝ }
     requires { ⌜ NamesAt (now widths) (now names) (now columns) ⌝ }
@@ -82,7 +82,7 @@ fn leaf_labels(
     at: usize,
     widths: &[usize],
     names: &[usize],
-    columns: &[usize],
+    columns: &[u8],
 ) -> usize
     requires { ⌜ ColumnsAt (now widths) (now s) lo hi ⌝ }
     requires { ⌜ NamesAt (now widths) (now names) (now columns) ⌝ }
@@ -104,7 +104,7 @@ pub fn write_labels(
     at: usize,
     widths: &[usize],
     names: &[usize],
-    columns: &[usize],
+    columns: &[u8],
 ) -> usize
     requires { ⌜ ColumnsAt (now widths) (now s) lo hi ⌝ }
     requires { ⌜ NamesAt (now widths) (now names) (now columns) ⌝ }

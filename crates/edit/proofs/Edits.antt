@@ -5,7 +5,7 @@ use mathlib.Core.Logic.{⊎-elim}
 use mathlib.Core.Path.{_≡_, refl, sym, ap, _∙_, subst}
 use mathlib.Core.List.{List, [], _∷_, _++_, append-assoc}
 use lib.ListN.{length, take, drop, set, replicate, length-append, length-drop, length-replicate, take-append-drop}
-use lib.Seq.{take-take, take-at, length-take-le, take-all, drop-at, drop-drop, take-set-lt, set-at}
+use lib.Seq.{take-paste, length-paste, take-take, take-at, length-take-le, take-all, drop-at, drop-drop, take-set-lt, set-at}
 use lib.Dec.{leb}
 use borrow.Author.Tests.{le-leb, lt-leb}
 use Rattle.sql.specs.Plan.{Node, node-size}
@@ -13,12 +13,12 @@ use Rattle.sql.specs.Answer.{Answer, done, refused, _>>=_}
 use Rattle.sql.specs.Room.{if-room}
 use Rattle.cells.specs.declared.Cell.{Cell}
 use Rattle.cells.specs.Cells.{words, sized, Part}
-use Rattle.cells.specs.Room.{Wrote, Copies}
-use Rattle.cells.proofs.Laws.{part-is, no-room, done as written, then, lt-or-ge, wrote-up}
+use Rattle.cells.specs.Room.{Wrote}
+use Rattle.cells.proofs.Laws.{part-is, no-room, done as written, lt-or-ge, wrote-up}
 use Rattle.words.specs.Words.{node-words}
 use Rattle.words.specs.Place.{NodeHere, NodeAt}
 use Rattle.words.proofs.Sizes.{sized-long, words-long}
-use Rattle.edit.specs.Edit.{Holds, Standing, Shares, Held, Left, Edit, Inherited, Placed, Replaces, Reseals, ReplacesOwn}
+use Rattle.edit.specs.Edit.{Holds, Standing, Shares, Held, Left, Edit, Inherited, Placed, moved, Replaces, Reseals, ReplacesOwn}
 
 -- ---- the place of some words among all words
 module _ (x : List ℕ) {t from tail : ℕ} (inside : t ≤ length x) (pre old post : List ℕ) (whole : take t x ≡ pre ++ (old ++ post)) (low : length pre ≡ from)
@@ -87,20 +87,23 @@ module _ (x : List ℕ) {y : List ℕ} {n t from tail : ℕ} (inside : t ≤ len
   replace-long z pre old post e a b y₀ w l₀ l f =
       record { fits = λ i. absurd (omega (arith, length-append w post, f .fits (omega (arith, length-append w post)) .0)); full = λ i. omega arith }
 
-  -- as many words as before: d′ is what came of the words from `from` up to t − tail
-  pub replace-same : {m : ℕ} {d′ : List ℕ} → n ≤ length y → n ≡ t - tail - from → Wrote (take (t - tail - from) (drop from x)) 0 (take n y) m d′
-      → length d′ ≡ length (take (t - tail - from) (drop from x))
-      → Replaces x y n t from tail t (take from x ++ (d′ ++ drop (t - tail - from) (drop from x)))
-  replace-same {m} {d′} h k c j pre old post e a b y₀ w l₀ l f =
+  -- no room for what was written
+  pub replace-full : {r : ℕ} → from + tail ≤ t → n ≤ length y → length x - from - tail < n → length x < r → Replaces x y n t from tail r x
+  replace-full h k z j pre old post e a b y₀ w l₀ l f =
+      record { fits = λ i. absurd (omega (arith, length-append w post, wrote-up f (omega arith))); full = λ i. j }
+
+  -- as many words as before, q of them: d′ is what came of the words from `from` up to t − tail
+  pub replace-same : {m q : ℕ} {d′ : List ℕ} → n ≤ length y → n ≡ q → q ≡ t - tail - from → Wrote (take q (drop from x)) 0 (take n y) m d′
+      → length d′ ≡ length (take q (drop from x)) → Replaces x y n t from tail t (take from x ++ (d′ ++ drop q (drop from x)))
+  replace-same {m} {q} {d′} h k k′ c j pre old post e a b y₀ w l₀ l f =
       let s = span x inside pre old post e a b in
       let g = wrote-up f (omega arith) in
       let (g′, v) = f .fits (omega arith) in
-      let o = part-is (old-part x inside pre old post e a b) in
+      let o : take q (drop from x) ≡ old = rw k′ (part-is (old-part x inside pre old post e a b)) in
       let lo = ap length o in
       let ly = length-take-le n y h in
       let (c₀, c₁) = c .fits (omega arith) in
       let d : d′ ≡ w = sym (take-all m d′ (omega arith)) ∙ c₁ ∙ v in
-      let q = t - tail - from in
       let back : drop q (drop from x) ≡ post ++ drop t x = behind-is x inside pre old post e a b q (omega arith) in
       let front = pre ++ (w ++ post) in
       let lf = length-append pre (w ++ post) in
@@ -110,33 +113,34 @@ module _ (x : List ℕ) {y : List ℕ} {n t from tail : ℕ} (inside : t ≤ len
         full = λ i. absurd (omega (arith, ap length all, length-append front (drop t x)));
       }
 
-  pub replace-full : {m : ℕ} {y₁ : List ℕ} → length y₁ ≡ length y → Copies x (t - tail) t y n m y₁ → length y₁ < m → Replaces x y n t from tail m x
-  replace-full {m} {y₁} k c z pre old post e a b y₀ w l₀ l f =
-      let g = then l₀ f (c post (post-part x inside pre old post e a b)) in
-      record {
-        fits = λ i. absurd (let (u, v) = g .fits (omega (arith, length-append w post)) in omega arith);
-        full = λ i. omega arith;
-      }
+new-count : (from n tail : ℕ) → (n ≡ from + n - from) × (from + n - from ≡ from + n + tail - tail - from)
+new-count from n tail = (omega arith, omega arith)
 
-  pub replace-done : {m r : ℕ} {y₁ x′ : List ℕ} → length y₁ ≡ length y → length x′ ≡ length x → Copies x (t - tail) t y n m y₁ → m ≤ length y₁
-      → Copies y₁ 0 m x from r x′ → Replaces x y n t from tail r x′
-  replace-done {m} {r} {y₁} {x′} k j c z d pre old post e a b y₀ w l₀ l f =
-      let g = then l₀ f (c post (post-part x inside pre old post e a b)) in
-      let i₁ = wrote-up g (omega arith) in
-      let (i₂, v) = g .fits (omega arith) in
-      let q =
-      d (w ++ post)
-      (record {
-        before = [];
-        after = drop m y₁;
-        whole = sym (take-append-drop m y₁) ∙ ap (λ (l : List ℕ). l ++ drop m y₁) v;
-        low = refl;
-        high = omega arith;
-      }) in
-      record {
-        fits = λ i. let (u₁, u₂) = q .fits (omega arith) in (omega arith, u₂ ∙ ap (λ (l : List ℕ). l ++ (w ++ post)) (pre-is x inside pre old post e a b));
-        full = λ i. let u = q .full (omega arith) in omega arith;
-      }
+-- not as many as before: x₁ is x after the words behind were moved, so that there are as many words as take their place, whatever they are
+module _ (x : List ℕ) {y : List ℕ} {n t from tail : ℕ} (inside : t ≤ length x) where
+  pub replace-moved : {m : ℕ} {x₁ d′ : List ℕ} → from + tail ≤ t → n ≤ length y → n ≤ length x - from - tail → x₁ ≡ moved x (t - tail) t (from + n)
+      → Wrote (take (from + n - from) (drop from x₁)) 0 (take n y) m d′ → length d′ ≡ length (take (from + n - from) (drop from x₁))
+      → Replaces x y n t from tail (from + n + tail) (take from x₁ ++ (d′ ++ drop (from + n - from) (drop from x₁)))
+  replace-moved {x₁ = x₁} h k z e₁ c j pre old post e a b y₀ w l₀ l f =
+      let to = from + n in
+      let fits : to + tail ≤ length x = omega arith in
+      let q = t - (t - tail) in
+      let behind = drop (t - tail) x in
+      let lb = length-drop (t - tail) x in
+      let some = drop from (take to x) in
+      let first : take to x ≡ pre ++ some =
+      sym (take-append-drop from (take to x))
+      ∙ ap (λ (s : List ℕ). s ++ some) (take-take from to x (omega arith) ∙ pre-is x inside pre old post e a b) in
+      let whole : take (to + tail) x₁ ≡ pre ++ (some ++ post) =
+      ap (λ (i : ℕ). take i x₁) (let s : to + tail ≡ to + q = omega arith in s)
+      ∙ ap (take (to + q)) e₁
+      ∙ take-paste x to behind q (omega arith) (omega arith)
+      ∙ ap (λ (s : List ℕ). take to x ++ s) (part-is (post-part x inside pre old post e a b))
+      ∙ ap (λ (s : List ℕ). s ++ post) first
+      ∙ append-assoc pre some post in
+      let long : length x₁ ≡ length x = ap length e₁ ∙ length-paste x to behind q (omega arith) (omega arith) in
+      let (i₁, i₂) = new-count from n tail in
+      replace-same x₁ (rw long fits) k i₁ i₂ c j pre some post whole a b y₀ w l₀ (l ∙ sym long) f
 
 -- Some words were written into the first n words of the scratch, whatever they are.
 pub record Some (y : List ℕ) (n : ℕ) : Type 0 where

@@ -1,11 +1,12 @@
 -- Edits in place. The whole plan stands in the first t words of x, and the node that is worked on from lo up to t − tail: lo words of the plan stand
 -- before it, tail words behind it. What a rewrite makes of the node takes its place, and the words behind it move. x has six words for each cell that
 -- there is room for, so a plan has room if and only if it fits into x; a number of words past the end of x stands for refusal 14.
-use Prim.Native.Nat.{ℕ, _+_, _*_, _≤_, _<_}
+use Prim.Native.Nat.{ℕ, _+_, _-_, _*_, _≤_, _<_}
 use mathlib.Core.Bool.{Bool}
 use mathlib.Core.Path.{_≡_}
 use mathlib.Core.List.{List, _++_}
-use lib.ListN.{length, take}
+use lib.ListN.{length, take, drop}
+use lib.Seq.{paste}
 use Rattle.sql.specs.Plan.{Over, Join, Node, over, join}
 use Rattle.sql.specs.Answer.{Answer, done, refused}
 use Rattle.cells.specs.declared.Cell.{Cell}
@@ -76,6 +77,10 @@ pub record Inherited (Kept : Node → Node → Type 0) : Type 0 where
 pub record Placed (x′ : List ℕ) (r : ℕ) (pre post w : List ℕ) : Type 0 where
   pub fits : length pre + length (w ++ post) ≤ length x′ → (r ≡ length pre + length (w ++ post)) × (take r x′ ≡ pre ++ (w ++ post))
   pub full : length x′ < length pre + length (w ++ post) → length x′ < r
+
+-- x after its words from `end` up to t were copied to where they stand from word `to` on. The words before that place, and those behind it, are as before.
+abbrev pub moved : List ℕ → ℕ → ℕ → ℕ → List ℕ
+moved x end t to = paste x to (drop end x) (t - end)
 
 -- Whatever was written into the first n words of the scratch y takes the place of the words from `from` up to t − tail, whatever they are.
 abbrev pub Replaces : (x y : List ℕ) (n t from tail r : ℕ) → List ℕ → Type 0

@@ -1,18 +1,25 @@
 -- The first conjunct that is a lookup by an index, where it stands, and the conjuncts that remain.
-use Prim.Native.Nat.{ℕ, _≤_}
+use Prim.Native.Nat.{ℕ, _+_, _*_, _/_, _≤_}
 use mathlib.Core.Bool.{Bool, false, not, _||_, cond}
 use mathlib.Core.Path.{_≡_}
-use mathlib.Core.List.{List, [], _∷_}
+use mathlib.Core.List.{List, [], _∷_, map}
 use mathlib.Core.Option.{Option, none, some}
-use lib.ListN.{getD}
+use lib.Dec.{eqb}
+use lib.ListN.{length, getD}
 use Rattle.sql.specs.Schema.{Schema}
 use Rattle.sql.specs.Expression.{Expression, ands, is-column-lookup}
+use Rattle.sql.specs.Plan.{up-to}
 use Rattle.sql.specs.Optimizer.{Found, has-index, cons-if}
+use Rattle.sheet.specs.Bytes.{byte}
 use Rattle.words.specs.Place.{ExpressionHere}
 use Rattle.conjuncts.specs.Conjuncts.{Appends}
 use Rattle.first_lookup.specs.declared.FoundLookup.{FoundLookup}
 use Rattle.first_lookup.specs.declared.FoundLookup.the-variants.{At, None}
 use Rattle.first_lookup.specs.declared.Rest.{Rest}
+
+-- What the records of a table's columns, of 16 bytes each, say of every column: it is the primary key, or has an index.
+unfoldable pub marks-in : (key : ℕ) → List ℕ → List Bool
+marks-in key records = map (λ i. eqb i key || eqb (byte records (i * 16 + 5)) 1) (up-to 0 (length records / 16))
 
 -- The marks say of each column of a table whether a lookup can go by it.
 abbrev pub Marks : Schema → ℕ → List Bool → Type 0

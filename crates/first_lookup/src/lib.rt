@@ -1,11 +1,11 @@
 // optimizer.rs, index_lookup: the first conjunct of a scan's filter that looks up a column with an index, and the conjuncts that remain. Which columns of the
-// table a lookup can go by is lent as marks, in the columns' order.
+// table a lookup can go by, the marked ones, is read from what is lent: the table's primary key, and its columns' records as a sheet has them.
 ghost use mathlib.Core.Path.{_≡_};
 ghost use mathlib.Core.Bool.{false};
 ghost use Prim.Native.Nat.{_-_, _<_};
 ghost use lib.ListN.{getD};
 ghost use Rattle.words.specs.Place.{ExpressionAt};
-ghost use Rattle.first_lookup.specs.First.{FindsOne, FindsFirst, LeavesOne, Leaves};
+ghost use Rattle.first_lookup.specs.First.{marks-in, FindsOne, FindsFirst, LeavesOne, Leaves};
 
 // Where a conjunct stands, from a word up to another, and the column that it looks up.
 pub enum FoundLookup {
@@ -19,46 +19,49 @@ pub struct Rest {
     pub met: bool,
 }
 
-// Whether column c is marked.
-fn has_index(marks: &[bool], c: usize) -> bool
-    ensures { λ r. ⌜ r ≡ getD (now (marks .entry)) c false ⌝ }
+// Whether column c is marked: it is the key, or byte 5 of its record, of 16 bytes, says that it has an index.
+fn has_index(key: usize, columns: &[u8], c: usize) -> bool
+    ensures { λ r. ⌜ r ≡ getD (marks-in key (now (columns .entry))) c false ⌝ }
 {
-    if c < marks.len() {
-        return marks[c];
+    if columns.len() / 16 <= c {
+        return false;
     }
-    false
+    if c == key {
+        return true;
+    }
+    layout::byte_at(columns, c * 16 + 5) == 1
 }
 
 // The conjunct from lo to hi, if it looks up a marked column.
-fn find_one(s: &[usize], lo: usize, hi: usize, marks: &[bool]) -> FoundLookup
+fn find_one(s: &[usize], lo: usize, hi: usize, key: usize, columns: &[u8]) -> FoundLookup
     requires { ⌜ ExpressionAt (now s) lo hi ⌝ }
-    ensures { λ r. ⌜ FindsOne (now (marks .entry)) (now (s .entry)) lo hi r ⌝ }
+    ensures { λ r. ⌜ FindsOne (marks-in key (now (columns .entry))) (now (s .entry)) lo hi r ⌝ }
 {
     let found = column_lookup::is_column_lookup(s, lo, hi);
     let column_lookup::Lookup::Column(c) = found else {
         return FoundLookup::None;
     };
-    if has_index(marks, c) {
+    if has_index(key, columns, c) {
         return FoundLookup::At(lo, hi, c);
     }
     FoundLookup::None
 }
 
 // The first conjunct of the expression from lo to hi that looks up a marked column.
-pub fn find_lookup(s: &[usize], lo: usize, hi: usize, marks: &[bool]) -> FoundLookup
+pub fn find_lookup(s: &[usize], lo: usize, hi: usize, key: usize, columns: &[u8]) -> FoundLookup
     requires { ⌜ ExpressionAt (now s) lo hi ⌝ }
-    ensures { λ r. ⌜ FindsFirst (now (marks .entry)) (now (s .entry)) lo hi r ⌝ }
+    ensures { λ r. ⌜ FindsFirst (marks-in key (now (columns .entry))) (now (s .entry)) lo hi r ⌝ }
 {
     if cells::tag_at(s, hi) == 10 {
         let end = hi - 6;
         let mid = cells::start(s, end);
-        let earlier = find_lookup(s, lo, mid, marks);
+        let earlier = find_lookup(s, lo, mid, key, columns);
         if let FoundLookup::At(a, b, c) = earlier {
             return FoundLookup::At(a, b, c);
         }
-        return find_lookup(s, mid, end, marks);
+        return find_lookup(s, mid, end, key, columns);
     }
-    find_one(s, lo, hi, marks)
+    find_one(s, lo, hi, key, columns)
 }
 
 // The conjunct from lo to hi, unless it is the first that looks up a marked column, as one more conjunct in d (crate conjuncts).
@@ -69,17 +72,18 @@ fn remaining_one(
     d: &mut [usize],
     from: usize,
     at: usize,
-    marks: &[bool],
+    key: usize,
+    columns: &[u8],
     met: bool,
 ) -> Rest
     requires { ⌜ ExpressionAt (now s) lo hi ⌝ }
-    ensures { λ r. ⌜ LeavesOne (now (marks .entry)) met (now (s .entry)) lo hi (now (d .entry)) from at r (now (d .exit)) ⌝ }
+    ensures { λ r. ⌜ LeavesOne (marks-in key (now (columns .entry))) met (now (s .entry)) lo hi (now (d .entry)) from at r (now (d .exit)) ⌝ }
 {
     if met {
         let m = conjuncts::append(s, lo, hi, d, from, at, 0);
         return Rest { at: m, met: true };
     }
-    let here = find_one(s, lo, hi, marks);
+    let here = find_one(s, lo, hi, key, columns);
     let FoundLookup::None = here else {
         return Rest { at, met: true };
     };
@@ -95,17 +99,18 @@ pub fn remaining(
     d: &mut [usize],
     from: usize,
     at: usize,
-    marks: &[bool],
+    key: usize,
+    columns: &[u8],
     met: bool,
 ) -> Rest
     requires { ⌜ ExpressionAt (now s) lo hi ⌝ }
-    ensures { λ r. ⌜ Leaves (now (marks .entry)) met (now (s .entry)) lo hi (now (d .entry)) from at r (now (d .exit)) ⌝ }
+    ensures { λ r. ⌜ Leaves (marks-in key (now (columns .entry))) met (now (s .entry)) lo hi (now (d .entry)) from at r (now (d .exit)) ⌝ }
 {
     if cells::tag_at(s, hi) == 10 {
         let end = hi - 6;
         let mid = cells::start(s, end);
-        let l = remaining(s, lo, mid, d, from, at, marks, met);
-        return remaining(s, mid, end, d, from, l.at, marks, l.met);
+        let l = remaining(s, lo, mid, d, from, at, key, columns, met);
+        return remaining(s, mid, end, d, from, l.at, key, columns, l.met);
     }
-    remaining_one(s, lo, hi, d, from, at, marks, met)
+    remaining_one(s, lo, hi, d, from, at, key, columns, met)
 }

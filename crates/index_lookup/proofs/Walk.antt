@@ -39,29 +39,29 @@ join-shape : (room : ℕ) (schema : Schema) (rest : ℕ) (outer : Bool) (j : Joi
 unfolding IndexLookup after-sources
 join-shape room schema rest outer j l r = refl
 
-module _ (widths keys : List ℕ) (marks : List Bool) {x : List ℕ} {lo hi tail g m : ℕ} {y : List ℕ} {at : ℕ} (c : SourceCount x lo hi g) (own : OwnStart x lo hi m) where
-  module _ (one : g ≡ 1) {u : ℕ} {y₁ : List ℕ} (a : Streams (Lent widths keys marks) IndexLookup x lo m (tail + (hi - m)) y at u y₁) where
-    pub one-stop : length y₁ < u → Streams (Lent widths keys marks) IndexLookup x lo hi tail y at u y₁
+module _ (widths keys columns : List ℕ) {x : List ℕ} {lo hi tail g m : ℕ} {y : List ℕ} {at : ℕ} (c : SourceCount x lo hi g) (own : OwnStart x lo hi m) where
+  module _ (one : g ≡ 1) {u : ℕ} {y₁ : List ℕ} (a : Streams (Lent widths keys columns) IndexLookup x lo m (tail + (hi - m)) y at u y₁) where
+    pub one-stop : length y₁ < u → Streams (Lent widths keys columns) IndexLookup x lo hi tail y at u y₁
     one-stop z = source-stop c one own IndexLookup IndexLookup after-source over-shape a z
 
     pub one-go : u ≤ length y₁ → length y₁ ≡ length y → {r : ℕ} {y₂ : List ℕ} → length y₂ ≡ length y₁ → Finishes x m hi y₁ at u r y₂
-        → Streams (Lent widths keys marks) IndexLookup x lo hi tail y at r y₂
+        → Streams (Lent widths keys columns) IndexLookup x lo hi tail y at r y₂
     unfolding after-source
     one-go z k₁ k₂ f =
         source-go c one own IndexLookup IndexLookup after-source over-shape a z
         (λ schema text tables lent room rest o n h q s. over-done own o n h k₁ q s k₂ f)
 
   module _ (two : g ≡ 2) {mid : ℕ} (st : mid ≡ start-at x m) {u : ℕ} {y₁ : List ℕ}
-      (a : Streams (Lent widths keys marks) IndexLookup x lo mid (tail + (hi - mid)) y at u y₁) where
-    pub left-refused : length y₁ < u → Streams (Lent widths keys marks) IndexLookup x lo hi tail y at u y₁
+      (a : Streams (Lent widths keys columns) IndexLookup x lo mid (tail + (hi - mid)) y at u y₁) where
+    pub left-refused : length y₁ < u → Streams (Lent widths keys columns) IndexLookup x lo hi tail y at u y₁
     left-refused z = left-stop c two own st IndexLookup a IndexLookup after-sources join-shape z
 
-    module _ (k₁ : length y₁ ≡ length y) (z : u ≤ length y₁) {v : ℕ} {y₂ : List ℕ} (b : Streams (Lent widths keys marks) IndexLookup x mid m (tail + (hi - m)) y₁ u v y₂) where
-      pub right-refused : length y₂ < v → Streams (Lent widths keys marks) IndexLookup x lo hi tail y at v y₂
+    module _ (k₁ : length y₁ ≡ length y) (z : u ≤ length y₁) {v : ℕ} {y₂ : List ℕ} (b : Streams (Lent widths keys columns) IndexLookup x mid m (tail + (hi - m)) y₁ u v y₂) where
+      pub right-refused : length y₂ < v → Streams (Lent widths keys columns) IndexLookup x lo hi tail y at v y₂
       right-refused i = right-stop c two own st IndexLookup a IndexLookup after-sources join-shape k₁ z b i
 
       pub two-go : v ≤ length y₂ → length y₂ ≡ length y₁ → {r : ℕ} {y₃ : List ℕ} → length y₃ ≡ length y₂ → Finishes x m hi y₂ at v r y₃
-          → Streams (Lent widths keys marks) IndexLookup x lo hi tail y at r y₃
+          → Streams (Lent widths keys columns) IndexLookup x lo hi tail y at r y₃
       unfolding after-sources
       two-go i k₂ k₃ f =
           both-go c two own st IndexLookup a IndexLookup after-sources join-shape k₁ z b i
@@ -80,6 +80,6 @@ no-filter e (lookup a t al vs) u = refl
 no-filter e (nothing ls) u = refl
 no-filter e (values rs) u = refl
 
-pub one-cell-copied : {widths keys : List ℕ} {marks : List Bool} {x : List ℕ} {lo hi tail : ℕ} {y : List ℕ} {at : ℕ} → hi - lo ≡ 6 → {r : ℕ} {y′ : List ℕ} → length y′ ≡ length y
-    → Copies x lo hi y at r y′ → Streams (Lent widths keys marks) IndexLookup x lo hi tail y at r y′
+pub one-cell-copied : {widths keys columns : List ℕ} {x : List ℕ} {lo hi tail : ℕ} {y : List ℕ} {at : ℕ} → hi - lo ≡ 6 → {r : ℕ} {y′ : List ℕ} → length y′ ≡ length y
+    → Copies x lo hi y at r y′ → Streams (Lent widths keys columns) IndexLookup x lo hi tail y at r y′
 one-cell-copied e k v = leaf-copied (no-filter e) (one-cell e) refl k v

@@ -19,23 +19,24 @@ pub fn transform(
     w: &mut [usize],
     widths: &[usize],
     keys: &[usize],
-    marks: &[bool],
+    columns: &[u8],
 ) -> usize
-    requires { ⌜ StreamAt (Lent (now widths) (now keys) (now marks)) (now x) lo hi tail (now y) at ⌝ }
+    requires { ⌜ StreamAt (Lent (now widths) (now keys) (now columns)) (now x) lo hi tail (now y) at ⌝ }
     requires { ⌜ (length (now z) ≡ length (now y)) × (length (now w) ≡ length (now y)) ⌝ }
-    ensures { λ r. ⌜ Streams (Lent (now (widths .entry)) (now (keys .entry)) (now (marks .entry))) IndexLookup (now (x .entry)) lo hi tail (now (y .entry)) at r (now (y .exit)) ⌝ }
+    ensures { λ r. ⌜ Streams (Lent (now (widths .entry)) (now (keys .entry)) (now (columns .entry))) IndexLookup (now (x .entry)) lo hi tail (now (y .entry)) at r (now (y .exit)) ⌝ }
 {
     let below = chain::descend(x, hi, lo, hi);
     let end = below.end;
     let back = tail + (hi - end);
     let n = nodes::source_count(x, lo, end);
     if n == 0 {
-        let u = lookup_step::index_lookup(x, lo, end, back, y, at, z, w, widths, keys, marks);
+        let u = lookup_step::index_lookup(x, lo, end, back, y, at, z, w, widths, keys, columns);
         return chain::follow(x, end, hi, y, at, u);
     }
     let m = nodes::own_start(x, lo, end);
+    let after = back + (end - m);
     if n == 1 {
-        let u = transform_source(x, lo, m, back + (end - m), y, at, z, w, widths, keys, marks);
+        let u = transform_source(x, lo, m, after, y, at, z, w, widths, keys, columns);
         if y.len() < u {
             return u;
         }
@@ -44,11 +45,11 @@ pub fn transform(
     }
     let mid = cells::start(x, m);
     let behind = back + (end - mid);
-    let u = transform_source(x, lo, mid, behind, y, at, z, w, widths, keys, marks);
+    let u = transform_source(x, lo, mid, behind, y, at, z, w, widths, keys, columns);
     if y.len() < u {
         return u;
     }
-    let v = transform_source(x, mid, m, back + (end - m), y, u, z, w, widths, keys, marks);
+    let v = transform_source(x, mid, m, after, y, u, z, w, widths, keys, columns);
     if y.len() < v {
         return v;
     }
@@ -68,14 +69,14 @@ fn transform_source(
     w: &mut [usize],
     widths: &[usize],
     keys: &[usize],
-    marks: &[bool],
+    columns: &[u8],
 ) -> usize
-    requires { ⌜ StreamAt (Lent (now widths) (now keys) (now marks)) (now x) lo hi tail (now y) at ⌝ }
+    requires { ⌜ StreamAt (Lent (now widths) (now keys) (now columns)) (now x) lo hi tail (now y) at ⌝ }
     requires { ⌜ (length (now z) ≡ length (now y)) × (length (now w) ≡ length (now y)) ⌝ }
-    ensures { λ r. ⌜ Streams (Lent (now (widths .entry)) (now (keys .entry)) (now (marks .entry))) IndexLookup (now (x .entry)) lo hi tail (now (y .entry)) at r (now (y .exit)) ⌝ }
+    ensures { λ r. ⌜ Streams (Lent (now (widths .entry)) (now (keys .entry)) (now (columns .entry))) IndexLookup (now (x .entry)) lo hi tail (now (y .entry)) at r (now (y .exit)) ⌝ }
 {
     if hi - lo == 6 {
         return cells::copy(x, lo, hi, y, at);
     }
-    transform(x, lo, hi, tail, y, at, z, w, widths, keys, marks)
+    transform(x, lo, hi, tail, y, at, z, w, widths, keys, columns)
 }

@@ -1,5 +1,5 @@
 -- Laws on the names of tables and columns.
-use Prim.Native.Nat.{ℕ, zero, suc, _+_, _-_, _*_, _≤_, _<_}
+use Prim.Native.Nat.{ℕ, zero, suc, _+_, _-_, _*_, _/_, _≤_, _<_}
 use native.Mathlib.Omega.{arith}
 use native.Mathlib.Numerals.{add-one}
 use mathlib.Core.Bool.{Bool, true, false}
@@ -9,8 +9,9 @@ use lib.ListN.{length, getD, length-append, length-map, List·getD-map, List·ge
 use lib.Seq.{getD-append-add}
 use Rattle.value.specs.Meaning.{bytes-at}
 use Rattle.sql.specs.Schema.{Column, Table, Schema, no-column, no-table, table-of, column-of}
-use Rattle.sql.specs.Plan.{Node, table-label, column-label, qualified}
+use Rattle.sql.specs.Plan.{Node, table-label, column-label, qualified, up-to}
 use Rattle.sql.specs.Plan as plan
+use Rattle.sheet.specs.Bytes.{word}
 use Rattle.words.specs.Place.{NodeHere}
 use Rattle.nodes.specs.Columns.{Tables}
 use Rattle.nodes.proofs.Widths.{table-width}
@@ -19,7 +20,7 @@ use Rattle.labels.specs.declared.Label.the-variants.{Unlabelled, Unquali
 use Rattle.labels.specs.declared.Origin.{Origin}
 use Rattle.labels.specs.declared.Origin.the-variants as origin
 use Rattle.labels.specs.Labels.{label, alias-if, named, Traces}
-use Rattle.labels.specs.Names.{column-names, first-column, Names, NamesAt, qualifier-text, ColumnName, TableLabel, ColumnLabel}
+use Rattle.labels.specs.Names.{column-names, names-in, first-column, Names, NamesAt, qualifier-text, ColumnName, TableLabel, ColumnLabel}
 
 -- ---- the first column of a table
 
@@ -55,10 +56,39 @@ first-few (x ∷ xs) zero = omega arith
 first-few (x ∷ xs) (suc t) =
     omega (arith, first-few xs t, length-append (map (λ (c : Column). c .name) (x .columns)) (column-names xs), length-map (x .columns) (λ (c : Column). c .name))
 
-pub first-small : {widths names columns : List ℕ} → NamesAt widths names columns → (t : ℕ) → first-column widths t ≤ 256
+-- ---- column records
+
+-- What a function gives of each number of a range.
+length-up-to : {A : Type 0} (f : ℕ → A) (k n : ℕ) → length (map f (up-to k n)) ≡ n
+length-up-to f k zero = refl
+length-up-to f k (suc n) = ap suc (length-up-to f (suc k) n)
+
+pub getD-up-to : {A : Type 0} (f : ℕ → A) (d : A) (k n t : ℕ) → t < n → getD (map f (up-to k n)) t d ≡ f (k + t)
+getD-up-to f d k zero t h = absurd (omega arith)
+getD-up-to f d k (suc n) zero h = let e : k ≡ k + 0 = omega arith in ap f e
+getD-up-to f d k (suc n) (suc t) h = let e : suc k + t ≡ k + suc t = omega arith in getD-up-to f d (suc k) n t (omega arith) ∙ ap f e
+
+names-long : (records : List ℕ) → length (names-in records) ≡ length records / 16
+names-long records = length-up-to (λ i. word records (i * 16)) 0 (length records / 16)
+
+name-in : (records : List ℕ) (c : ℕ) → c < length records / 16 → getD (names-in records) c 0 ≡ word records (c * 16)
+name-in records c h =
+    let e : 0 + c ≡ c = omega arith in
+    getD-up-to (λ i. word records (i * 16)) 0 0 (length records / 16) c h ∙ ap (λ (i : ℕ). word records (i * 16)) e
+
+-- No table's columns start past the end of the records.
+first-within : {schema : Schema} {widths names columns : List ℕ} → Names schema widths names columns → (t : ℕ) → first-column widths t ≤ length columns / 16
 unfolding widths-of
-first-small n t =
-    omega (arith, ap (λ (l : List ℕ). first-column l t) (n .given .tables .counts), first-few (n .schema) t, ap length (n .given .columns-are), n .given .few)
+first-within {schema} {columns = columns} n t =
+    omega (arith, ap (λ (l : List ℕ). first-column l t) (n .tables .counts), first-few schema t, ap length (n .columns-are), names-long columns)
+
+pub first-small : {widths names columns : List ℕ} → NamesAt widths names columns → (t : ℕ) → first-column widths t ≤ 256
+first-small n t = omega (arith, first-within (n .given) t, n .given .few)
+
+-- Each column of a table has a record.
+pub record-there : {schema : Schema} {widths names columns : List ℕ} → Names schema widths names columns → (t i : ℕ) → i < getD widths t 0
+    → first-column widths t + i < length columns / 16
+record-there {widths = widths} n t i h = omega (arith, first-within n (t + 1), first-next widths t)
 
 -- ---- names
 
@@ -83,10 +113,11 @@ module _ (widths names columns : List ℕ) (t i : ℕ) where
   name-none h schema n =
       ap (λ (c : Column). c .name) (sym (List·getD-eq-default (table-of schema t .columns) no-column (omega (arith, table-width (n .tables) t))))
 
-  pub name-some : i < getD widths t 0 → {first r : ℕ} → first ≡ first-column widths t → r ≡ getD columns (first + i) 0 → ColumnName widths names columns t i r
+  pub name-some : i < getD widths t 0 → {first r : ℕ} → first ≡ first-column widths t → r ≡ word columns ((first + i) * 16) → ColumnName widths names columns t i r
   unfolding widths-of
   name-some h {first} {r} e f schema n =
-      f ∙ ap (λ (k : ℕ). getD columns (k + i) 0) (e ∙ ap (λ (l : List ℕ). first-column l t) (n .tables .counts))
+      f ∙ ap (λ (k : ℕ). word columns ((k + i) * 16)) e ∙ sym (name-in columns (first-column widths t + i) (record-there n t i h))
+      ∙ ap (λ (l : List ℕ). getD (names-in columns) (first-column l t + i) 0) (n .tables .counts)
       ∙ ap (λ (l : List ℕ). getD l (first-column (widths-of schema) t + i) 0) (n .columns-are)
       ∙ name-at schema t i (omega (arith, table-width (n .tables) t))
 

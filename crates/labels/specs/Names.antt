@@ -1,11 +1,12 @@
 -- What the code is lent of a schema's names, and the contracts that speak of them.
-use Prim.Native.Nat.{ℕ, zero, suc, _+_, _≤_}
+use Prim.Native.Nat.{ℕ, zero, suc, _+_, _*_, _/_, _≤_}
 use mathlib.Core.Bool.{Bool, true, false}
 use mathlib.Core.Path.{_≡_}
 use mathlib.Core.List.{List, [], _∷_, _++_, map}
 use lib.ListN.{length}
 use Rattle.sql.specs.Schema.{Column, Table, Schema, column-of}
-use Rattle.sql.specs.Plan.{Node, table-label, column-label}
+use Rattle.sql.specs.Plan.{Node, table-label, column-label, up-to}
+use Rattle.sheet.specs.Bytes.{word}
 use Rattle.words.specs.Place.{NodeHere}
 use Rattle.nodes.specs.Columns.{Tables}
 use Rattle.labels.specs.declared.Label.{Label}
@@ -16,18 +17,22 @@ abbrev pub column-names : Schema → List ℕ
 column-names [] = []
 column-names (t ∷ ts) = map (λ (c : Column). c .name) (t .columns) ++ column-names ts
 
--- where the columns of a table start among them, by the tables' numbers of columns
+-- the names in column records of 16 bytes, whose first word is the name
+abbrev pub names-in : List ℕ → List ℕ
+names-in records = map (λ i. word records (i * 16)) (up-to 0 (length records / 16))
+
+-- where the columns of a table start among all columns, by the tables' numbers of columns
 abbrev pub first-column : List ℕ → ℕ → ℕ
 first-column [] t = 0
 first-column (n ∷ ns) zero = 0
 first-column (n ∷ ns) (suc t) = n + first-column ns t
 
--- The numbers of columns, the names of the tables and the names of all columns, which are at most 256 in a sheet.
+-- The numbers of columns, the names of the tables and the records of all columns, which are at most 256 in a sheet.
 pub record Names (schema : Schema) (widths names columns : List ℕ) : Type 0 where
   pub tables : Tables schema widths
   pub names-are : names ≡ map (λ (t : Table). t .name) schema
-  pub columns-are : columns ≡ column-names schema
-  pub few : length columns ≤ 256
+  pub columns-are : names-in columns ≡ column-names schema
+  pub few : length columns ≤ 4096
 
 pub record NamesAt (widths names columns : List ℕ) : Type 0 where
   pub schema : Schema

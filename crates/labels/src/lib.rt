@@ -373,15 +373,15 @@ pub fn first_column(widths: &[usize], t: usize) -> usize
     first
 }
 
-// The name of column i of table t, or 0 where there is none.
-fn column_name(t: usize, i: usize, widths: &[usize], names: &[usize], columns: &[usize]) -> usize
+// The name of column i of table t, or 0 where there is none. It is the first word of the column's record, of 16 bytes.
+fn column_name(t: usize, i: usize, widths: &[usize], names: &[usize], columns: &[u8]) -> usize
     requires { ⌜ NamesAt (now widths) (now names) (now columns) ⌝ }
     ensures { λ r. ⌜ ColumnName (now (widths .entry)) (now (names .entry)) (now (columns .entry)) t i r ⌝ }
 {
     if entry(widths, t) <= i {
         return 0;
     }
-    entry(columns, first_column(widths, t) + i)
+    layout::word_at(columns, (first_column(widths, t) + i) * 16)
 }
 
 // The alias if there is one, also an empty one, otherwise the table's name; both are text references.
@@ -411,7 +411,7 @@ fn table_label(
     i: usize,
     widths: &[usize],
     names: &[usize],
-    columns: &[usize],
+    columns: &[u8],
 ) -> Label
     requires { ⌜ NamesAt (now widths) (now names) (now columns) ⌝ }
     ensures { λ r. ⌜ TableLabel (now (widths .entry)) (now (names .entry)) (now (columns .entry)) t aliased alias i r ⌝ }
@@ -421,7 +421,7 @@ fn table_label(
 }
 
 // The label of column i of the node from lo to hi, which has w columns: who asks for all labels counts them once. widths[t] is the number of columns of
-// table t, names[t] its name, and columns are the names of all columns, table by table.
+// table t, names[t] its name, and columns are the records of all columns, table by table.
 pub fn column_label(
     s: &[usize],
     lo: usize,
@@ -430,7 +430,7 @@ pub fn column_label(
     w: usize,
     widths: &[usize],
     names: &[usize],
-    columns: &[usize],
+    columns: &[u8],
 ) -> Label
     requires { ⌜ ColumnsAt (now widths) (now s) lo hi ⌝ }
     requires { ⌜ ColumnCount (now widths) (now s) lo hi w ⌝ }

@@ -24,7 +24,7 @@ use Rattle.conjuncts.proofs.Appending.{words-long, appends-vec}
 use Rattle.first_lookup.specs.declared.FoundLookup.{FoundLookup}
 use Rattle.first_lookup.specs.declared.FoundLookup.the-variants.{At, None}
 use Rattle.first_lookup.specs.declared.Rest.{Rest}
-use Rattle.first_lookup.specs.First.{Marks, first-marked, Stands, FindsFirst, Leaves}
+use Rattle.first_lookup.specs.First.{marks-in, Marks, first-marked, Stands, FindsFirst, Leaves}
 use Rattle.first_lookup.proofs.Finding.{first-is}
 use Rattle.first_lookup.proofs.Leaving.{remaining-is}
 use Rattle.lookup_or_scan.specs.Scan.{Looks, Filters, LooksOrScans}
@@ -90,19 +90,20 @@ module _ {w : List ℕ} {m : ℕ} (marks : List Bool) {found : FoundLookup} (g :
       subst (λ (o : Option Found). Stands w 0 m r o) (sym (first-is schema t marks mk (ands e)))
       (subst (λ (z : FoundLookup). Stands w 0 m z (first-marked marks (ands e))) q (g e u))
 
-module _ {x : List ℕ} {lo hi : ℕ} {y : List ℕ} {at : ℕ} {w : List ℕ} {m key : ℕ} (marks : List Bool) {found : FoundLookup} (g : FindsFirst marks w 0 m found) where
-  pub scanned : found ≡ None → {r : ℕ} {y₁ : List ℕ} → Copies x lo hi y at r y₁ → LooksOrScans x lo hi y at w m key marks r y₁
+module _ {x : List ℕ} {lo hi : ℕ} {y : List ℕ} {at : ℕ} {w : List ℕ} {m key : ℕ} (columns : List ℕ) {found : FoundLookup}
+    (g : FindsFirst (marks-in key columns) w 0 m found) where
+  pub scanned : found ≡ None → {r : ℕ} {y₁ : List ℕ} → Copies x lo hi y at r y₁ → LooksOrScans x lo hi y at w m key columns r y₁
   scanned e {r} {y₁} v schema t mk kk al q cnf u i =
-      go (find-lookup schema t (ands cnf)) (stands marks g e schema t mk cnf i)
+      go (find-lookup schema t (ands cnf)) (stands (marks-in key columns) g e schema t mk cnf i)
     where
       go : (o : Option Found) → Stands w 0 m None o → Wrote y at (node-words (lookup-or-scan schema t al q o)) r y₁
       go none s = v (node-words (leaf (scan t al (some q)))) (u .part)
       go (some f) s = absurd s
 
   pub looked-up : {a b c : ℕ} → found ≡ At a b c → {k : Cell} → k ≡ cell-at x hi → {n : ℕ} {y₁ : List ℕ} → length y₁ ≡ length y → Looks k key c w a b y at n y₁
-      → {r : ℕ} {y₂ : List ℕ} → Filters marks w m y₁ at n r y₂ → LooksOrScans x lo hi y at w m key marks r y₂
+      → {r : ℕ} {y₂ : List ℕ} → Filters (marks-in key columns) w m y₁ at n r y₂ → LooksOrScans x lo hi y at w m key columns r y₂
   looked-up {a} {b} {c} e ke {n} {y₁} l h {r} {y₂} v schema t mk kk al q cnf u i =
-      go (find-lookup schema t (ands cnf)) refl (stands marks g e schema t mk cnf i)
+      go (find-lookup schema t (ands cnf)) refl (stands (marks-in key columns) g e schema t mk cnf i)
     where
       go : (o : Option Found) → find-lookup schema t (ands cnf) ≡ o → Stands w 0 m (At a b c) o → Wrote y at (node-words (lookup-or-scan schema t al q o)) r y₂
       go none z s = absurd s

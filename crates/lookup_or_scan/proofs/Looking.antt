@@ -27,7 +27,8 @@ use Rattle.words.proofs.Sizes.{all-single, sized-long}
 use Rattle.column_lookup.specs.Values.{Gathers}
 use Rattle.first_lookup.specs.declared.FoundLookup.{FoundLookup}
 use Rattle.first_lookup.specs.declared.FoundLookup.the-variants.{At}
-use Rattle.first_lookup.specs.First.{with-mark, first-here, first-marked, Stands, FindsFirst}
+use Rattle.first_lookup.specs.First.{marks-in, with-mark, first-here, first-marked, Stands, FindsFirst}
+use Rattle.first_lookup.proofs.Records.{marks-long}
 use Rattle.lookup_or_scan.specs.Scan.{lookup-cell, ScanAt, Looks}
 
 -- what has no room has none when there is more of it
@@ -131,16 +132,16 @@ marked-inside marks c h = ⊎-elim (λ (z : c < length marks). z)
     clash : false ≡ true → ⊥
     clash q = let z : _≡_ {A = ℕ} 0 1 = cc in omega arith
 
-module _ {x : List ℕ} {lo hi : ℕ} {y w : List ℕ} {m : ℕ} {marks : List Bool} (p : ScanAt x lo hi y w m marks) {r : FoundLookup} (f : FindsFirst marks w 0 m r)
-    {a b c : ℕ} (e : r ≡ At a b c) where
-  -- Where a lookup is found, its conjunct stands there, and its column is one of the marks'.
+module _ {x : List ℕ} {lo hi : ℕ} {y w : List ℕ} {m key : ℕ} {columns : List ℕ} (p : ScanAt x lo hi y w m key columns) {r : FoundLookup}
+    (f : FindsFirst (marks-in key columns) w 0 m r) {a b c : ℕ} (e : r ≡ At a b c) where
+  -- Where a lookup is found, its conjunct stands there, and its column is one that has a record.
   pub found-there : ExpressionAt w a b × (c < 256)
   found-there =
-      go (first-marked marks (ands (p .cnf))) (found-marked marks (ands (p .cnf)))
-      (subst (λ (q : FoundLookup). Stands w 0 m q (first-marked marks (ands (p .cnf)))) e (f (p .cnf) (p .cnf-here)))
+      go (first-marked (marks-in key columns) (ands (p .cnf))) (found-marked (marks-in key columns) (ands (p .cnf)))
+      (subst (λ (q : FoundLookup). Stands w 0 m q (first-marked (marks-in key columns) (ands (p .cnf)))) e (f (p .cnf) (p .cnf-here)))
     where
-      go : (o : Option Found) → Marked marks o → Stands w 0 m (At a b c) o → ExpressionAt w a b × (c < 256)
+      go : (o : Option Found) → Marked (marks-in key columns) o → Stands w 0 m (At a b c) o → ExpressionAt w a b × (c < 256)
       go none i s = absurd s
       go (some h) i s =
-          let z = marked-inside marks (h .column-number) i in
-          (record { e = h .conjunct; here = s .1 .1 }, omega (arith, s .1 .0, p .few))
+          let z = marked-inside (marks-in key columns) (h .column-number) i in
+          (record { e = h .conjunct; here = s .1 .1 }, omega (arith, s .1 .0, p .few, marks-long key columns))

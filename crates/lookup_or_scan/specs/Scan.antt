@@ -1,5 +1,5 @@
 -- What becomes of a Scan with a filter: a lookup, and a Filter over it if conjuncts remain; or the Scan as it was. The contracts speak of every schema whose
--- marks and key of the Scan's table are the ones lent.
+-- key of the Scan's table is the one lent, and whose marks of it are those that the records lent say.
 use Prim.Native.Nat.{ℕ, _+_, _*_, _/_, _≤_}
 use mathlib.Core.Bool.{Bool, cond}
 use mathlib.Core.Path.{_≡_}
@@ -16,7 +16,7 @@ use Rattle.cells.specs.Cells.{sized}
 use Rattle.cells.specs.Room.{Wrote}
 use Rattle.words.specs.Words.{all-words, constant-words, node-words}
 use Rattle.words.specs.Place.{ExpressionHere, NodeHere}
-use Rattle.first_lookup.specs.First.{Marks}
+use Rattle.first_lookup.specs.First.{marks-in, Marks}
 
 -- the cell of a lookup of column c with n constants, in the place of the Scan's cell k; bit 1 of a Scan's flag says whether there is an alias
 abbrev pub lookup-cell : (k : Cell) (key c n : ℕ) → Cell
@@ -25,7 +25,7 @@ lookup-cell k key c n =
     (record { tag = 53; flag = k .flag / 2; a = k .a; b = k .b; c = c + 65536 * n })
 
 -- Some Scan with a filter stands in x from lo up to hi, and its filter's conjunctive normal form in the first m words of w.
-pub record ScanAt (x : List ℕ) (lo hi : ℕ) (y w : List ℕ) (m : ℕ) (marks : List Bool) : Type 0 where
+pub record ScanAt (x : List ℕ) (lo hi : ℕ) (y w : List ℕ) (m key : ℕ) (columns : List ℕ) : Type 0 where
   pub schema : Schema
   pub table : ℕ
   pub alias : Option ℕ
@@ -33,8 +33,8 @@ pub record ScanAt (x : List ℕ) (lo hi : ℕ) (y w : List ℕ) (m : ℕ) (marks
   pub cnf : Expression
   pub here : NodeHere x lo hi (leaf (scan table alias (some predicate)))
   pub cnf-here : ExpressionHere w 0 m cnf
-  pub marked : Marks schema table marks
-  pub few : length marks ≤ 256
+  pub marked : Marks schema table (marks-in key columns)
+  pub few : length columns ≤ 4096
   pub short : length y ≤ 16777216
 
 -- ---- contracts
@@ -53,8 +53,8 @@ Filters marks w m y at n r y′ =
     → (y₀ : List ℕ) (p : Node) → length y ≡ length y₀ → Wrote y₀ at (node-words p) n y → Wrote y₀ at (node-words (filtered (and-vec (f .remaining)) p)) r y′
 
 -- lookup-or-scan of the Scan from lo up to hi is appended, or has no room.
-abbrev pub LooksOrScans : (x : List ℕ) (lo hi : ℕ) → (y : List ℕ) (at : ℕ) → (w : List ℕ) (m key : ℕ) → List Bool → (r : ℕ) → List ℕ → Type 0
-LooksOrScans x lo hi y at w m key marks r y′ =
-    (schema : Schema) (table : ℕ) → Marks schema table marks → key ≡ table-of schema table .primary-key → (alias : Option ℕ) (predicate cnf : Expression)
+abbrev pub LooksOrScans : (x : List ℕ) (lo hi : ℕ) → (y : List ℕ) (at : ℕ) → (w : List ℕ) (m key : ℕ) → List ℕ → (r : ℕ) → List ℕ → Type 0
+LooksOrScans x lo hi y at w m key columns r y′ =
+    (schema : Schema) (table : ℕ) → Marks schema table (marks-in key columns) → key ≡ table-of schema table .primary-key → (alias : Option ℕ) (predicate cnf : Expression)
     → NodeHere x lo hi (leaf (scan table alias (some predicate))) → ExpressionHere w 0 m cnf
     → Wrote y at (node-words (lookup-or-scan schema table alias predicate (find-lookup schema table (ands cnf)))) r y′

@@ -4,6 +4,7 @@ ghost use mathlib.Core.Path.{_≡_};
 ghost use Prim.Native.Nat.{_≤_, _<_};
 ghost use lib.ListN.{length};
 ghost use Rattle.words.specs.Place.{ExpressionAt};
+ghost use Rattle.first_lookup.specs.First.{marks-in};
 ghost use Rattle.lookup_or_scan.specs.Scan.{lookup-cell, ScanAt, Looks, Filters, LooksOrScans};
 
 // The cell of a lookup of column c with n constants, in the place of a Scan's cell. key is the column of the table's primary key.
@@ -54,11 +55,19 @@ fn lookup(
 
 // The conjuncts of the expression in the first m words of w but the first that looks up a marked column, if there are any, as a Filter over the node that
 // stands in y from at up to n.
-fn filtered(w: &[usize], m: usize, y: &mut [usize], at: usize, n: usize, marks: &[bool]) -> usize
+fn filtered(
+    w: &[usize],
+    m: usize,
+    y: &mut [usize],
+    at: usize,
+    n: usize,
+    key: usize,
+    columns: &[u8],
+) -> usize
     requires { ⌜ ExpressionAt (now w) 0 m ⌝ }
-    ensures { λ r. ⌜ Filters (now (marks .entry)) (now (w .entry)) m (now (y .entry)) at n r (now (y .exit)) ⌝ }
+    ensures { λ r. ⌜ Filters (marks-in key (now (columns .entry))) (now (w .entry)) m (now (y .entry)) at n r (now (y .exit)) ⌝ }
 {
-    let rest = first_lookup::remaining(w, 0, m, y, n, n, marks, false);
+    let rest = first_lookup::remaining(w, 0, m, y, n, n, key, columns, false);
     let end = rest.at;
     if end == n {
         return n;
@@ -77,8 +86,8 @@ fn filtered(w: &[usize], m: usize, y: &mut [usize], at: usize, n: usize, marks: 
     )
 }
 
-// What becomes of the Scan from lo to hi, whose filter's conjunctive normal form is the first m words of w. Which columns of the table a lookup can go by is
-// lent as marks.
+// What becomes of the Scan from lo to hi, whose filter's conjunctive normal form is the first m words of w. key is the column of the table's primary key, and
+// columns are the records of its columns, as a sheet has them.
 pub fn lookup_or_scan(
     x: &[usize],
     lo: usize,
@@ -88,15 +97,15 @@ pub fn lookup_or_scan(
     w: &[usize],
     m: usize,
     key: usize,
-    marks: &[bool],
+    columns: &[u8],
 ) -> usize
-    requires { ⌜ ScanAt (now x) lo hi (now y) (now w) m (now marks) ⌝ }
-    ensures { λ r. ⌜ LooksOrScans (now (x .entry)) lo hi (now (y .entry)) at (now (w .entry)) m key (now (marks .entry)) r (now (y .exit)) ⌝ }
+    requires { ⌜ ScanAt (now x) lo hi (now y) (now w) m key (now columns) ⌝ }
+    ensures { λ r. ⌜ LooksOrScans (now (x .entry)) lo hi (now (y .entry)) at (now (w .entry)) m key (now (columns .entry)) r (now (y .exit)) ⌝ }
 {
-    let found = first_lookup::find_lookup(w, 0, m, marks);
+    let found = first_lookup::find_lookup(w, 0, m, key, columns);
     let first_lookup::FoundLookup::At(a, b, c) = found else {
         return cells::copy(x, lo, hi, y, at);
     };
     let n = lookup(cells::cell_at(x, hi), key, c, w, a, b, y, at);
-    filtered(w, m, y, at, n, marks)
+    filtered(w, m, y, at, n, key, columns)
 }

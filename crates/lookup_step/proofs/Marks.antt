@@ -1,14 +1,13 @@
--- The marks of one table among those of all tables, and what they say of its columns; and that nothing is looked up in a table that there isn't.
-use Prim.Native.Nat.{ℕ, zero, suc, _+_, _-_, _≤_, _<_}
+-- The records of one table's columns among those of all columns, and what they say; and that nothing is looked up in a table that there isn't.
+use Prim.Native.Nat.{ℕ, zero, suc, _+_, _-_, _*_, _≤_, _<_}
 use native.Mathlib.Omega.{arith}
 use borrow.Author.Tests.{ne-eqb}
 use mathlib.Core.Bool.{Bool, true, false, _||_}
 use mathlib.Core.Option.{Option, none, some}
 use mathlib.Core.Path.{_≡_, refl, sym, ap, _∙_, subst}
-use mathlib.Core.List.{List, [], _∷_, _++_, map, append-assoc}
+use mathlib.Core.List.{List, [], _∷_, map}
 use lib.Dec.{eqb}
-use lib.ListN.{length, take, drop, getD, length-append, length-map, List·getD-map, List·getD-eq-default}
-use lib.Seq.{take-at, drop-at}
+use lib.ListN.{length, take, drop, getD, length-map, length-take, length-drop, List·getD-map, List·getD-eq-default}
 use Rattle.value.specs.Value.{Value}
 use Rattle.sql.specs.Schema.{Column, Table, Schema, no-column, no-table, table-of}
 use Rattle.sql.specs.Expression.{Expression, into-cnf, into-cnf-vec, is-column-lookup}
@@ -25,18 +24,13 @@ use Rattle.cells.specs.Room.{Wrote, Copies}
 use Rattle.words.specs.Words.{cell, node-words}
 use Rattle.words.specs.Place.{NodeHere}
 use Rattle.words.proofs.Nodes.{node-cell-is}
-use Rattle.nodes.proofs.Widths.{table-width}
 use Rattle.labels.specs.Names.{first-column}
-use Rattle.first_lookup.specs.First.{Marks}
+use Rattle.first_lookup.specs.First.{marks-in, Marks}
 use Rattle.lookup_or_scan.specs.Scan.{ScanAt, LooksOrScans}
-use Rattle.indexes.specs.Indexes.{marks-from, table-marks, lookup-marks, Indexes}
+use Rattle.indexes.specs.Indexes.{marks-from, table-marks, own-records, Indexes}
 use Rattle.lookup_step.specs.Lookup.{FilteredAt, LooksUp}
 
 -- ---- the marks of a table's columns
-
-marks-long : (key i : ℕ) (cs : List Column) → length (marks-from key i cs) ≡ length cs
-marks-long key i [] = refl
-marks-long key i (c ∷ cs) = ap suc (marks-long key (suc i) cs)
 
 mark-is : (key i : ℕ) (cs : List Column) (c : ℕ) → key < i + length cs → (eqb (i + c) key || getD cs c no-column .index) ≡ getD (marks-from key i cs) c false
 mark-is key i [] c h = ap (λ (b : Bool). b || false) (ne-eqb (i + c) key (λ e. omega arith))
@@ -45,29 +39,9 @@ mark-is key i (x ∷ cs) (suc c) h =
     let e : i + suc c ≡ suc i + c = omega arith in
     ap (λ (n : ℕ). eqb n key || getD cs c no-column .index) e ∙ mark-is key (suc i) cs c (omega arith)
 
--- ---- where they stand among those of all tables
+-- ---- its records
 
-record Among (marks : List Bool) (first : ℕ) (own : List Bool) : Type 0 where
-  before : List Bool
-  after : List Bool
-  whole : marks ≡ before ++ (own ++ after)
-  low : length before ≡ first
-
-among : (schema : Schema) (t : ℕ) → t < length schema
-    → Among (lookup-marks schema) (first-column (map (λ (t : Table). length (t .columns)) schema) t) (table-marks (table-of schema t))
-among [] t h = absurd (omega arith)
-among (x ∷ xs) zero h = record { before = []; after = lookup-marks xs; whole = refl; low = refl }
-among (x ∷ xs) (suc t) h =
-    let a = among xs t (omega arith) in
-    record {
-      before = table-marks x ++ a .before;
-      after = a .after;
-      whole =
-          ap (λ (l : List Bool). table-marks x ++ l) (a .whole) ∙ sym (append-assoc (table-marks x) (a .before) (table-marks (table-of xs t) ++ a .after));
-      low = omega (arith, length-append (table-marks x) (a .before), marks-long (x .primary-key) 0 (x .columns), a .low);
-    }
-
-module _ {schema : Schema} {widths keys : List ℕ} {marks : List Bool} (g : Indexes schema widths keys marks) (t : ℕ) where
+module _ {schema : Schema} {widths keys columns : List ℕ} (g : Indexes schema widths keys columns) (t : ℕ) where
   keys-long : length keys ≡ length schema
   keys-long = ap length (g .keys-are) ∙ length-map schema (λ (t : Table). t .primary-key)
 
@@ -75,41 +49,33 @@ module _ {schema : Schema} {widths keys : List ℕ} {marks : List Bool} (g : Ind
   key-is = ap (λ (l : List ℕ). getD l t 0) (g .keys-are) ∙ List·getD-map (λ (t : Table). t .primary-key) schema t no-table
 
   module _ (h : t < length keys) where
-    there : Among marks (first-column widths t) (table-marks (table-of schema t))
-    there =
-        subst (λ (m : List Bool). Among m (first-column widths t) (table-marks (table-of schema t))) (sym (g .marks-are))
-        (subst (λ (ws : List ℕ). Among (lookup-marks schema) (first-column ws t) (table-marks (table-of schema t))) (sym (g .tables .counts))
-        (among schema t (omega (arith, keys-long))))
-
-    own-long : length (table-marks (table-of schema t)) ≡ getD widths t 0
-    own-long = marks-long (table-of schema t .primary-key) 0 (table-of schema t .columns) ∙ sym (table-width (g .tables) t)
-
-    -- the table has a width, and its marks stand inside
-    pub range-inside : (t < length widths) × ((first-column widths t + getD widths t 0 ≤ length marks) × (length marks ≤ 256))
+    -- the table has a width, and its records stand inside
+    pub range-inside : (t < length widths) × ((16 * (first-column widths t + getD widths t 0) ≤ length columns) × (length columns ≤ 4096))
     range-inside = (
       omega (arith, keys-long, ap length (g .tables .counts), length-map schema (λ (t : Table). length (t .columns))),
-      (
-        omega (arith, ap length (there .whole), there .low, own-long, length-append (there .before) (table-marks (table-of schema t) ++ there .after), length-append (table-marks (table-of schema t)) (there .after)),
-        g .few,
-      ),
+      (g .inside t (omega (arith, keys-long)), g .few),
     )
 
-    module _ {first end : ℕ} (e : first ≡ first-column widths t) (f : end ≡ first + getD widths t 0) where
-      slice-is : take (end - first) (drop first marks) ≡ table-marks (table-of schema t)
+    module _ {from to key : ℕ} (e : from ≡ 16 * first-column widths t) (f : to ≡ 16 * (first-column widths t + getD widths t 0)) (k : key ≡ getD keys t 0) where
+      slice-is : take (to - from) (drop from columns) ≡ own-records widths columns t
       slice-is =
-          ap (λ (l : List Bool). take (end - first) (drop first l)) (there .whole)
-          ∙ (ap (take (end - first)) (drop-at (there .before) (table-marks (table-of schema t) ++ there .after) first (omega (arith, there .low)))
-          ∙ take-at (table-marks (table-of schema t)) (there .after) (end - first) (omega (arith, own-long)))
+          let n : to - from ≡ 16 * getD widths t 0 = omega arith in
+          ap (λ (i : ℕ). take (to - from) (drop i columns)) e ∙ ap (λ (i : ℕ). take i (drop (16 * first-column widths t) columns)) n
 
-      table-marked : Marks schema t (take (end - first) (drop first marks))
+      marks-own : marks-in key (take (to - from) (drop from columns)) ≡ table-marks (table-of schema t)
+      marks-own =
+          ap (marks-in key) slice-is
+          ∙ (ap (λ (i : ℕ). marks-in i (own-records widths columns t)) (k ∙ key-is) ∙ g .marks-are t (omega (arith, keys-long)))
+
+      table-marked : Marks schema t (marks-in key (take (to - from) (drop from columns)))
       table-marked c =
           let e : 0 + c ≡ c = omega arith in
           ap (λ (n : ℕ). eqb n (table-of schema t .primary-key) || getD (table-of schema t .columns) c no-column .index) (sym e)
           ∙ (mark-is (table-of schema t .primary-key) 0 (table-of schema t .columns) c (omega (arith, g .keys-inside t (omega (arith, keys-long))))
-          ∙ ap (λ (l : List Bool). getD l c false) (sym slice-is))
+          ∙ ap (λ (l : List Bool). getD l c false) (sym marks-own))
 
-      slice-few : length (take (end - first) (drop first marks)) ≤ 256
-      slice-few = omega (arith, ap length slice-is, own-long, g .tables .few t)
+      slice-few : length (take (to - from) (drop from columns)) ≤ 4096
+      slice-few = let z = range-inside .1 in simp (length-take, length-drop) (omega arith)
 
 -- ---- a table that there isn't has no columns
 
@@ -137,9 +103,9 @@ module _ {x : List ℕ} {lo hi : ℕ} {k : Cell} (e : k ≡ cell-at x hi) where
   pub table-is : (t : ℕ) (al : Option ℕ) (q : Expression) → NodeHere x lo hi (leaf (scan t al (some q))) → k .a ≡ t
   table-is t al q u = ap (λ (c : Cell). c .a) (e ∙ node-cell-is (leaf (scan t al (some q))) u) ∙ scan-table t al
 
-  module _ {y : List ℕ} {w : List ℕ} {m : ℕ} (widths keys : List ℕ) (marks : List Bool) where
+  module _ {y : List ℕ} {w : List ℕ} {m : ℕ} (widths keys columns : List ℕ) where
     -- a table that there isn't
-    pub copied-scan : {at : ℕ} → length keys ≤ k .a → {r : ℕ} {y′ : List ℕ} → Copies x lo hi y at r y′ → LooksUp x lo hi y at w m widths keys marks r y′
+    pub copied-scan : {at : ℕ} → length keys ≤ k .a → {r : ℕ} {y′ : List ℕ} → Copies x lo hi y at r y′ → LooksUp x lo hi y at w m widths keys columns r y′
     unfolding index-lookup
     copied-scan {at} h {r} {y′} c schema text tables g t al q s u v =
         let n : table-columns schema t ≡ 0 =
@@ -150,12 +116,14 @@ module _ {x : List ℕ} {lo hi : ℕ} {k : Cell} (e : k ≡ cell-at x hi) where
         (sym (nothing-found schema t (Fitting schema text tables) (into-cnf-vec q) all))
         (c (node-words (leaf (scan t al (some q)))) (u .part))
 
-    module _ (h : k .a < length keys) {first end : ℕ} (f : first ≡ first-column widths (k .a)) (d : end ≡ first + getD widths (k .a) 0) where
-      pub scan-at : FilteredAt x lo hi y w m widths keys marks → ScanAt x lo hi y w m (take (end - first) (drop first marks))
+    module _ (h : k .a < length keys) {first from to key : ℕ} (f : first ≡ first-column widths (k .a)) (d : from ≡ 16 * first)
+        (d′ : to ≡ 16 * (first + getD widths (k .a) 0)) (z : key ≡ getD keys (k .a) 0) where
+      pub scan-at : FilteredAt x lo hi y w m widths keys columns → ScanAt x lo hi y w m key (take (to - from) (drop from columns))
       scan-at p =
           let i : k .a ≡ p .table = table-is (p .table) (p .alias) (p .predicate) (p .here) in
           let f₁ = f ∙ ap (first-column widths) i in
-          let d₁ = d ∙ ap (λ (n : ℕ). first + getD widths n 0) i in
+          let d₁ : to ≡ 16 * (first-column widths (p .table) + getD widths (p .table) 0) = omega (arith, ap (λ (n : ℕ). getD widths n 0) i) in
+          let z₁ = z ∙ ap (λ (n : ℕ). getD keys n 0) i in
           record {
             schema = p .schema;
             table = p .table;
@@ -164,21 +132,23 @@ module _ {x : List ℕ} {lo hi : ℕ} {k : Cell} (e : k ≡ cell-at x hi) where
             cnf = into-cnf (p .predicate);
             here = p .here;
             cnf-here = p .cnf-here;
-            marked = table-marked (p .given) (p .table) (omega arith) f₁ d₁;
-            few = slice-few (p .given) (p .table) (omega arith) f₁ d₁;
+            marked = table-marked (p .given) (p .table) (omega arith) (d ∙ ap (λ (n : ℕ). 16 * n) f₁) d₁ z₁;
+            few = slice-few (p .given) (p .table) (omega arith) (d ∙ ap (λ (n : ℕ). 16 * n) f₁) d₁ z₁;
             short = p .short;
           }
 
-      pub looked-up : {at key : ℕ} → key ≡ getD keys (k .a) 0 → {r : ℕ} {y′ : List ℕ}
-          → LooksOrScans x lo hi y at w m key (take (end - first) (drop first marks)) r y′ → LooksUp x lo hi y at w m widths keys marks r y′
+      pub looked-up : {at r : ℕ} {y′ : List ℕ} → LooksOrScans x lo hi y at w m key (take (to - from) (drop from columns)) r y′
+          → LooksUp x lo hi y at w m widths keys columns r y′
       unfolding index-lookup into-cnf-vec
-      looked-up z l schema text tables g t al q s u v =
+      looked-up l schema text tables g t al q s u v =
           let i : k .a ≡ t = table-is t al q u in
-          l schema t (table-marked g t (omega arith) (f ∙ ap (first-column widths) i) (d ∙ ap (λ (n : ℕ). first + getD widths n 0) i))
-          (z ∙ (ap (λ (n : ℕ). getD keys n 0) i ∙ key-is g t)) al q (into-cnf q) u v
+          let f₁ = f ∙ ap (first-column widths) i in
+          let d₁ : to ≡ 16 * (first-column widths t + getD widths t 0) = omega (arith, ap (λ (n : ℕ). getD widths n 0) i) in
+          let z₁ = z ∙ ap (λ (n : ℕ). getD keys n 0) i in
+          l schema t (table-marked g t (omega arith) (d ∙ ap (λ (n : ℕ). 16 * n) f₁) d₁ z₁) (z₁ ∙ key-is g t) al q (into-cnf q) u v
 
 -- ---- the facts that the code's index and slice ask for
-module _ {x : List ℕ} {lo hi : ℕ} {y w : List ℕ} {m : ℕ} {widths keys : List ℕ} {marks : List Bool} (p : FilteredAt x lo hi y w m widths keys marks) {k : Cell}
+module _ {x : List ℕ} {lo hi : ℕ} {y w : List ℕ} {m : ℕ} {widths keys columns : List ℕ} (p : FilteredAt x lo hi y w m widths keys columns) {k : Cell}
     (e : k ≡ cell-at x hi) (h : k .a < length keys) where
-  pub table-range : (k .a < length widths) × ((first-column widths (k .a) + getD widths (k .a) 0 ≤ length marks) × (length marks ≤ 256))
+  pub table-range : (k .a < length widths) × ((16 * (first-column widths (k .a) + getD widths (k .a) 0) ≤ length columns) × (length columns ≤ 4096))
   table-range = range-inside (p .given) (k .a) h

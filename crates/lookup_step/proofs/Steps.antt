@@ -145,10 +145,10 @@ module _ (room : ℕ) (schema : Schema) (rest : ℕ) where
 -- ---- the step
 
 module _ {x : List ℕ} {lo hi : ℕ} {b : Bool} (f : HasFilter x lo hi b) (c : SourceCount x lo hi 0) where
-  module _ {widths keys : List ℕ} {marks : List Bool} {tail : ℕ} {y : List ℕ} {at : ℕ} where
+  module _ {widths keys columns : List ℕ} {tail : ℕ} {y : List ℕ} {at : ℕ} where
     -- a leaf without a filter
     pub leaf-copied : b ≡ false → {r : ℕ} {y′ : List ℕ} → length y′ ≡ length y → Copies x lo hi y at r y′
-        → Streams (Lent widths keys marks) IndexLookup x lo hi tail y at r y′
+        → Streams (Lent widths keys columns) IndexLookup x lo hi tail y at r y′
     leaf-copied h {r} {y′} k v =
         leaf-streams c refl IndexLookup
         (λ schema text tables lent room rest l g.
@@ -160,8 +160,8 @@ module _ {x : List ℕ} {lo hi : ℕ} {b : Bool} (f : HasFilter x lo hi b) (c : 
     when-filtered : (P : Leaf → Type 0) → ((t : ℕ) (al : Option ℕ) (q : Expression) → P (scan t al (some q))) → (l : Leaf) → NodeHere x lo hi (leaf l) → P l
     when-filtered P g l u = by-filter P g l (sym h ∙ f l u)
 
-    module _ {widths keys : List ℕ} {marks : List Bool} {tail : ℕ} {y : List ℕ} {at : ℕ} where
-      module _ (d : StreamAt (Lent widths keys marks) x lo hi tail y at) where
+    module _ {widths keys columns : List ℕ} {tail : ℕ} {y : List ℕ} {at : ℕ} where
+      module _ (d : StreamAt (Lent widths keys columns) x lo hi tail y at) where
         scan-read : (P : Type 0)
             → ((t : ℕ) (al : Option ℕ) (q : Expression)
             → Reading (d .schema) (d .text) (d .tables) x lo hi tail y at (d .room) (d .rest) (leaf (scan t al (some q))) → P) → P
@@ -173,9 +173,9 @@ module _ {x : List ℕ} {lo hi : ℕ} {b : Bool} (f : HasFilter x lo hi b) (c : 
         pub filter-at : ExpressionAt x lo (hi - 6)
         filter-at = scan-read (ExpressionAt x lo (hi - 6)) (λ t al q g. record { e = q; here = filter-here t al q (g .here) })
 
-        pub filtered-at : {m : ℕ} {w : List ℕ} → Normalizes x lo (hi - 6) m w → m ≤ length w → FilteredAt x lo hi y w m widths keys marks
+        pub filtered-at : {m : ℕ} {w : List ℕ} → Normalizes x lo (hi - 6) m w → m ≤ length w → FilteredAt x lo hi y w m widths keys columns
         filtered-at {m} {w} n k =
-            scan-read (FilteredAt x lo hi y w m widths keys marks)
+            scan-read (FilteredAt x lo hi y w m widths keys columns)
             (λ t al q g. record {
               schema = d .schema;
               text = d .text;
@@ -192,7 +192,7 @@ module _ {x : List ℕ} {lo hi : ℕ} {b : Bool} (f : HasFilter x lo hi b) (c : 
 
       module _ {m : ℕ} {w : List ℕ} (n : Normalizes x lo (hi - 6) m w) (k : length w ≡ length y) where
         -- a normal form without room
-        pub leaf-refused : length w < m → Streams (Lent widths keys marks) IndexLookup x lo hi tail y at m y
+        pub leaf-refused : length w < m → Streams (Lent widths keys columns) IndexLookup x lo hi tail y at m y
         leaf-refused z =
             leaf-streams c refl IndexLookup
             (λ schema text tables lent room rest l g.
@@ -203,8 +203,8 @@ module _ {x : List ℕ} {lo hi : ℕ} {b : Bool} (f : HasFilter x lo hi b) (c : 
             (streamed-refused (omega arith)))
             l (g .here) g)
 
-        pub leaf-looked : m ≤ length w → {u : ℕ} {y₁ : List ℕ} → length y₁ ≡ length y → LooksUp x lo hi y at w m widths keys marks u y₁ → {r : ℕ} → InRoom y₁ u tail r
-            → Streams (Lent widths keys marks) IndexLookup x lo hi tail y at r y₁
+        pub leaf-looked : m ≤ length w → {u : ℕ} {y₁ : List ℕ} → length y₁ ≡ length y → LooksUp x lo hi y at w m widths keys columns u y₁ → {r : ℕ} → InRoom y₁ u tail r
+            → Streams (Lent widths keys columns) IndexLookup x lo hi tail y at r y₁
         leaf-looked z {u} {y₁} k₁ v {r} i =
             leaf-streams c refl IndexLookup
             (λ schema text tables lent room rest l g.

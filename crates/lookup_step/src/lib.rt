@@ -1,6 +1,6 @@
 // optimizer.rs, index_lookup, as a step of the streamed pass (crate stream): a Scan whose filter has a conjunct that looks up a column with an index, or the
-// primary key, becomes a lookup. widths[t] is the number of columns of table t, keys[t] its primary key's column, and marks say of all columns, table by
-// table, whether a lookup can go by them.
+// primary key, becomes a lookup. widths[t] is the number of columns of table t, keys[t] its primary key's column, and columns are the records of all
+// columns, table by table, 16 bytes each, as a sheet has them.
 ghost use mathlib.Core.Path.{_≡_};
 ghost use Prim.Native.Nat.{_-_, _<_};
 ghost use lib.ListN.{length};
@@ -46,10 +46,10 @@ fn lookup_in_table(
     m: usize,
     widths: &[usize],
     keys: &[usize],
-    marks: &[bool],
+    columns: &[u8],
 ) -> usize
-    requires { ⌜ FilteredAt (now x) lo hi (now y) (now w) m (now widths) (now keys) (now marks) ⌝ }
-    ensures { λ r. ⌜ LooksUp (now (x .entry)) lo hi (now (y .entry)) at (now (w .entry)) m (now (widths .entry)) (now (keys .entry)) (now (marks .entry)) r (now (y .exit)) ⌝ }
+    requires { ⌜ FilteredAt (now x) lo hi (now y) (now w) m (now widths) (now keys) (now columns) ⌝ }
+    ensures { λ r. ⌜ LooksUp (now (x .entry)) lo hi (now (y .entry)) at (now (w .entry)) m (now (widths .entry)) (now (keys .entry)) (now (columns .entry)) r (now (y .exit)) ⌝ }
 {
     let k = cells::cell_at(x, hi);
     let t = k.a;
@@ -58,7 +58,9 @@ fn lookup_in_table(
     }
     let first = labels::first_column(widths, t);
     let end = first + widths[t];
-    lookup_or_scan::lookup_or_scan(x, lo, hi, y, at, w, m, keys[t], &marks[first..end])
+    let from = 16 * first;
+    let to = 16 * end;
+    lookup_or_scan::lookup_or_scan(x, lo, hi, y, at, w, m, keys[t], &columns[from..to])
 }
 
 // index_lookup of the leaf from lo to hi. z and w are used for the normal forms of its filter, and as long as y.
@@ -73,19 +75,19 @@ pub fn index_lookup(
     w: &mut [usize],
     widths: &[usize],
     keys: &[usize],
-    marks: &[bool],
+    columns: &[u8],
 ) -> usize
-    requires { ⌜ StreamAt (Lent (now widths) (now keys) (now marks)) (now x) lo hi tail (now y) at ⌝ }
+    requires { ⌜ StreamAt (Lent (now widths) (now keys) (now columns)) (now x) lo hi tail (now y) at ⌝ }
     requires { ⌜ SourceCount (now x) lo hi 0 ⌝ }
     requires { ⌜ (length (now z) ≡ length (now y)) × (length (now w) ≡ length (now y)) ⌝ }
-    ensures { λ r. ⌜ Streams (Lent (now (widths .entry)) (now (keys .entry)) (now (marks .entry))) IndexLookup (now (x .entry)) lo hi tail (now (y .entry)) at r (now (y .exit)) ⌝ }
+    ensures { λ r. ⌜ Streams (Lent (now (widths .entry)) (now (keys .entry)) (now (columns .entry))) IndexLookup (now (x .entry)) lo hi tail (now (y .entry)) at r (now (y .exit)) ⌝ }
 {
     if has_filter(x, lo, hi) {
         let m = into_cnf(x, lo, hi - 6, z, w);
         if w.len() < m {
             return m;
         }
-        let n = lookup_in_table(x, lo, hi, y, at, w, m, widths, keys, marks);
+        let n = lookup_in_table(x, lo, hi, y, at, w, m, widths, keys, columns);
         return stream::in_room(y, n, tail);
     }
     cells::copy(x, lo, hi, y, at)

@@ -20,14 +20,13 @@ pub fn pass(
     t: usize,
     widths: &[usize],
     names: &[usize],
-    columns: &[usize],
+    columns: &[u8],
     keys: &[usize],
-    marks: &[bool],
 ) -> Folded
     requires { ⌜ (1 ≤ k) × (k ≤ 5) ⌝ }
-    requires { ⌜ PlanAt (For-all (now text) (now widths) (now names) (now columns) (now keys) (now marks)) (now x) t ⌝ }
+    requires { ⌜ PlanAt (For-all (now text) (now widths) (now names) (now columns) (now keys)) (now x) t ⌝ }
     requires { ⌜ Alike (now x) (now y) (now z) (now w) ⌝ }
-    ensures { λ r. ⌜ Runs (For-all (now (text .entry)) (now (widths .entry)) (now (names .entry)) (now (columns .entry)) (now (keys .entry)) (now (marks .entry))) (λ room schema p. Room.pass room schema k p) (now (x .entry)) t (now (y .exit)) r ⌝ }
+    ensures { λ r. ⌜ Runs (For-all (now (text .entry)) (now (widths .entry)) (now (names .entry)) (now (columns .entry)) (now (keys .entry))) (λ room schema p. Room.pass room schema k p) (now (x .entry)) t (now (y .exit)) r ⌝ }
 {
     if k == 1 {
         return passes::fold(text, x, y, z, t);
@@ -36,7 +35,7 @@ pub fn pass(
         return passes::push_down(x, y, z, w, t, widths);
     }
     if k == 3 {
-        return passes::look_up(x, y, z, w, t, widths, keys, marks);
+        return passes::look_up(x, y, z, w, t, widths, keys, columns);
     }
     if k == 4 {
         return passes::hash_join(x, y, t, widths);
@@ -52,7 +51,7 @@ fn from_hash(
     t: usize,
     widths: &[usize],
     names: &[usize],
-    columns: &[usize],
+    columns: &[u8],
 ) -> Folded
     requires { ⌜ PlanAt (For-labels (now widths) (now names) (now columns)) (now x) t ⌝ }
     requires { ⌜ (length (now y) ≡ length (now x)) × (length (now z) ≡ length (now x)) ⌝ }
@@ -76,18 +75,17 @@ fn from_lookup(
     t: usize,
     widths: &[usize],
     names: &[usize],
-    columns: &[usize],
+    columns: &[u8],
     keys: &[usize],
-    marks: &[bool],
 ) -> Folded
-    requires { ⌜ PlanAt (For-lent (now widths) (now names) (now columns) (now keys) (now marks)) (now x) t ⌝ }
+    requires { ⌜ PlanAt (For-lent (now widths) (now names) (now columns) (now keys)) (now x) t ⌝ }
     requires { ⌜ Alike (now x) (now y) (now z) (now w) ⌝ }
-    ensures { λ r. ⌜ Runs (For-lent (now (widths .entry)) (now (names .entry)) (now (columns .entry)) (now (keys .entry)) (now (marks .entry))) (λ room schema p. in-turn (from-lookup room schema) p) (now (x .entry)) t (now (y .exit)) r ⌝ }
+    ensures { λ r. ⌜ Runs (For-lent (now (widths .entry)) (now (names .entry)) (now (columns .entry)) (now (keys .entry))) (λ room schema p. in-turn (from-lookup room schema) p) (now (x .entry)) t (now (y .exit)) r ⌝ }
 {
     if !predicates::has_scan_filter(x, t) {
         return from_hash(x, z, y, t, widths, names, columns);
     }
-    match passes::look_up(x, z, y, w, t, widths, keys, marks) {
+    match passes::look_up(x, z, y, w, t, widths, keys, columns) {
         Folded::Done(n) => from_hash(z, x, y, n, widths, names, columns),
         Folded::Refused(number, place) => Folded::Refused(number, place),
     }
@@ -102,16 +100,15 @@ fn from_pushdown(
     t: usize,
     widths: &[usize],
     names: &[usize],
-    columns: &[usize],
+    columns: &[u8],
     keys: &[usize],
-    marks: &[bool],
 ) -> Folded
-    requires { ⌜ PlanAt (For-lent (now widths) (now names) (now columns) (now keys) (now marks)) (now x) t ⌝ }
+    requires { ⌜ PlanAt (For-lent (now widths) (now names) (now columns) (now keys)) (now x) t ⌝ }
     requires { ⌜ Alike (now x) (now y) (now z) (now w) ⌝ }
-    ensures { λ r. ⌜ Runs (For-lent (now (widths .entry)) (now (names .entry)) (now (columns .entry)) (now (keys .entry)) (now (marks .entry))) (λ room schema p. in-turn (from-pushdown room schema) p) (now (x .entry)) t (now (y .exit)) r ⌝ }
+    ensures { λ r. ⌜ Runs (For-lent (now (widths .entry)) (now (names .entry)) (now (columns .entry)) (now (keys .entry))) (λ room schema p. in-turn (from-pushdown room schema) p) (now (x .entry)) t (now (y .exit)) r ⌝ }
 {
     match passes::push_down_in_place(x, y, z, w, t, widths) {
-        Folded::Done(n) => from_lookup(x, y, z, w, n, widths, names, columns, keys, marks),
+        Folded::Done(n) => from_lookup(x, y, z, w, n, widths, names, columns, keys),
         Folded::Refused(number, place) => Folded::Refused(number, place),
     }
 }
@@ -126,16 +123,15 @@ pub fn optimize(
     t: usize,
     widths: &[usize],
     names: &[usize],
-    columns: &[usize],
+    columns: &[u8],
     keys: &[usize],
-    marks: &[bool],
 ) -> Folded
-    requires { ⌜ PlanAt (For-all (now text) (now widths) (now names) (now columns) (now keys) (now marks)) (now x) t ⌝ }
+    requires { ⌜ PlanAt (For-all (now text) (now widths) (now names) (now columns) (now keys)) (now x) t ⌝ }
     requires { ⌜ Alike (now x) (now y) (now z) (now w) ⌝ }
-    ensures { λ r. ⌜ Runs (For-all (now (text .entry)) (now (widths .entry)) (now (names .entry)) (now (columns .entry)) (now (keys .entry)) (now (marks .entry))) (λ room schema p. Room.optimize room schema p) (now (x .entry)) t (now (y .exit)) r ⌝ }
+    ensures { λ r. ⌜ Runs (For-all (now (text .entry)) (now (widths .entry)) (now (names .entry)) (now (columns .entry)) (now (keys .entry))) (λ room schema p. Room.optimize room schema p) (now (x .entry)) t (now (y .exit)) r ⌝ }
 {
     match passes::fold(text, x, z, y, t) {
-        Folded::Done(n) => from_pushdown(z, y, x, w, n, widths, names, columns, keys, marks),
+        Folded::Done(n) => from_pushdown(z, y, x, w, n, widths, names, columns, keys),
         Folded::Refused(number, place) => Folded::Refused(number, place),
     }
 }
@@ -157,17 +153,16 @@ pub fn run(
     t: usize,
     widths: &[usize],
     names: &[usize],
-    columns: &[usize],
+    columns: &[u8],
     keys: &[usize],
-    marks: &[bool],
 ) -> Folded
     requires { ⌜ Choice c ⌝ }
-    requires { ⌜ PlanAt (For-all (now text) (now widths) (now names) (now columns) (now keys) (now marks)) (now x) t ⌝ }
+    requires { ⌜ PlanAt (For-all (now text) (now widths) (now names) (now columns) (now keys)) (now x) t ⌝ }
     requires { ⌜ Alike (now x) (now y) (now z) (now w) ⌝ }
-    ensures { λ r. ⌜ Runs (For-all (now (text .entry)) (now (widths .entry)) (now (names .entry)) (now (columns .entry)) (now (keys .entry)) (now (marks .entry))) (chosen c) (now (x .entry)) t (now (y .exit)) r ⌝ }
+    ensures { λ r. ⌜ Runs (For-all (now (text .entry)) (now (widths .entry)) (now (names .entry)) (now (columns .entry)) (now (keys .entry))) (chosen c) (now (x .entry)) t (now (y .exit)) r ⌝ }
 {
     match c {
-        Chosen::One(k) => pass(k, text, x, y, z, w, t, widths, names, columns, keys, marks),
-        Chosen::All => optimize(text, x, y, z, w, t, widths, names, columns, keys, marks),
+        Chosen::One(k) => pass(k, text, x, y, z, w, t, widths, names, columns, keys),
+        Chosen::All => optimize(text, x, y, z, w, t, widths, names, columns, keys),
     }
 }

@@ -1,6 +1,5 @@
 -- One pass, and the five in turn, on plans in their working form: what is asked for, and what is left.
 use Prim.Native.Nat.{ℕ, _*_, _≤_, _<_}
-use mathlib.Core.Bool.{Bool}
 use mathlib.Core.Path.{_≡_}
 use mathlib.Core.List.{List}
 use lib.ListN.{length, take}
@@ -17,10 +16,10 @@ use Rattle.fold_operator.specs.declared.Folded.{Folded}
 use Rattle.fold_operator.specs.declared.Folded.the-variants as Folded
 
 -- What the code is lent of a schema: for names, which lie in the text, and for lookups.
-pub record Lent (schema : Schema) (text widths names columns keys : List ℕ) (marks : List Bool) : Type 0 where
+pub record Lent (schema : Schema) (text widths names columns keys : List ℕ) : Type 0 where
   pub named : Names schema widths names columns
   pub inside : Named schema (length text)
-  pub indexed : Indexes schema widths keys marks
+  pub indexed : Indexes schema widths keys columns
 
 -- The sound plan p is the first t words of x, which has room for `room` cells.
 pub record Plan-in (schema : Schema) (text : List ℕ) (tables : ℕ) (x : List ℕ) (t room : ℕ) (p : Node) : Type 0 where
@@ -76,14 +75,14 @@ For-folding t schema text = (text ≡ t) × (length t < 65536)
 abbrev pub For-tables : List ℕ → Schema → List ℕ → Type 0
 For-tables widths schema text = Tables schema widths
 
-abbrev pub For-lookups : (widths keys : List ℕ) → List Bool → Schema → List ℕ → Type 0
-For-lookups widths keys marks schema text = Indexes schema widths keys marks
+abbrev pub For-lookups : (widths keys columns : List ℕ) → Schema → List ℕ → Type 0
+For-lookups widths keys columns schema text = Indexes schema widths keys columns
 
 abbrev pub For-labels : (widths names columns : List ℕ) → Schema → List ℕ → Type 0
 For-labels widths names columns schema text = Names schema widths names columns × Named schema (length text)
 
-abbrev pub For-lent : (widths names columns keys : List ℕ) → List Bool → Schema → List ℕ → Type 0
-For-lent widths names columns keys marks schema text = Lent schema text widths names columns keys marks
+abbrev pub For-lent : (widths names columns keys : List ℕ) → Schema → List ℕ → Type 0
+For-lent widths names columns keys schema text = Lent schema text widths names columns keys
 
-abbrev pub For-all : (t widths names columns keys : List ℕ) → List Bool → Schema → List ℕ → Type 0
-For-all t widths names columns keys marks schema text = For-folding t schema text × Lent schema text widths names columns keys marks
+abbrev pub For-all : (t widths names columns keys : List ℕ) → Schema → List ℕ → Type 0
+For-all t widths names columns keys schema text = For-folding t schema text × Lent schema text widths names columns keys

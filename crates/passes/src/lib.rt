@@ -73,13 +73,13 @@ pub fn look_up(
     t: usize,
     widths: &[usize],
     keys: &[usize],
-    marks: &[bool],
+    columns: &[u8],
 ) -> Folded
-    requires { ⌜ PlanAt (For-lookups (now widths) (now keys) (now marks)) (now x) t ⌝ }
+    requires { ⌜ PlanAt (For-lookups (now widths) (now keys) (now columns)) (now x) t ⌝ }
     requires { ⌜ Alike (now x) (now y) (now z) (now w) ⌝ }
-    ensures { λ r. ⌜ Runs (For-lookups (now (widths .entry)) (now (keys .entry)) (now (marks .entry))) (λ room schema p. Room.IndexLookup room schema 0 p) (now (x .entry)) t (now (y .exit)) r ⌝ }
+    ensures { λ r. ⌜ Runs (For-lookups (now (widths .entry)) (now (keys .entry)) (now (columns .entry))) (λ room schema p. Room.IndexLookup room schema 0 p) (now (x .entry)) t (now (y .exit)) r ⌝ }
 {
-    let n = index_lookup::transform(x, 0, t, 0, y, 0, z, w, widths, keys, marks);
+    let n = index_lookup::transform(x, 0, t, 0, y, 0, z, w, widths, keys, columns);
     in_room(y, n)
 }
 
@@ -101,7 +101,7 @@ pub fn short_circuit(
     t: usize,
     widths: &[usize],
     names: &[usize],
-    columns: &[usize],
+    columns: &[u8],
 ) -> Folded
     requires { ⌜ PlanAt (For-labels (now widths) (now names) (now columns)) (now x) t ⌝ }
     requires { ⌜ (length (now y) ≡ length (now x)) × (length (now z) ≡ length (now x)) ⌝ }

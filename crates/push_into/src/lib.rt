@@ -73,7 +73,6 @@ pub fn with_predicate(
 }
 
 // The predicate in the first n words of y goes into the node of x from lo up to `end`, which takes one. What stands behind the node, up to t - tail, is gone.
-// y is used up.
 pub fn push_into(
     x: &mut [usize],
     y: &mut [usize],

@@ -14,6 +14,12 @@ module _ {A : Type 0} where
   map-same f g h k zero = refl
   map-same f g h k (suc n) = ap (λ (x : A). x ∷ map f (up-to (suc k) n)) (h k) ∙ ap (λ (l : List A). g k ∷ l) (map-same f g h (suc k) n)
 
+  -- the same where they agree on the range alone
+  pub map-within : (f g : ℕ → A) (k n : ℕ) → ((i : ℕ) → i < k + n → f i ≡ g i) → map f (up-to k n) ≡ map g (up-to k n)
+  map-within f g k zero h = refl
+  map-within f g k (suc n) h =
+      ap (λ (x : A). x ∷ map f (up-to (suc k) n)) (h k (omega arith)) ∙ ap (λ (l : List A). g k ∷ l) (map-within f g (suc k) n (λ i z. h i (omega arith)))
+
   pub map-map : {B : Type 0} (g : A → B) (f : ℕ → A) (l : List ℕ) → map g (map f l) ≡ map (λ i. g (f i)) l
   map-map g f [] = refl
   map-map g f (x ∷ xs) = ap (λ (l : List _). g (f x) ∷ l) (map-map g f xs)

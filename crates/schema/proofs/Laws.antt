@@ -19,14 +19,13 @@ use Rattle.sheet.specs.Parts.{tables-at, columns-at, cells-at, table-count, col
 use Rattle.sheet.specs.Check.{kinds, column, table, schema, text, plan}
 use Rattle.sheet_laws.specs.Accepted.{accepted}
 use Rattle.sheet_laws.specs.Layout.{length-up-to}
-use Rattle.layout.specs.Layout.{Whole, Laid, IsTable, table-at}
-use Rattle.layout.specs.declared.Table as records
+use Rattle.layout.specs.Layout.{Whole, Laid}
 use Rattle.layout.specs.declared.Parts.{Parts}
 use Rattle.layout.proofs.Laws.{laid, text-is, tables-are, columns-start, columns-are}
 use Rattle.layout.proofs.Known.{KnownTable, KnownColumn, table-known, column-known, tables-pass, columns-pass}
 use Rattle.nodes.specs.Columns.{Tables}
 use Rattle.labels.specs.Names.{Names, column-names}
-use Rattle.indexes.specs.Indexes.{marks-from, table-marks, lookup-marks, Indexes}
+use Rattle.indexes.specs.Indexes.{marks-from}
 use Rattle.schema.specs.declared.Kind.{Kind}
 use Rattle.schema.specs.declared.Kind.the-variants.{Boolean, Integer, Float, String}
 use Rattle.schema.specs.Schema.{Recorded, as-kind, number, Filled, mark}
@@ -80,9 +79,6 @@ module _ (s : List ℕ) {p : Parts} (l : Laid s p) where
   pub tables-inside : p .tables .at + p .tables .count * 16 ≤ length s
   tables-inside = omega (arith, l .tables-end, l .columns-end, l .cells-end)
 
-  pub columns-inside : p .columns .at + p .columns .count * 16 ≤ length s
-  columns-inside = omega (arith, l .columns-end, l .cells-end)
-
 -- ---- the columns of all tables
 
 names-more : (ts : Schema) (t : Table) → column-names (ts ++ (t ∷ [])) ≡ column-names ts ++ map (λ (c : Column). c .name) (t .columns)
@@ -91,12 +87,8 @@ names-more (u ∷ ts) t =
     ap (λ (l : List ℕ). map (λ (c : Column). c .name) (u .columns) ++ l) (names-more ts t)
     ∙ sym (append-assoc (map (λ (c : Column). c .name) (u .columns)) (column-names ts) (map (λ (c : Column). c .name) (t .columns)))
 
-marks-more : (ts : Schema) (t : Table) → lookup-marks (ts ++ (t ∷ [])) ≡ lookup-marks ts ++ table-marks t
-marks-more [] t = append-nil (table-marks t)
-marks-more (u ∷ ts) t = ap (λ (l : List Bool). table-marks u ++ l) (marks-more ts t) ∙ sym (append-assoc (table-marks u) (lookup-marks ts) (table-marks t))
-
 -- the marks of a table's columns from column i on, by their records
-marks-are : (s : List ℕ) (first key i n : ℕ) → marks-from key i (map (column s) (up-to (first + i) n)) ≡ map (mark s (columns-at s + first * 16) key) (up-to i n)
+pub marks-are : (s : List ℕ) (first key i n : ℕ) → marks-from key i (map (column s) (up-to (first + i) n)) ≡ map (mark s (columns-at s + first * 16) key) (up-to i n)
 marks-are s first key i zero = refl
 marks-are s first key i (suc n) =
     let e : suc (first + i) ≡ first + suc i = omega arith in
@@ -104,11 +96,6 @@ marks-are s first key i (suc n) =
     ap (λ (m : ℕ). (eqb i key || eqb (byte s m) 1) ∷ marks-from key (suc i) (map (column s) (up-to (suc (first + i)) n))) f
     ∙ ap (λ (m : ℕ). mark s (columns-at s + first * 16) key i ∷ marks-from key (suc i) (map (column s) (up-to m n))) e
     ∙ ap (λ (l : List Bool). mark s (columns-at s + first * 16) key i ∷ l) (marks-are s first key (suc i) n)
-
--- The marks of the first t tables' columns are filled in.
-pub record Marked (s : List ℕ) (d : List Bool) (at t : ℕ) : Type 0 where
-  pub far : at ≡ columns-before s t
-  pub is : take at d ≡ lookup-marks (map (table s) (up-to 0 t))
 
 module _ (s : List ℕ) (r : Recorded s) where
   pub known : (t : ℕ) → t < table-count s → KnownTable s t
@@ -149,52 +136,3 @@ module _ (s : List ℕ) (r : Recorded s) where
       rw (columns-start l, columns-are l)
       (map-same (λ i. word s (record-at (columns-at s) i + 0)) (column-name s) (λ i. let e : record-at (columns-at s) i + 0 ≡ record-at (columns-at s) i = omega arith in ap (word s) e) 0 (column-count s)
       ∙ ap (λ (n : ℕ). map (column-name s) (up-to 0 n)) (sym all-columns) ∙ sym (names-before (table-count s) (omega arith)))
-
-  -- ---- the loop over tables that fills in the marks
-
-  module _ {p : Parts} (l : Laid s p) {t : ℕ} (h : t < p .tables .count) {k : records.Table} (i : IsTable (table-at s t) k) where
-    first-is : k .first ≡ first-column s t
-    first-is = ap (λ (x : records.Table). x .first) (i .is)
-
-    count-is : k .count ≡ columns-of s t
-    count-is = ap (λ (x : records.Table). x .count) (i .is)
-
-    key-is : k .key ≡ key-of s t
-    key-is = ap (λ (x : records.Table). x .key) (i .is)
-
-    pub records-inside : p .columns .at + k .first * 16 + k .count * 16 ≤ length s
-    records-inside =
-        omega (arith, columns-inside s l, columns-are l, first-is, count-is, known t (omega (arith, tables-are l)) .within)
-
-    pub marks-inside : {d : List Bool} {at : ℕ} → Marked s d at t → at + k .count ≤ p .columns .count
-    marks-inside m =
-        let z = known t (omega (arith, tables-are l)) in
-        omega (arith, columns-are l, count-is, z .within, z .starts, m .far)
-
-    pub marks-on : {d d′ : List Bool} {at n : ℕ} → Marked s d at t → (n ≡ at + k .count) × (take n d′ ≡ take at d ++ map (mark s (p .columns .at + k .first * 16) (k .key)) (up-to 0 (k .count)))
-        → Marked s d′ n (t + 1)
-    marks-on {d} {d′} {at} {n} m w =
-        let f : p .columns .at + k .first * 16 ≡ columns-at s + first-column s t * 16 = omega (arith, columns-start l, first-is) in
-        let z : first-column s t + 0 ≡ first-column s t = omega arith in
-        let own : map (mark s (p .columns .at + k .first * 16) (k .key)) (up-to 0 (k .count)) ≡ table-marks (table s t) =
-        ap (λ (m : ℕ). map (mark s m (k .key)) (up-to 0 (k .count))) f
-        ∙ ap (λ (m : ℕ). map (mark s (columns-at s + first-column s t * 16) m) (up-to 0 (k .count))) key-is
-        ∙ ap (λ (m : ℕ). map (mark s (columns-at s + first-column s t * 16) (key-of s t)) (up-to 0 m)) count-is
-        ∙ sym (marks-are s (first-column s t) (key-of s t) 0 (columns-of s t))
-        ∙ ap (λ (m : ℕ). marks-from (key-of s t) 0 (map (column s) (up-to m (columns-of s t)))) z in
-        let far : n ≡ columns-before s (t + 1) = rw (add-one t) (omega (arith, m .far, w .0, count-is, known t (omega (arith, tables-are l)) .starts)) in
-        record {
-          far = far;
-          is = w .1 ∙ ap (λ (l : List Bool). l ++ map (mark s (p .columns .at + k .first * 16) (k .key)) (up-to 0 (k .count))) (m .is)
-              ∙ ap (λ (l : List Bool). lookup-marks (map (table s) (up-to 0 t)) ++ l) own
-              ∙ sym (ap lookup-marks (up-to-more (table s) t) ∙ marks-more (map (table s) (up-to 0 t)) (table s t));
-        }
-
-  pub marks-read : {p : Parts} → Laid s p → {t : ℕ} {d : List Bool} {at : ℕ} → Marked s d at t → t ≡ p .tables .count → column-count s ≤ length d → Filled (lookup-marks (schema s)) at d
-  unfolding schema
-  marks-read l m e h =
-      let f = e ∙ tables-are l in
-      record {
-        is = m .is ∙ ap (λ (n : ℕ). lookup-marks (map (table s) (up-to 0 n))) f;
-        inside = omega (arith, m .far, ap (columns-before s) f, all-columns);
-      }

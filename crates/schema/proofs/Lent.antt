@@ -1,48 +1,40 @@
--- The slices that the passes are lent say what they ask of a schema, if they were filled in from the records of a sheet.
+-- What the passes are lent says what they ask of a schema: slices that were filled in from the records of a sheet, and its column records themselves.
 -- Assumes nothing.
-use Prim.Native.Nat.{ℕ, zero, suc, _+_, _*_, _≤_, _<_}
+use Prim.Native.Nat.{ℕ, zero, suc, _+_, _-_, _*_, _/_, _≤_, _<_}
 use native.Mathlib.Omega.{arith}
-use native.Mathlib.Decide.{decLt}
+use native.Mathlib.Numerals.{add-one}
 use mathlib.Core.Logic.{⊎-elim}
-use mathlib.Core.Path.{_≡_, refl, sym, ap, _∙_}
-use mathlib.Core.Bool.{Bool}
-use mathlib.Core.List.{List, [], _∷_, _++_, map}
-use lib.ListN.{length, take, getD, length-map, length-append, List·getD-map, List·getD-eq-default}
+use mathlib.Core.Path.{_≡_, refl, sym, ap, _∙_, subst}
+use mathlib.Core.List.{List, map}
+use lib.ListN.{length, take, drop, getD, List·getD-map, List·getD-eq-default}
+use lib.Seq.{getD-take, getD-drop}
 use Rattle.sql.specs.Schema.{Column, Table, Schema, table-of, no-table}
 use Rattle.sql.specs.Plan.{up-to}
 use Rattle.sheet.specs.Bytes.{word}
-use Rattle.sheet.specs.Parts.{table-count, column-count, columns-at}
+use Rattle.sheet.specs.Parts.{table-count, column-count, columns-at, cells-at, columns-of, columns-before}
+use Rattle.sheet.specs.Parts as Parts
 use Rattle.sheet.specs.Check.{table, schema}
-use Rattle.sheet_laws.specs.Layout.{length-up-to}
 use Rattle.layout.specs.Layout.{parts-of}
 use Rattle.layout.proofs.Laws.{laid}
 use Rattle.cells.proofs.Laws.{lt-or-ge}
 use Rattle.nodes.specs.Columns.{Tables}
-use Rattle.labels.specs.Names.{Names, column-names}
-use Rattle.indexes.specs.Indexes.{marks-from, lookup-marks, Indexes}
-use Rattle.schema.specs.Schema.{Recorded}
+use Rattle.labels.specs.Names.{Names, column-names, names-in, first-column}
+use Rattle.labels.proofs.Texts.{getD-up-to, first-none, first-next}
+use Rattle.indexes.specs.Indexes.{own-records, table-marks, Indexes}
+use Rattle.first_lookup.specs.First.{marks-in}
+use Rattle.schema.specs.Schema.{Recorded, column-records}
+use Rattle.schema.proofs.Fill.{map-within}
 use Rattle.schema.proofs.Laws.{width-is, tables-long, known, column-names-read}
+use Rattle.schema.proofs.Marked.{records-long, own-marks}
 
-getD-up-to : {A : Type 0} (f : ℕ → A) (d : A) (k n t : ℕ) → t < n → getD (map f (up-to k n)) t d ≡ f (k + t)
-getD-up-to f d k zero t h = absurd (omega arith)
-getD-up-to f d k (suc n) zero h = let e : k ≡ k + 0 = omega arith in ap f e
-getD-up-to f d k (suc n) (suc t) h = let e : suc k + t ≡ k + suc t = omega arith in getD-up-to f d (suc k) n t (omega arith) ∙ ap f e
-
-marks-long : (cs : List Column) (key i : ℕ) → length (marks-from key i cs) ≡ length cs
-marks-long [] key i = refl
-marks-long (c ∷ cs) key i = ap suc (marks-long cs key (suc i))
-
-as-many : (ts : Schema) → length (lookup-marks ts) ≡ length (column-names ts)
-as-many [] = refl
-as-many (t ∷ ts) =
-    omega (
-      arith,
-      as-many ts,
-      length-append (marks-from (t .primary-key) 0 (t .columns)) (lookup-marks ts),
-      length-append (map (λ (c : Column). c .name) (t .columns)) (column-names ts),
-      marks-long (t .columns) (t .primary-key) 0,
-      length-map (t .columns) (λ (c : Column). c .name),
-    )
+-- A word of the n bytes from a place on.
+word-from : (s : List ℕ) (from n i m : ℕ) → m ≡ from + i → i + 4 ≤ n → word (take n (drop from s)) i ≡ word s m
+unfolding word
+word-from s from n i m e h =
+    rw (byte-is i m (omega arith) (omega arith), byte-is (i + 1) (m + 1) (omega arith) (omega arith), byte-is (i + 2) (m + 2) (omega arith) (omega arith), byte-is (i + 3) (m + 3) (omega arith) (omega arith))
+  where
+    byte-is : (j p : ℕ) → p ≡ from + j → j < n → getD (take n (drop from s)) j 0 ≡ getD s p 0
+    byte-is j p e h = getD-take n (drop from s) j 0 h ∙ getD-drop from s j 0 ∙ ap (λ (k : ℕ). getD s k 0) (sym e)
 
 module _ (s : List ℕ) (r : Recorded s) where
   table-is : (t : ℕ) → t < table-count s → table-of (schema s) t ≡ table s t
@@ -59,15 +51,15 @@ module _ (s : List ℕ) (r : Recorded s) where
       omega arith)
       (lt-or-ge t (table-count s))
 
-  names-few : length (column-names (schema s)) ≤ 256
-  names-few =
-      let e = ap length (column-names-read s r (laid (r .whole))) in
-      omega (
-        arith,
-        length-map (up-to 0 (column-count s)) (λ i. word s (columns-at s + i * 16 + 0)),
-        length-up-to 0 (column-count s),
-        laid (r .whole) .columns-few,
-      )
+  -- The names in the column records.
+  names-recorded : names-in (column-records s) ≡ column-names (schema s)
+  names-recorded =
+      let l = laid (r .whole) in
+      let e : length (column-records s) / 16 ≡ column-count s = omega (arith, records-long s r) in
+      ap (λ (n : ℕ). map (λ i. word (column-records s) (i * 16)) (up-to 0 n)) e
+      ∙ map-within (λ i. word (column-records s) (i * 16)) (λ i. word s (columns-at s + i * 16 + 0)) 0 (column-count s)
+      (λ i h. word-from s (columns-at s) (cells-at s - columns-at s) (i * 16) (columns-at s + i * 16 + 0) (omega arith) (omega (arith, l .columns-end)))
+      ∙ column-names-read s r l
 
   -- The tables' numbers of columns (crate nodes).
   pub tables-lent : {widths : List ℕ} → widths ≡ map (λ (t : Table). length (t .columns)) (schema s) → Tables (schema s) widths
@@ -80,22 +72,53 @@ module _ (s : List ℕ) (r : Recorded s) where
             omega (arith, narrow t);
       }
 
-  -- With the names of the tables and of all columns (crate labels).
+  -- With the names of the tables and the column records (crate labels).
   pub names-lent : {widths names columns : List ℕ} → widths ≡ map (λ (t : Table). length (t .columns)) (schema s) → names ≡ map (λ (t : Table). t .name) (schema s)
-      → columns ≡ column-names (schema s) → Names (schema s) widths names columns
-  names-lent e f g = record { tables = tables-lent e; names-are = f; columns-are = g; few = omega (arith, ap length g, names-few) }
-
-  -- With the primary keys, and which columns a lookup can go by (crate indexes).
-  pub indexes-lent : {widths keys : List ℕ} {marks : List Bool} → widths ≡ map (λ (t : Table). length (t .columns)) (schema s)
-      → keys ≡ map (λ (t : Table). t .primary-key) (schema s) → marks ≡ lookup-marks (schema s) → Indexes (schema s) widths keys marks
-  indexes-lent e f g =
-      record {
+      → columns ≡ column-records s → Names (schema s) widths names columns
+  names-lent {widths} {names} e f g =
+      subst (λ (l : List ℕ). Names (schema s) widths names l) (sym g)
+      (record {
         tables = tables-lent e;
-        keys-are = f;
-        marks-are = g;
-        keys-inside = λ t h.
-            let i : t < table-count s = omega (arith, tables-long s) in
-            let k = known s r t i in
-            rw (table-is t i) (omega (arith, k .key, width-is s t));
-        few = omega (arith, ap length g, as-many (schema s), names-few);
-      }
+        names-are = f;
+        columns-are = names-recorded;
+        few = omega (arith, records-long s r, laid (r .whole) .columns-few);
+      })
+
+  -- With the primary keys and the column records (crate indexes).
+
+  module _ {widths : List ℕ} (e : widths ≡ map (λ (t : Table). length (t .columns)) (schema s)) where
+    width-at : (t : ℕ) → t < table-count s → getD widths t 0 ≡ columns-of s t
+    width-at t h =
+        ap (λ (l : List ℕ). getD l t 0) e
+        ∙ (List·getD-map (λ (u : Table). length (u .columns)) (schema s) t no-table
+        ∙ (ap (λ (u : Table). length (u .columns)) (table-is t h) ∙ sym (width-is s t)))
+
+    first-at : (t : ℕ) → t ≤ table-count s → first-column widths t ≡ columns-before s t
+    first-at zero h = sym (first-none widths)
+    first-at (suc t) h =
+        let i : t < table-count s = omega arith in
+        sym (ap (first-column widths) (add-one t)) ∙ omega (arith, first-next widths t, first-at t (omega arith), width-at t i, known s r t i .starts)
+
+    own-is : (t : ℕ) → t < table-count s → marks-in (table-of (schema s) t .primary-key) (own-records widths (column-records s) t) ≡ table-marks (table-of (schema s) t)
+    own-is t h =
+        let f : first-column widths t ≡ Parts.first-column s t = first-at t (omega arith) ∙ sym (known s r t h .starts) in
+        rw (table-is t h, width-at t h, f) (own-marks s r t h)
+
+    pub indexes-lent : {keys columns : List ℕ} → keys ≡ map (λ (t : Table). t .primary-key) (schema s) → columns ≡ column-records s
+        → Indexes (schema s) widths keys columns
+    indexes-lent {keys} {columns} f g =
+        subst (λ (l : List ℕ). Indexes (schema s) widths keys l) (sym g)
+        (record {
+          tables = tables-lent e;
+          keys-are = f;
+          keys-inside = λ t h.
+              let i : t < table-count s = omega (arith, tables-long s) in
+              let k = known s r t i in
+              rw (table-is t i) (omega (arith, k .key, width-is s t));
+          inside = λ t h.
+              let i : t < table-count s = omega (arith, tables-long s) in
+              let k = known s r t i in
+              omega (arith, first-at t (omega arith), width-at t i, k .starts, k .within, records-long s r);
+          marks-are = λ t h. own-is t (omega (arith, tables-long s));
+          few = omega (arith, records-long s r, laid (r .whole) .columns-few);
+        })

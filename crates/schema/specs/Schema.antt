@@ -1,14 +1,14 @@
 -- What the functions over a sheet's records are given, and what they fill in.
-use Prim.Native.Nat.{ℕ, _+_, _*_, _≤_}
+use Prim.Native.Nat.{ℕ, _+_, _-_, _*_, _≤_}
 use mathlib.Core.Path.{_≡_}
 use mathlib.Core.Bool.{Bool, _||_}
 use mathlib.Core.List.{List}
 use mathlib.Core.Option.{none}
 use lib.Dec.{eqb}
-use lib.ListN.{length, take}
+use lib.ListN.{length, take, drop}
 use Rattle.sql.specs.Schema as Sql
 use Rattle.sheet.specs.Bytes.{byte}
-use Rattle.sheet.specs.Parts.{bad-record}
+use Rattle.sheet.specs.Parts.{columns-at, cells-at, bad-record}
 use Rattle.layout.specs.Layout.{Whole}
 use Rattle.schema.specs.declared.Kind.{Kind}
 use Rattle.schema.specs.declared.Kind.the-variants.{Boolean, Integer, Float, String}
@@ -17,6 +17,10 @@ use Rattle.schema.specs.declared.Kind.the-variants.{Boolean, Integer, Fl
 pub record Recorded (s : List ℕ) : Type 0 where
   pub whole : Whole s
   pub records-are : bad-record s ≡ none
+
+-- The column records of a sheet, which stand before the cells.
+abbrev pub column-records : List ℕ → List ℕ
+column-records s = take (cells-at s - columns-at s) (drop (columns-at s) s)
 
 -- A kind as the definitions have it, and as a sheet does.
 abbrev pub as-kind : Kind → Sql.Kind

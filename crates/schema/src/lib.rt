@@ -1,20 +1,17 @@
 // schema.rs: tables and columns, read from the records of a sheet; and what the passes are lent of them, in slices.
 ghost use mathlib.Core.Path.{_≡_};
-ghost use mathlib.Core.Bool.{_||_};
-ghost use mathlib.Core.List.{map, _++_};
+ghost use mathlib.Core.List.{map};
 ghost use Prim.Native.Nat.{_+_, _*_, _≤_, _<_};
-ghost use lib.ListN.{length, take};
+ghost use lib.ListN.{length};
 ghost use Rattle.sql.specs.Schema as Schema;
 ghost use Rattle.sql.specs.Plan.{up-to};
 ghost use Rattle.sheet.specs.Bytes.{word};
 ghost use Rattle.sheet.specs.Parts.{table-count, column-count, kind-of};
 ghost use Rattle.sheet.specs.Check as Sheet;
 ghost use Rattle.layout.specs.Layout.{Whole};
-ghost use Rattle.labels.specs.Names as Names;
-ghost use Rattle.indexes.specs.Indexes as Indexes;
-ghost use Rattle.schema.specs.Schema.{Recorded, as-kind, number, Filled, mark};
+ghost use Rattle.schema.specs.Schema.{Recorded, column-records, as-kind, number, Filled};
 
-// ---- the text
+// ---- parts of a sheet
 
 // The text of a sheet.
 pub fn text<'a>(s: &'a [u8]) -> &'a [u8]
@@ -24,6 +21,17 @@ pub fn text<'a>(s: &'a [u8]) -> &'a [u8]
     let p = layout::parts_of(s);
     let end = p.tables.at;
     &s[..end]
+}
+
+// The column records of a sheet, 16 bytes each.
+pub fn column_records<'a>(s: &'a [u8]) -> &'a [u8]
+    requires { ⌜ Whole (now s) ⌝ }
+    ensures { λ r. ⌜ now r ≡ column-records (now (s .entry)) ⌝ }
+{
+    let p = layout::parts_of(s);
+    let from = p.columns.at;
+    let to = p.cells.at;
+    &s[from..to]
 }
 
 // ---- one record
@@ -127,59 +135,4 @@ pub fn primary_keys(s: &[u8], out: &mut [usize]) -> usize
 {
     let p = layout::parts_of(s);
     record_words(s, p.tables.at, p.tables.count, 12, out)
-}
-
-// The names of all columns, table by table.
-pub fn column_names(s: &[u8], out: &mut [usize]) -> usize
-    requires { ⌜ Recorded (now s) × (column-count (now s) ≤ length (now out)) ⌝ }
-    ensures { λ r. ⌜ Filled (Names.column-names (Sheet.schema (now (s .entry)))) r (now (out .exit)) ⌝ }
-{
-    let p = layout::parts_of(s);
-    record_words(s, p.columns.at, p.columns.count, 0, out)
-}
-
-fn either(p: bool, q: bool) -> bool
-    ensures { λ r. ⌜ r ≡ (p || q) ⌝ }
-{
-    if p { true } else { q }
-}
-
-// Of each of so many columns, whose records start at byte `from`: it is the key, or has an index.
-fn table_marks(
-    s: &[u8],
-    from: usize,
-    count: usize,
-    key: usize,
-    out: &mut [bool],
-    at: usize,
-) -> usize
-    requires { ⌜ (from + count * 16 ≤ length (now s)) × (at + count ≤ length (now out)) ⌝ }
-    ensures { λ r. ⌜ (r ≡ at + count) × (take r (now (out .exit)) ≡ take at (now (out .entry)) ++ map (mark (now (s .entry)) from key) (up-to 0 count)) ⌝ }
-{
-    let mut j: usize = 0;
-    while j < count {
-        let index = layout::byte_at(s, from + j * 16 + 5);
-        out[at + j] = either(j == key, index == 1);
-        j += 1;
-    }
-    at + j
-}
-
-// Of all columns, table by table: a lookup can go by the column, as it is the primary key or has an index.
-pub fn lookup_marks(s: &[u8], out: &mut [bool]) -> usize
-    requires { ⌜ Recorded (now s) × (column-count (now s) ≤ length (now out)) ⌝ }
-    ensures { λ r. ⌜ Filled (Indexes.lookup-marks (Sheet.schema (now (s .entry)))) r (now (out .exit)) ⌝ }
-{
-    let p = layout::parts_of(s);
-    let count = p.tables.count;
-    let columns = p.columns.at;
-    let mut at: usize = 0;
-    let mut t: usize = 0;
-    while t < count {
-        let table = layout::table_at(s, t);
-        let from = columns + table.first * 16;
-        at = table_marks(s, from, table.count, table.key, out, at);
-        t += 1;
-    }
-    at
 }

@@ -2,13 +2,12 @@
 use Prim.Native.Nat.{ℕ, _+_, _*_, _≤_, _<_}
 use native.Mathlib.Omega.{arith}
 use mathlib.Core.Path.{_≡_, refl, sym, ap, _∙_}
-use mathlib.Core.Bool.{Bool}
 use mathlib.Core.List.{List, _++_, map}
 use lib.ListN.{length, take}
 use Rattle.sql.specs.Schema.{Table}
 use Rattle.sql.specs.Plan.{Node, columns, node-size}
 use Rattle.sql.specs.Answer.{Answer, done}
-use Rattle.sheet.specs.Parts.{table-count, column-count}
+use Rattle.sheet.specs.Parts.{table-count}
 use Rattle.sheet.specs.Check.{text, schema, plan}
 use Rattle.sheet_laws.specs.Accepted.{accepted}
 use Rattle.sheet_laws.specs.Plan.{Bytes, parts-of, text-length, plan-fits, plan-size}
@@ -20,8 +19,6 @@ use Rattle.cells.specs.Room.{Wrote}
 use Rattle.words.specs.Words.{node-words}
 use Rattle.words.proofs.Sizes.{words-long}
 use Rattle.kept.specs.Kept.{Kept}
-use Rattle.labels.specs.Names.{column-names}
-use Rattle.indexes.specs.Indexes.{lookup-marks}
 use Rattle.schema.specs.Schema.{Recorded, Filled}
 use Rattle.schema.proofs.Laws.{recorded}
 use Rattle.schema.proofs.Lent.{names-lent, indexes-lent}
@@ -43,12 +40,12 @@ module _ (s : List ℕ) (b : Bytes s) (n : Node) (h : plan s ≡ done n) where
   text-short : length (text s) < 65536
   text-short = let p = parts-of (accepted s n h) in omega (arith, text-length s p)
 
-  lent : {widths names columns keys : List ℕ} {marks : List Bool} → Lends s widths names columns keys marks → Lent (schema s) (text s) widths names columns keys marks
+  lent : {widths names columns keys : List ℕ} → Lends s widths names columns keys → Lent (schema s) (text s) widths names columns keys
   lent l =
       record {
         named = names-lent s (recorded s n h) (l .widths-are) (l .names-are) (l .columns-are);
         inside = names-inside s b n h;
-        indexed = indexes-lent s (recorded s n h) (l .widths-are) (l .keys-are) (l .marks-are);
+        indexed = indexes-lent s (recorded s n h) (l .widths-are) (l .keys-are) (l .columns-are);
       }
 
   -- decoded, the plan is in x
@@ -62,17 +59,14 @@ module _ (s : List ℕ) (b : Bytes s) (n : Node) (h : plan s ≡ done n) where
   few-tables : table-count s ≤ 16
   few-tables = parts-of (accepted s n h) .tables-few
 
-  few-columns : column-count s ≤ 256
-  few-columns = parts-of (accepted s n h) .columns-few
-
-  given : (t : List ℕ) → t ≡ text s → {widths names columns keys : List ℕ} {marks : List Bool} → Lends s widths names columns keys marks
-      → For-all t widths names columns keys marks (schema s) (text s)
+  given : (t : List ℕ) → t ≡ text s → {widths names columns keys : List ℕ} → Lends s widths names columns keys
+      → For-all t widths names columns keys (schema s) (text s)
   given t e l = ((sym e, omega (arith, ap length e, text-short)), lent l)
 
 -- What the passes ask for, and what is answered.
 module _ (s : List ℕ) (b : Bytes s) {x y z w : List ℕ} (at : RunAt s x y z w) (t : ℕ) (x′ : List ℕ) (d : Decodes s x t x′) (same : length x′ ≡ length x)
-    (text′ : List ℕ) (e : text′ ≡ text s) {widths names columns keys : List ℕ} {marks : List Bool} (l : Lends s widths names columns keys marks) where
-  pub ready : PlanAt (For-all text′ widths names columns keys marks) x′ t
+    (text′ : List ℕ) (e : text′ ≡ text s) {widths names columns keys : List ℕ} (l : Lends s widths names columns keys) where
+  pub ready : PlanAt (For-all text′ widths names columns keys) x′ t
   ready =
       record {
         schema = schema s;
@@ -90,7 +84,7 @@ module _ (s : List ℕ) (b : Bytes s) {x y z w : List ℕ} (at : RunAt s x y z w
       let a = at .alike in
       record { second = omega (arith, a .second, same); third = omega (arith, a .third, same); fourth = omega (arith, a .fourth, same) }
 
-  module _ (c : Chosen) (y′ : List ℕ) (long : length y′ ≡ length y) (r : Folded) (run : Runs (For-all text′ widths names columns keys marks) (chosen c) x′ t y′ r) where
+  module _ (c : Chosen) (y′ : List ℕ) (long : length y′ ≡ length y) (r : Folded) (run : Runs (For-all text′ widths names columns keys) (chosen c) x′ t y′ r) where
     left : (node : Node) (room : ℕ) → plan s ≡ done node → node-size node ≤ room → length x ≡ 6 * room
         → Leaves (Fit s node) y′ (chosen c room (schema s) node) r
     left node room is fits all =
@@ -116,9 +110,6 @@ module _ (s : List ℕ) (b : Bytes s) {x y z w : List ℕ} (at : RunAt s x y z w
 
   pub tables-fit : Whole s × (table-count s ≤ 16)
   tables-fit = (all-recorded .whole, few-tables s b (at .node) (at .is))
-
-  pub columns-fit : column-count s ≤ 256
-  columns-fit = few-columns s b (at .node) (at .is)
 
 pub acceptable : {s x y z w : List ℕ} → RunAt s x y z w → Acceptable s
 acceptable at = record { node = at .node; is = at .is }

@@ -16,7 +16,7 @@ fn into_nothing(
     z: &mut [usize],
     widths: &[usize],
     names: &[usize],
-    columns: &[usize],
+    columns: &[u8],
 ) -> usize
     requires { ⌜ ColumnsAt (now widths) (now y) lo hi ⌝ }
     requires { ⌜ NamesAt (now widths) (now names) (now columns) ⌝ }
@@ -48,7 +48,7 @@ fn short_circuit_node(
     z: &mut [usize],
     widths: &[usize],
     names: &[usize],
-    columns: &[usize],
+    columns: &[u8],
 ) -> usize
     requires { ⌜ ColumnsAt (now widths) (now y) lo hi ⌝ }
     requires { ⌜ NamesAt (now widths) (now names) (now columns) ⌝ }
@@ -75,7 +75,7 @@ fn climb(
     z: &mut [usize],
     widths: &[usize],
     names: &[usize],
-    columns: &[usize],
+    columns: &[u8],
 ) -> usize
     requires { ⌜ ClimbsAt (now widths) (now names) (now columns) (now x) end hi tail (now y) at u ⌝ }
     requires { ⌜ length (now z) ≡ length (now y) ⌝ }
@@ -106,7 +106,7 @@ pub fn short_circuit(
     z: &mut [usize],
     widths: &[usize],
     names: &[usize],
-    columns: &[usize],
+    columns: &[u8],
 ) -> usize
     requires { ⌜ CircuitAt (now widths) (now names) (now columns) (now x) lo hi tail (now y) at ⌝ }
     requires { ⌜ length (now z) ≡ length (now y) ⌝ }
@@ -155,7 +155,7 @@ fn short_circuit_source(
     z: &mut [usize],
     widths: &[usize],
     names: &[usize],
-    columns: &[usize],
+    columns: &[u8],
 ) -> usize
     requires { ⌜ CircuitAt (now widths) (now names) (now columns) (now x) lo hi tail (now y) at ⌝ }
     requires { ⌜ length (now z) ≡ length (now y) ⌝ }

@@ -1,7 +1,7 @@
 use lib.Seq.{length-take-le}
-use Rattle.edit.proofs.Edits.{replace-long, replace-same, replace-full, replace-done}
+use Rattle.edit.proofs.Edits.{replace-long, replace-full, replace-same, replace-moved}
 use native.Mathlib.Omega.{arith}
-use mathlib.Core.Path.{sym}
+use mathlib.Core.Path.{refl, sym}
 use borrow.Author.Needs.{needs}
 use Rattle.edit.proofs.replace.Statement.{statement}
 use Rattle.edit.proofs.replace.Tie as tie
@@ -43,10 +43,46 @@ same-length-2 : tie.Need-same-length-2
 same-length-2 c = search needs
 
 returns-2 : tie.Need-returns-2
-returns-2 c = replace-same _ (c .before .before .before .before .before .before .before .before .before .pre .1) (omega arith) (c .before .before .before .before .before .if2 .taken) (c .before .before .copy-all .ensures) (c .before .before .copy-all .kept .1 .0)
+returns-2 c = replace-same _ (c .before .before .before .before .before .before .before .before .before .pre .1) (omega arith) (c .before .before .before .before .before .if2 .taken) refl (c .before .before .copy-all .ensures) (c .before .before .copy-all .kept .1 .0)
 
-copy-requires : tie.Need-copy-requires
-copy-requires c κs = search needs
+sub-if3 : tie.Need-sub-if3
+sub-if3 c = search needs
+
+sub-if3-2 : tie.Need-sub-if3-2
+sub-if3-2 c = search needs
+
+returns-3 : tie.Need-returns-3
+returns-3 c = replace-full _ (c .before .before .before .before .before .pre .1) (c .before .before .before .before .before .pre .0) (c .before .before .if1 .left) (c .if3 .taken) (omega arith)
+
+add-to : tie.Need-add-to
+add-to c = search needs
+
+move-words-requires : tie.Need-move-words-requires
+move-words-requires c κs = search needs
+
+slice-reshare-prefix-copy-all-2 : tie.Need-slice-reshare-prefix-copy-all-2
+slice-reshare-prefix-copy-all-2 c = search needs
+
+slice-aggregate-copy-all-2 : tie.Need-slice-aggregate-copy-all-2
+slice-aggregate-copy-all-2 c = sym (length-take-le _ _ (c .before .before .before .before .before .before .before .if1 .left))
+
+mul-copy-all-2 : tie.Need-mul-copy-all-2
+mul-copy-all-2 c = search needs
+
+sub-copy-all-2 : tie.Need-sub-copy-all-2
+sub-copy-all-2 c = search needs
+
+part-copy-all-start-2 : tie.Need-part-copy-all-start-2
+part-copy-all-start-2 c = search needs
+
+part-copy-all-end-2 : tie.Need-part-copy-all-end-2
+part-copy-all-end-2 c = search needs
+
+copy-all-requires-2 : tie.Need-copy-all-requires-2
+copy-all-requires-2 c κs = search needs
+
+add-result : tie.Need-add-result
+add-result c = search needs
 
 same-length-3 : tie.Need-same-length-3
 same-length-3 c = search needs
@@ -54,20 +90,8 @@ same-length-3 c = search needs
 same-length-4 : tie.Need-same-length-4
 same-length-4 c = search needs
 
-returns-3 : tie.Need-returns-3
-returns-3 c = replace-full _ (c .before .before .before .before .before .before .before .before .before .before .pre .1) (c .before .before .before .copy .kept .1 .1 .1 .0) (c .before .before .before .copy .ensures) (c .if3 .taken)
-
-copy-requires-2 : tie.Need-copy-requires-2
-copy-requires-2 c κs = search needs
-
-same-length-5 : tie.Need-same-length-5
-same-length-5 c = search needs
-
-same-length-6 : tie.Need-same-length-6
-same-length-6 c = search needs
-
 returns-4 : tie.Need-returns-4
-returns-4 c = replace-done _ (c .before .before .before .before .before .before .before .before .before .before .before .before .before .before .before .pre .1) (c .before .before .before .before .before .before .before .before .copy .kept .1 .1 .1 .0) (c .before .before .copy2 .kept .1 .1 .1 .0) (c .before .before .before .before .before .before .before .before .copy .ensures) (c .before .before .before .before .before .if3 .left) (c .before .before .copy2 .ensures)
+returns-4 c = replace-moved _ (c .before .before .before .before .before .before .before .before .before .before .before .before .before .before .pre .1) (c .before .before .before .before .before .before .before .before .before .before .before .before .before .before .pre .0) (c .before .before .before .before .before .before .before .before .before .before .before .if1 .left) (c .before .before .before .before .before .before .before .before .before .if3 .left) (c .before .before .before .before .before .before .before .move-words .ensures) (c .before .before .copy-all2 .ensures) (c .before .before .copy-all2 .kept .1 .0)
 
 pub replace-spec : {M : Type 1} → statement M
 replace-spec =
@@ -86,11 +110,19 @@ replace-spec =
     same-length
     same-length-2
     returns-2
-    copy-requires
+    sub-if3
+    sub-if3-2
+    returns-3
+    add-to
+    move-words-requires
+    slice-reshare-prefix-copy-all-2
+    slice-aggregate-copy-all-2
+    mul-copy-all-2
+    sub-copy-all-2
+    part-copy-all-start-2
+    part-copy-all-end-2
+    copy-all-requires-2
+    add-result
     same-length-3
     same-length-4
-    returns-3
-    copy-requires-2
-    same-length-5
-    same-length-6
     returns-4)

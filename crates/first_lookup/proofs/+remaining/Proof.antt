@@ -1,4 +1,5 @@
 use Rattle.first_lookup.proofs.Leaving.{leaves-and, leaves-one}
+use Rattle.first_lookup.specs.First.{marks-in}
 use Rattle.cells.specs.Cells.{tag-at}
 use Rattle.words.proofs.Expressions.{at-in, at-last, at-left, at-right}
 use Prim.Native.Nat.{ℕ, _-_, _≤_, _<_}
@@ -48,7 +49,7 @@ remaining-same-length : (t : ℕ) → remaining-lts.Need-same-length (remaining-
 remaining-same-length t c = search needs
 
 remaining-returns : (t : ℕ) → remaining-lts.Need-returns (remaining-claims t) (remaining-at t) remaining.Post
-remaining-returns t c = leaves-and (c .before .before .before .before .before .before .before .before .before .before .before .before .before .before .args .marks .now) (c .before .before .before .before .before .before .before .before .before .before .before .before .before .before .args .met) (c .before .before .before .before .before .before .before .before .start .ensures) (sym (c .before .before .before .before .before .before .before .before .before .before .tag-at .ensures) ∙ c .before .before .before .before .before .before .before .before .before .if1 .taken) (c .before .before .before .before .before .before .remaining .kept .1 .1 .1 .0) (c .before .before .before .before .before .before .remaining .ensures) (c .before .before .remaining2 .ensures)
+remaining-returns t c = leaves-and (marks-in (c .before .before .before .before .before .before .before .before .before .before .before .before .before .before .args .key) (c .before .before .before .before .before .before .before .before .before .before .before .before .before .before .args .columns .now)) (c .before .before .before .before .before .before .before .before .before .before .before .before .before .before .args .met) (c .before .before .before .before .before .before .before .before .start .ensures) (sym (c .before .before .before .before .before .before .before .before .before .before .tag-at .ensures) ∙ c .before .before .before .before .before .before .before .before .before .if1 .taken) (c .before .before .before .before .before .before .remaining .kept .1 .1 .1 .0) (c .before .before .before .before .before .before .remaining .ensures) (c .before .before .remaining2 .ensures)
 
 remaining-remaining-one-requires : (t : ℕ) → remaining-lts.Need-remaining-one-requires (remaining-claims t) (remaining-at t) remaining.Post
 remaining-remaining-one-requires t c κs = c .before .before .before .before .before .before .pre .1
@@ -57,7 +58,7 @@ remaining-same-length-2 : (t : ℕ) → remaining-lts.Need-same-length-2 (remain
 remaining-same-length-2 t c = search needs
 
 remaining-returns-2 : (t : ℕ) → remaining-lts.Need-returns-2 (remaining-claims t) (remaining-at t) remaining.Post
-remaining-returns-2 t c = leaves-one (c .before .before .before .before .before .before .before .before .before .args .marks .now) (c .before .before .before .before .before .before .before .before .before .args .met) (λ z. c .before .before .before .before .if1 .left (c .before .before .before .before .before .tag-at .ensures ∙ z)) (c .before .before .remaining-one .ensures)
+remaining-returns-2 t c = leaves-one (marks-in (c .before .before .before .before .before .before .before .before .before .args .key) (c .before .before .before .before .before .before .before .before .before .args .columns .now)) (c .before .before .before .before .before .before .before .before .before .args .met) (λ z. c .before .before .before .before .if1 .left (c .before .before .before .before .before .tag-at .ensures ∙ z)) (c .before .before .remaining-one .ensures)
 
 pub +remaining-spec : {M : Type 1} → statement M
 +remaining-spec = close μ-remaining λ t. remaining-lts.spec (remaining-claims t) (remaining-at t) remaining.Post

@@ -1,4 +1,5 @@
 use Rattle.first_lookup.proofs.Finding.{one-none, one-marked, one-unmarked}
+use Rattle.first_lookup.specs.First.{marks-in}
 use borrow.Author.Needs.{needs}
 use Rattle.first_lookup.proofs.find_one.Statement.{statement}
 use Rattle.first_lookup.proofs.find_one.Tie as tie
@@ -13,16 +14,16 @@ enum-told : tie.Need-enum-told
 enum-told c = search needs
 
 returns : tie.Need-returns
-returns c = one-none (c .before .before .before .before .before .args .marks .now) (c .enum-told .given .1) (c .before .before .is-column-lookup .ensures)
+returns c = one-none (marks-in (c .before .before .before .before .before .args .key) (c .before .before .before .before .before .args .columns .now)) (c .enum-told .given .1) (c .before .before .is-column-lookup .ensures)
 
 has-index-requires : tie.Need-has-index-requires
 has-index-requires c κs = search needs
 
 returns-2 : tie.Need-returns-2
-returns-2 c = one-marked (c .before .before .before .before .before .before .before .before .args .marks .now) (c .before .before .before .found .given .1) (c .before .before .before .before .before .is-column-lookup .ensures) (c .before .has-index .ensures) (c .if1 .taken)
+returns-2 c = one-marked (marks-in (c .before .before .before .before .before .before .before .before .args .key) (c .before .before .before .before .before .before .before .before .args .columns .now)) (c .before .before .before .found .given .1) (c .before .before .before .before .before .is-column-lookup .ensures) (c .before .has-index .ensures) (c .if1 .taken)
 
 returns-3 : tie.Need-returns-3
-returns-3 c = one-unmarked (c .before .before .before .before .before .before .before .before .args .marks .now) (c .before .before .before .found .given .1) (c .before .before .before .before .before .is-column-lookup .ensures) (c .before .has-index .ensures) (c .if1 .left)
+returns-3 c = one-unmarked (marks-in (c .before .before .before .before .before .before .before .before .args .key) (c .before .before .before .before .before .before .before .before .args .columns .now)) (c .before .before .before .found .given .1) (c .before .before .before .before .before .is-column-lookup .ensures) (c .before .has-index .ensures) (c .if1 .left)
 
 pub find-one-spec : {M : Type 1} → statement M
 find-one-spec =

@@ -24,7 +24,7 @@ same-length : tie.Need-same-length
 same-length c = search needs
 
 returns : tie.Need-returns
-returns c = copied-scan (c .before .before .before .before .before .cell-at .ensures) (c .before .before .before .before .before .before .before .before .before .before .before .before .args .widths .now) (c .before .before .before .before .before .before .before .before .before .before .before .before .args .keys .now) (c .before .before .before .before .before .before .before .before .before .before .before .before .args .marks .now) (c .before .before .before .before .if1 .taken) (c .before .before .copy .ensures)
+returns c = copied-scan (c .before .before .before .before .before .cell-at .ensures) (c .before .before .before .before .before .before .before .before .before .before .before .before .args .widths .now) (c .before .before .before .before .before .before .before .before .before .before .before .before .args .keys .now) (c .before .before .before .before .before .before .before .before .before .before .before .before .args .columns .now) (c .before .before .before .before .if1 .taken) (c .before .before .copy .ensures)
 
 first-column-requires : tie.Need-first-column-requires
 first-column-requires c κs = let (h, i) = table-range (c .before .before .before .before .before .before .before .before .pre) (c .before .cell-at .ensures) (c .if1 .left) in omega arith
@@ -38,6 +38,12 @@ shared-slice-read-end c = table-range (c .before .before .before .before .before
 add-end : tie.Need-add-end
 add-end c = let (h, i) = table-range (c .before .before .before .before .before .before .before .before .before .before .pre) (c .before .before .before .cell-at .ensures) (c .before .before .if1 .left) in omega (arith, c .before .first-column .ensures)
 
+mul-from : tie.Need-mul-from
+mul-from c = let (h, i) = table-range (c .before .before .before .before .before .before .before .before .before .before .pre) (c .before .before .before .cell-at .ensures) (c .before .before .if1 .left) in omega (arith, c .before .first-column .ensures)
+
+mul-to : tie.Need-mul-to
+mul-to c = let (h, i) = table-range (c .before .before .before .before .before .before .before .before .before .before .pre) (c .before .before .before .cell-at .ensures) (c .before .before .if1 .left) in omega (arith, c .before .first-column .ensures)
+
 mul-lookup-or-scan : tie.Need-mul-lookup-or-scan
 mul-lookup-or-scan c = omega arith
 
@@ -48,19 +54,19 @@ sub-lookup-or-scan : tie.Need-sub-lookup-or-scan
 sub-lookup-or-scan c = omega arith
 
 part-lookup-or-scan-start : tie.Need-part-lookup-or-scan-start
-part-lookup-or-scan-start c = let (h, i) = table-range (c .before .before .before .before .before .before .before .before .before .before .before .before .pre) (c .before .before .before .before .before .cell-at .ensures) (c .before .before .before .before .if1 .left) in omega (arith, c .before .before .before .first-column .ensures)
+part-lookup-or-scan-start c = omega arith
 
 part-lookup-or-scan-end : tie.Need-part-lookup-or-scan-end
 part-lookup-or-scan-end c = let (h, i) = table-range (c .before .before .before .before .before .before .before .before .before .before .before .before .pre) (c .before .before .before .before .before .cell-at .ensures) (c .before .before .before .before .if1 .left) in omega (arith, c .before .before .before .first-column .ensures)
 
 lookup-or-scan-requires : tie.Need-lookup-or-scan-requires
-lookup-or-scan-requires c κs = scan-at (c .before .before .before .before .before .before .cell-at .ensures) (c .before .before .before .before .before .before .before .before .before .before .before .before .before .args .widths .now) (c .before .before .before .before .before .before .before .before .before .before .before .before .before .args .keys .now) (c .before .before .before .before .before .before .before .before .before .before .before .before .before .args .marks .now) (c .before .before .before .before .before .if1 .left) (c .before .before .before .before .first-column .ensures) refl (c .before .before .before .before .before .before .before .before .before .before .before .before .before .pre)
+lookup-or-scan-requires c κs = scan-at (c .before .before .before .before .before .before .cell-at .ensures) (c .before .before .before .before .before .before .before .before .before .before .before .before .before .args .widths .now) (c .before .before .before .before .before .before .before .before .before .before .before .before .before .args .keys .now) (c .before .before .before .before .before .before .before .before .before .before .before .before .before .args .columns .now) (c .before .before .before .before .before .if1 .left) (c .before .before .before .before .first-column .ensures) refl refl refl (c .before .before .before .before .before .before .before .before .before .before .before .before .before .pre)
 
 same-length-2 : tie.Need-same-length-2
 same-length-2 c = search needs
 
 returns-2 : tie.Need-returns-2
-returns-2 c = looked-up (c .before .before .before .before .before .before .before .before .before .cell-at .ensures) (c .before .before .before .before .before .before .before .before .before .before .before .before .before .before .before .before .args .widths .now) (c .before .before .before .before .before .before .before .before .before .before .before .before .before .before .before .before .args .keys .now) (c .before .before .before .before .before .before .before .before .before .before .before .before .before .before .before .before .args .marks .now) (c .before .before .before .before .before .before .before .before .if1 .left) (c .before .before .before .before .before .before .before .first-column .ensures) refl refl (c .before .before .lookup-or-scan .ensures)
+returns-2 c = looked-up (c .before .before .before .before .before .before .before .before .before .cell-at .ensures) (c .before .before .before .before .before .before .before .before .before .before .before .before .before .before .before .before .args .widths .now) (c .before .before .before .before .before .before .before .before .before .before .before .before .before .before .before .before .args .keys .now) (c .before .before .before .before .before .before .before .before .before .before .before .before .before .before .before .before .args .columns .now) (c .before .before .before .before .before .before .before .before .if1 .left) (c .before .before .before .before .before .before .before .first-column .ensures) refl refl refl (c .before .before .lookup-or-scan .ensures)
 
 pub lookup-in-table-spec : {M : Type 1} → statement M
 lookup-in-table-spec =
@@ -74,6 +80,8 @@ lookup-in-table-spec =
     mul-end
     shared-slice-read-end
     add-end
+    mul-from
+    mul-to
     mul-lookup-or-scan
     shared-slice-read-lookup-or-scan
     sub-lookup-or-scan

@@ -5,9 +5,8 @@ use Rattle.sql.specs.Optimizer as Optimizer
 use Rattle.sql.specs.Answer.{done, _>>=_}
 use Rattle.passes.proofs.Turns.{plan-with, runs-with, plan-next, runs-then, runs-stop, runs-end}
 use Rattle.optimizer.proofs.Skipping.{plan-there, without-lookup, without-hash}
-use Prim.Native.Nat.{ℕ, _+_, _-_, _*_, _≤_, _<_}
 use native.Mathlib.Omega.{arith}
-use mathlib.Core.Path.{_≡_, refl, sym, ap, _∙_, subst}
+use mathlib.Core.Path.{refl, _∙_}
 use borrow.Author.Tests.{not-true}
 use borrow.Author.Needs.{needs}
 use Rattle.optimizer.proofs.from_hash.Statement.{statement}
@@ -25,13 +24,13 @@ short-circuit-requires : tie.Need-short-circuit-requires
 short-circuit-requires c κs = (c .before .before .before .before .before .before .before .before .before .before .before .before .pre .0, (c .before .before .before .before .before .before .before .before .before .before .before .before .pre .1 .1, c .before .before .before .before .before .before .before .before .before .before .before .before .pre .1 .0))
 
 same-length : tie.Need-same-length
-same-length c = search needs
+same-length c = refl
 
 same-length-2 : tie.Need-same-length-2
-same-length-2 c = search needs
+same-length-2 c = c .before .before .before .before .short-circuit .kept .1 .1 .0
 
 same-length-3 : tie.Need-same-length-3
-same-length-3 c = search needs
+same-length-3 c = c .before .before .before .before .short-circuit .kept .1 .0
 
 returns : tie.Need-returns
 returns c = without-hash (c .before .before .before .before .before .before .before .before .before .has-join-predicate .ensures) (not-true _ (c .before .before .before .before .before .before .before .before .if1 .taken)) (runs-end (λ room schema q. Room.ShortCircuit room schema 0 q) _ _ _ _ (c .before .before .before .before .short-circuit .ensures))
@@ -49,22 +48,22 @@ enum-known-number : tie.Need-enum-known-number
 enum-known-number c = search needs
 
 same-length-4 : tie.Need-same-length-4
-same-length-4 c = search needs
+same-length-4 c = c .before .before .before .before .short-circuit2 .kept .1 .1 .0
 
 same-length-5 : tie.Need-same-length-5
-same-length-5 c = search needs
+same-length-5 c = c .before .before .before .before .before .before .before .before .before .before .before .before .before .hash-join .kept .1 .0
 
 same-length-6 : tie.Need-same-length-6
-same-length-6 c = search needs
+same-length-6 c = c .before .before .before .before .short-circuit2 .kept .1 .0
 
 returns-2 : tie.Need-returns-2
 returns-2 c = runs-then (λ schema text g. g .0 .tables) (λ room schema p. done (Optimizer.HashJoin schema p)) (c .before .before .before .before .before .before .before .before .before .before .before .before .before .before .before .before .before .before .before .before .before .before .before .before .before .args .x .now) (c .before .before .before .before .before .before .before .before .before .before .before .before .before .before .before .before .before .before .before .before .before .before .before .before .before .args .t) _ _ _ (c .before .before .before .before .before .before .before .before .before .n .given .1) (c .before .before .before .before .before .before .before .before .before .before .before .before .before .hash-join .ensures) (omega (arith, c .before .before .before .before .before .before .before .before .before .before .before .before .before .hash-join .kept .1 .0, c .before .before .before .before .before .before .before .before .before .before .before .before .before .before .before .before .before .before .before .before .before .before .before .before .before .pre .1 .0)) (λ schema text g. g) (λ room schema q. Room.ShortCircuit room schema 0 q >>= λ m. done m) _ _ (runs-end (λ room schema q. Room.ShortCircuit room schema 0 q) _ _ _ _ (c .before .before .before .before .short-circuit2 .ensures))
 
 same-length-7 : tie.Need-same-length-7
-same-length-7 c = search needs
+same-length-7 c = refl
 
 same-length-8 : tie.Need-same-length-8
-same-length-8 c = search needs
+same-length-8 c = c .before .before .before .before .before .hash-join .kept .1 .0
 
 returns-3 : tie.Need-returns-3
 returns-3 c = runs-stop (λ schema text g. g .0 .tables) (λ room schema p. done (Optimizer.HashJoin schema p)) (c .before .before .before .before .before .before .before .before .before .before .before .before .before .before .before .before .before .args .x .now) (c .before .before .before .before .before .before .before .before .before .before .before .before .before .before .before .before .before .args .t) _ _ _ _ (c .before .number .given .1) (c .before .before .before .before .before .hash-join .ensures) (λ room schema q. Room.ShortCircuit room schema 0 q >>= λ m. done m) _

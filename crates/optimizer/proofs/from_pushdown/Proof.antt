@@ -5,9 +5,8 @@ use Rattle.sql.specs.Optimizer as Optimizer
 use Rattle.sql.specs.Answer.{done, _>>=_}
 use Rattle.passes.proofs.Turns.{plan-with, runs-with, plan-next, runs-then, runs-stop, runs-end}
 use Rattle.optimizer.proofs.Skipping.{plan-there, without-lookup, without-hash}
-use Prim.Native.Nat.{ℕ, _+_, _-_, _*_, _≤_, _<_}
 use native.Mathlib.Omega.{arith}
-use mathlib.Core.Path.{_≡_, refl, sym, ap, _∙_, subst}
+use mathlib.Core.Path.{refl, _∙_}
 use borrow.Author.Tests.{not-true}
 use borrow.Author.Needs.{needs}
 use Rattle.optimizer.proofs.from_pushdown.Statement.{statement}
@@ -18,13 +17,13 @@ use Rattle.optimizer.proofs.from_lookup.Reads as from-lookup-reads
 use Rattle.passes.proofs.push_down_in_place.Reads as push-down-in-place-reads
 
 push-down-in-place-requires : tie.Need-push-down-in-place-requires
-push-down-in-place-requires c κs = (plan-with (λ schema text g. g .named .tables) (c .before .before .before .before .before .before .before .before .before .before .before .before .before .pre .0), c .before .before .before .before .before .before .before .before .before .before .before .before .before .pre .1)
+push-down-in-place-requires c κs = (plan-with (λ schema text g. g .named .tables) (c .before .before .before .before .before .before .before .before .before .before .before .before .pre .0), c .before .before .before .before .before .before .before .before .before .before .before .before .pre .1)
 
 enum-known-n : tie.Need-enum-known-n
 enum-known-n c = search needs
 
 from-lookup-requires : tie.Need-from-lookup-requires
-from-lookup-requires c κs = (plan-next (λ schema text g. g .named .tables) (λ room schema p. Room.FilterPushdown room schema 0 p) (c .before .before .before .before .before .before .before .before .before .before .before .before .before .before .before .before .before .before .before .before .before .before .before .before .before .before .before .before .before .args .x .now) (c .before .before .before .before .before .before .before .before .before .before .before .before .before .before .before .before .before .before .before .before .before .before .before .before .before .before .before .before .before .args .t) _ _ _ (c .before .before .before .before .before .n .given .1) (c .before .before .before .before .before .before .before .before .before .before .before .before .before .before .before .push-down-in-place .ensures) (c .before .before .before .before .before .before .before .before .before .before .before .before .before .before .before .push-down-in-place .kept .0) (c .before .before .before .before .before .before .before .before .before .before .before .before .before .before .before .before .before .before .before .before .before .before .before .before .before .before .before .before .before .pre .0), record { second = omega (arith, c .before .before .before .before .before .before .before .before .before .before .before .before .before .before .before .push-down-in-place .kept .0, c .before .before .before .before .before .before .before .before .before .before .before .before .before .before .before .push-down-in-place .kept .1 .0, c .before .before .before .before .before .before .before .before .before .before .before .before .before .before .before .before .before .before .before .before .before .before .before .before .before .before .before .before .before .pre .1 .second); third = omega (arith, c .before .before .before .before .before .before .before .before .before .before .before .before .before .before .before .push-down-in-place .kept .0, c .before .before .before .before .before .before .before .before .before .before .before .before .before .before .before .push-down-in-place .kept .1 .1 .0, c .before .before .before .before .before .before .before .before .before .before .before .before .before .before .before .before .before .before .before .before .before .before .before .before .before .before .before .before .before .pre .1 .third); fourth = omega (arith, c .before .before .before .before .before .before .before .before .before .before .before .before .before .before .before .push-down-in-place .kept .0, c .before .before .before .before .before .before .before .before .before .before .before .before .before .before .before .push-down-in-place .kept .1 .1 .1 .0, c .before .before .before .before .before .before .before .before .before .before .before .before .before .before .before .before .before .before .before .before .before .before .before .before .before .before .before .before .before .pre .1 .fourth) })
+from-lookup-requires c κs = (plan-next (λ schema text g. g .named .tables) (λ room schema p. Room.FilterPushdown room schema 0 p) (c .before .before .before .before .before .before .before .before .before .before .before .before .before .before .before .before .before .before .before .before .before .before .before .before .before .before .before .before .args .x .now) (c .before .before .before .before .before .before .before .before .before .before .before .before .before .before .before .before .before .before .before .before .before .before .before .before .before .before .before .before .args .t) _ _ _ (c .before .before .before .before .before .n .given .1) (c .before .before .before .before .before .before .before .before .before .before .before .before .before .before .before .push-down-in-place .ensures) (c .before .before .before .before .before .before .before .before .before .before .before .before .before .before .before .push-down-in-place .kept .0) (c .before .before .before .before .before .before .before .before .before .before .before .before .before .before .before .before .before .before .before .before .before .before .before .before .before .before .before .before .pre .0), record { second = omega (arith, c .before .before .before .before .before .before .before .before .before .before .before .before .before .before .before .push-down-in-place .kept .0, c .before .before .before .before .before .before .before .before .before .before .before .before .before .before .before .push-down-in-place .kept .1 .0, c .before .before .before .before .before .before .before .before .before .before .before .before .before .before .before .before .before .before .before .before .before .before .before .before .before .before .before .before .pre .1 .second); third = omega (arith, c .before .before .before .before .before .before .before .before .before .before .before .before .before .before .before .push-down-in-place .kept .0, c .before .before .before .before .before .before .before .before .before .before .before .before .before .before .before .push-down-in-place .kept .1 .1 .0, c .before .before .before .before .before .before .before .before .before .before .before .before .before .before .before .before .before .before .before .before .before .before .before .before .before .before .before .before .pre .1 .third); fourth = omega (arith, c .before .before .before .before .before .before .before .before .before .before .before .before .before .before .before .push-down-in-place .kept .0, c .before .before .before .before .before .before .before .before .before .before .before .before .before .before .before .push-down-in-place .kept .1 .1 .1 .0, c .before .before .before .before .before .before .before .before .before .before .before .before .before .before .before .before .before .before .before .before .before .before .before .before .before .before .before .before .pre .1 .fourth) })
 
 enum-known-number : tie.Need-enum-known-number
 enum-known-number c = search needs
@@ -42,7 +41,7 @@ same-length-4 : tie.Need-same-length-4
 same-length-4 c = search needs
 
 returns : tie.Need-returns
-returns c = runs-then (λ schema text g. g .named .tables) (λ room schema p. Room.FilterPushdown room schema 0 p) (c .before .before .before .before .before .before .before .before .before .before .before .before .before .before .before .before .before .before .before .before .before .before .before .before .before .before .before .before .before .before .before .before .before .before .before .before .before .before .args .x .now) (c .before .before .before .before .before .before .before .before .before .before .before .before .before .before .before .before .before .before .before .before .before .before .before .before .before .before .before .before .before .before .before .before .before .before .before .before .before .before .args .t) _ _ _ (c .before .before .before .before .before .before .before .before .before .before .before .before .before .before .n .given .1) (c .before .before .before .before .before .before .before .before .before .before .before .before .before .before .before .before .before .before .before .before .before .before .before .before .push-down-in-place .ensures) (c .before .before .before .before .before .before .before .before .before .before .before .before .before .before .before .before .before .before .before .before .before .before .before .before .push-down-in-place .kept .0) (λ schema text g. g) (λ room schema q. in-turn (from-lookup room schema) q) _ _ (c .before .before .before .before .before .before .before .before .from-lookup .ensures)
+returns c = runs-then (λ schema text g. g .named .tables) (λ room schema p. Room.FilterPushdown room schema 0 p) (c .before .before .before .before .before .before .before .before .before .before .before .before .before .before .before .before .before .before .before .before .before .before .before .before .before .before .before .before .before .before .before .before .before .before .before .before .before .args .x .now) (c .before .before .before .before .before .before .before .before .before .before .before .before .before .before .before .before .before .before .before .before .before .before .before .before .before .before .before .before .before .before .before .before .before .before .before .before .before .args .t) _ _ _ (c .before .before .before .before .before .before .before .before .before .before .before .before .before .before .n .given .1) (c .before .before .before .before .before .before .before .before .before .before .before .before .before .before .before .before .before .before .before .before .before .before .before .before .push-down-in-place .ensures) (c .before .before .before .before .before .before .before .before .before .before .before .before .before .before .before .before .before .before .before .before .before .before .before .before .push-down-in-place .kept .0) (λ schema text g. g) (λ room schema q. in-turn (from-lookup room schema) q) _ _ (c .before .before .before .before .before .before .before .before .from-lookup .ensures)
 
 same-length-5 : tie.Need-same-length-5
 same-length-5 c = search needs
@@ -57,7 +56,7 @@ same-length-8 : tie.Need-same-length-8
 same-length-8 c = search needs
 
 returns-2 : tie.Need-returns-2
-returns-2 c = runs-stop (λ schema text g. g .named .tables) (λ room schema p. Room.FilterPushdown room schema 0 p) (c .before .before .before .before .before .before .before .before .before .before .before .before .before .before .before .before .before .before .before .before .before .before .before .before .before .args .x .now) (c .before .before .before .before .before .before .before .before .before .before .before .before .before .before .before .before .before .before .before .before .before .before .before .before .before .args .t) _ _ _ _ (c .before .number .given .1) (c .before .before .before .before .before .before .before .before .before .before .before .push-down-in-place .ensures) (λ room schema q. in-turn (from-lookup room schema) q) _
+returns-2 c = runs-stop (λ schema text g. g .named .tables) (λ room schema p. Room.FilterPushdown room schema 0 p) (c .before .before .before .before .before .before .before .before .before .before .before .before .before .before .before .before .before .before .before .before .before .before .before .before .args .x .now) (c .before .before .before .before .before .before .before .before .before .before .before .before .before .before .before .before .before .before .before .before .before .before .before .before .args .t) _ _ _ _ (c .before .number .given .1) (c .before .before .before .before .before .before .before .before .before .before .before .push-down-in-place .ensures) (λ room schema q. in-turn (from-lookup room schema) q) _
 
 pub from-pushdown-spec : {M : Type 1} → statement M
 from-pushdown-spec =

@@ -1,97 +1,99 @@
-use Rattle.sheet_passes.proofs.Accepting.{tables-fit, columns-fit}
-use Rattle.layout.proofs.Laws.{columns-are}
-use lib.ListN.{length-replicate}
-use mathlib.Core.Bool.{Bool, false}
-use Prim.Native.Nat.{ℕ, _+_, _-_, _*_, _≤_, _<_}
+use Rattle.sheet_passes.proofs.Accepting.{tables-fit, all-recorded}
 use native.Mathlib.Omega.{arith}
-use mathlib.Core.Path.{_≡_, refl, sym, ap, _∙_, subst}
-use mathlib.Core.List.{List, [], _∷_, _++_}
-use lib.ListN.{length, take, drop}
+use mathlib.Core.Path.{sym}
+use lib.Seq.{length-take-le}
 use borrow.Author.Needs.{needs}
 use Rattle.sheet_passes.proofs.run.Statement.{statement}
 use Rattle.sheet_passes.proofs.run.Tie as tie
 use Rattle.sheet_passes.proofs.run.Reads as reads
 use Rattle.sheet_passes.proofs.run.Lts as lts
-use Rattle.layout.proofs.parts_of.Reads as parts-of-reads
-use Rattle.sheet_passes.proofs.run_in.Reads as run-in-reads
+use Rattle.schema.proofs.column_records.Reads as column-records-reads
+use Rattle.schema.proofs.primary_keys.Reads as primary-keys-reads
+use Rattle.schema.proofs.table_names.Reads as table-names-reads
+use Rattle.schema.proofs.widths.Reads as widths-reads
+use Rattle.sheet_passes.proofs.run_with.Reads as run-with-reads
 
-parts-of-requires : tie.Need-parts-of-requires
-parts-of-requires c κs = tables-fit (c .before .before .before .before .before .before .args .s .now) (λ i. omega (arith, c .before .before .before .before .before .shared-slice-known .given i)) (c .before .before .before .before .before .before .pre .1) .0
+slice-aggregate-widths : tie.Need-slice-aggregate-widths
+slice-aggregate-widths c = search needs
 
-slice-aggregate-run-in : tie.Need-slice-aggregate-run-in
-slice-aggregate-run-in c = search needs
+widths-requires : tie.Need-widths-requires
+widths-requires c κs = tables-fit (c .before .before .before .before .before .before .before .args .s .now) (λ i. omega (arith, c .before .before .before .before .before .before .shared-slice-known .given i)) (c .before .before .before .before .before .before .before .pre .1)
 
-slice-aggregate-run-in-2 : tie.Need-slice-aggregate-run-in-2
-slice-aggregate-run-in-2 c = search needs
+slice-aggregate-table-names : tie.Need-slice-aggregate-table-names
+slice-aggregate-table-names c = search needs
 
-run-in-requires : tie.Need-run-in-requires
-run-in-requires c κs = (c .before .before .before .before .before .before .before .before .before .before .before .before .before .before .before .before .pre .0, (c .before .before .before .before .before .before .before .before .before .before .before .before .before .before .before .before .pre .1, (omega (arith, columns-are (c .before .before .before .before .before .before .before .before .before .parts-of .ensures), c .before .before .before .before .before .before .before .if1 .taken, length-replicate {A = ℕ} 32 0), omega (arith, columns-are (c .before .before .before .before .before .before .before .before .before .parts-of .ensures), c .before .before .before .before .before .before .before .if1 .taken, length-replicate {A = Bool} 32 false))))
+table-names-requires : tie.Need-table-names-requires
+table-names-requires c κs = tables-fit (c .before .before .before .before .before .before .before .before .before .before .args .s .now) (λ i. omega (arith, c .before .before .before .before .before .before .before .before .before .shared-slice-known .given i)) (c .before .before .before .before .before .before .before .before .before .before .pre .1)
+
+slice-aggregate-primary-keys : tie.Need-slice-aggregate-primary-keys
+slice-aggregate-primary-keys c = search needs
+
+primary-keys-requires : tie.Need-primary-keys-requires
+primary-keys-requires c κs = tables-fit (c .before .before .before .before .before .before .before .before .before .before .before .before .before .args .s .now) (λ i. omega (arith, c .before .before .before .before .before .before .before .before .before .before .before .before .shared-slice-known .given i)) (c .before .before .before .before .before .before .before .before .before .before .before .before .before .pre .1)
+
+column-records-requires : tie.Need-column-records-requires
+column-records-requires c κs = all-recorded (c .before .before .before .before .before .before .before .before .before .before .before .before .before .before .before .args .s .now) (λ i. omega (arith, c .before .before .before .before .before .before .before .before .before .before .before .before .before .before .shared-slice-known .given i)) (c .before .before .before .before .before .before .before .before .before .before .before .before .before .before .before .pre .1) .whole
+
+array-share-prefix-widths : tie.Need-array-share-prefix-widths
+array-share-prefix-widths c = c .before .before .before .before .before .before .before .before .before .before .before .before .before .widths2 .ensures .inside
+
+slice-aggregate-run-with : tie.Need-slice-aggregate-run-with
+slice-aggregate-run-with c = sym (length-take-le _ _ (c .before .before .before .before .before .before .before .before .before .before .before .before .before .before .widths2 .ensures .inside))
+
+array-share-prefix-names : tie.Need-array-share-prefix-names
+array-share-prefix-names c = c .before .before .before .before .before .before .before .before .before .before .before .table-names .ensures .inside
+
+slice-aggregate-run-with-2 : tie.Need-slice-aggregate-run-with-2
+slice-aggregate-run-with-2 c = sym (length-take-le _ _ (c .before .before .before .before .before .before .before .before .before .before .before .before .table-names .ensures .inside))
+
+array-share-prefix-keys : tie.Need-array-share-prefix-keys
+array-share-prefix-keys c = c .before .before .before .before .before .before .before .before .before .primary-keys .ensures .inside
+
+slice-aggregate-run-with-3 : tie.Need-slice-aggregate-run-with-3
+slice-aggregate-run-with-3 c = sym (length-take-le _ _ (c .before .before .before .before .before .before .before .before .before .before .primary-keys .ensures .inside))
+
+run-with-requires : tie.Need-run-with-requires
+run-with-requires c κs = (c .before .before .before .before .before .before .before .before .before .before .before .before .before .before .before .before .before .before .before .before .before .before .before .before .pre .0, (c .before .before .before .before .before .before .before .before .before .before .before .before .before .before .before .before .before .before .before .before .before .before .before .before .pre .1, record { widths-are = c .before .before .before .before .before .before .before .before .before .before .before .before .before .before .before .before .widths2 .ensures .is; names-are = c .before .before .before .before .before .before .before .before .before .before .before .before .before .table-names .ensures .is; columns-are = c .before .before .before .before .before .before .before .before .column-records .ensures; keys-are = c .before .before .before .before .before .before .before .before .before .before .primary-keys .ensures .is }))
 
 same-length : tie.Need-same-length
-same-length c = c .before .before .before .before .before .before .before .before .before .before .before .before .run-in .kept .1 .1 .1 .0
+same-length c = c .before .before .before .before .before .before .before .before .before .before .run-with .kept .1 .1 .1 .0
 
 same-length-2 : tie.Need-same-length-2
-same-length-2 c = c .before .before .before .before .before .before .before .before .before .before .before .before .run-in .kept .1 .1 .1 .1 .0
+same-length-2 c = c .before .before .before .before .before .before .before .before .before .before .run-with .kept .1 .1 .1 .1 .0
 
 same-length-3 : tie.Need-same-length-3
-same-length-3 c = c .before .before .before .before .before .before .before .before .before .before .before .before .run-in .kept .1 .1 .1 .1 .1 .0
+same-length-3 c = c .before .before .before .before .before .before .before .before .before .before .run-with .kept .1 .1 .1 .1 .1 .0
 
 same-length-4 : tie.Need-same-length-4
-same-length-4 c = c .before .before .before .before .before .before .before .before .before .before .before .before .run-in .kept .1 .1 .1 .1 .1 .1 .0
+same-length-4 c = c .before .before .before .before .before .before .before .before .before .before .run-with .kept .1 .1 .1 .1 .1 .1 .0
 
 same-length-5 : tie.Need-same-length-5
-same-length-5 c = c .before .before .before .before .before .before .before .before .before .before .before .before .run-in .kept .1 .1 .1 .1 .1 .1 .1 .0
+same-length-5 c = c .before .before .before .before .before .before .before .before .before .before .run-with .kept .1 .1 .1 .1 .1 .1 .1 .0
 
 returns : tie.Need-returns
-returns c = c .before .before .before .before .before .before .before .before .before .before .before .before .run-in .ensures
-
-slice-aggregate-run-in-3 : tie.Need-slice-aggregate-run-in-3
-slice-aggregate-run-in-3 c = search needs
-
-slice-aggregate-run-in-4 : tie.Need-slice-aggregate-run-in-4
-slice-aggregate-run-in-4 c = search needs
-
-run-in-requires-2 : tie.Need-run-in-requires-2
-run-in-requires-2 c κs = (c .before .before .before .before .before .before .before .before .before .before .before .before .before .before .before .before .pre .0, (c .before .before .before .before .before .before .before .before .before .before .before .before .before .before .before .before .pre .1, (omega (arith, columns-fit (c .before .before .before .before .before .before .before .before .before .before .before .before .before .before .before .before .args .s .now) (λ i. omega (arith, c .before .before .before .before .before .before .before .before .before .before .before .before .before .before .before .shared-slice-known .given i)) (c .before .before .before .before .before .before .before .before .before .before .before .before .before .before .before .before .pre .1), length-replicate {A = ℕ} 256 0), omega (arith, columns-fit (c .before .before .before .before .before .before .before .before .before .before .before .before .before .before .before .before .args .s .now) (λ i. omega (arith, c .before .before .before .before .before .before .before .before .before .before .before .before .before .before .before .shared-slice-known .given i)) (c .before .before .before .before .before .before .before .before .before .before .before .before .before .before .before .before .pre .1), length-replicate {A = Bool} 256 false))))
-
-same-length-6 : tie.Need-same-length-6
-same-length-6 c = c .before .before .before .before .before .before .before .before .before .before .before .before .run-in2 .kept .1 .1 .1 .0
-
-same-length-7 : tie.Need-same-length-7
-same-length-7 c = c .before .before .before .before .before .before .before .before .before .before .before .before .run-in2 .kept .1 .1 .1 .1 .0
-
-same-length-8 : tie.Need-same-length-8
-same-length-8 c = c .before .before .before .before .before .before .before .before .before .before .before .before .run-in2 .kept .1 .1 .1 .1 .1 .0
-
-same-length-9 : tie.Need-same-length-9
-same-length-9 c = c .before .before .before .before .before .before .before .before .before .before .before .before .run-in2 .kept .1 .1 .1 .1 .1 .1 .0
-
-same-length-10 : tie.Need-same-length-10
-same-length-10 c = c .before .before .before .before .before .before .before .before .before .before .before .before .run-in2 .kept .1 .1 .1 .1 .1 .1 .1 .0
-
-returns-2 : tie.Need-returns-2
-returns-2 c = c .before .before .before .before .before .before .before .before .before .before .before .before .run-in2 .ensures
+returns c = c .before .before .before .before .before .before .before .before .before .before .run-with .ensures
 
 pub run-spec : {M : Type 1} → statement M
 run-spec =
     tie.close
     (tie.spec
-    parts-of-requires
-    slice-aggregate-run-in
-    slice-aggregate-run-in-2
-    run-in-requires
+    slice-aggregate-widths
+    widths-requires
+    slice-aggregate-table-names
+    table-names-requires
+    slice-aggregate-primary-keys
+    primary-keys-requires
+    column-records-requires
+    array-share-prefix-widths
+    slice-aggregate-run-with
+    array-share-prefix-names
+    slice-aggregate-run-with-2
+    array-share-prefix-keys
+    slice-aggregate-run-with-3
+    run-with-requires
     same-length
     same-length-2
     same-length-3
     same-length-4
     same-length-5
-    returns
-    slice-aggregate-run-in-3
-    slice-aggregate-run-in-4
-    run-in-requires-2
-    same-length-6
-    same-length-7
-    same-length-8
-    same-length-9
-    same-length-10
-    returns-2)
+    returns)
