@@ -78,7 +78,7 @@ pub record Placed (x′ : List ℕ) (r : ℕ) (pre post w : List ℕ) : Type 0 w
   pub fits : length pre + length (w ++ post) ≤ length x′ → (r ≡ length pre + length (w ++ post)) × (take r x′ ≡ pre ++ (w ++ post))
   pub full : length x′ < length pre + length (w ++ post) → length x′ < r
 
--- x after its words from `end` up to t were copied to where they stand from word `to` on. The words before that place, and those behind it, are as before.
+-- x after its words from `end` up to t were copied to word `to` and those behind it. All other words are as before.
 abbrev pub moved : List ℕ → ℕ → ℕ → ℕ → List ℕ
 moved x end t to = paste x to (drop end x) (t - end)
 

@@ -17,7 +17,8 @@ use Rattle.first_lookup.specs.declared.FoundLookup.{FoundLookup}
 use Rattle.first_lookup.specs.declared.FoundLookup.the-variants.{At, None}
 use Rattle.first_lookup.specs.declared.Rest.{Rest}
 
--- What the records of a table's columns, of 16 bytes each, say of every column: it is the primary key, or has an index.
+-- Whether a lookup can go by each column that has a record, of 16 bytes: it is the primary key, which is column `key`, or byte 5 of its record says that it has an
+-- index.
 unfoldable pub marks-in : (key : ℕ) → List ℕ → List Bool
 marks-in key records = map (λ i. eqb i key || eqb (byte records (i * 16 + 5)) 1) (up-to 0 (length records / 16))
 
@@ -29,8 +30,8 @@ abbrev pub is-marked : List Bool → Option ℕ → Bool
 is-marked marks none = false
 is-marked marks (some c) = getD marks c false
 
--- ---- the first lookup of a marked column. By the marks alone, so that it speaks of those that no table has, too: a table's key is marked. Of a table's marks it
--- is find-lookup (proofs/Finding, first-is).
+-- ---- the first lookup of a marked column, whatever the marks are, also where no table has such marks (in a table's, at least the key is marked). Of a table's marks
+-- it is find-lookup (proofs/Finding, first-is).
 
 abbrev pub with-mark : List Bool → Option ℕ → Option ℕ
 with-mark marks column = cond (is-marked marks column) column none

@@ -19,7 +19,7 @@ pub struct Rest {
     pub met: bool,
 }
 
-// Whether column c is marked: it is the key, or byte 5 of its record, of 16 bytes, says that it has an index.
+// Whether column c is marked: it has a record, of 16 bytes, and is the key, or byte 5 of the record says that it has an index.
 fn has_index(key: usize, columns: &[u8], c: usize) -> bool
     ensures { λ r. ⌜ r ≡ getD (marks-in key (now (columns .entry))) c false ⌝ }
 {

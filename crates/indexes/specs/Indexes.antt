@@ -1,5 +1,5 @@
 -- What the code is lent of a schema to find lookups by: the number of columns of each table (crate nodes), the column of each table's primary key, and
--- the records of all columns, table by table, which say whether a lookup can go by them.
+-- the records of all columns, table by table, which say whether they have an index.
 use Prim.Native.Nat.{ℕ, suc, _+_, _*_, _≤_, _<_}
 use mathlib.Core.Bool.{Bool, _||_}
 use mathlib.Core.Path.{_≡_}

@@ -77,13 +77,13 @@ pub record IsColumn (x k : Column) : Type 0 where
   pub kind-small : k .kind < 256
   pub index-small : k .index < 256
 
--- What `column-ok` asks of the column record that starts at byte i, but that it is in some table's range.
+-- What `column-ok` asks of the column record that starts at byte i, but that it is in some table's range; the text has so many bytes.
 abbrev pub column-fields-ok : (s : List ℕ) (i text : ℕ) → Bool
 column-fields-ok s i text =
     inside text (word s i)
     && (ltb (byte s (i + 4)) 4 && (ltb (byte s (i + 5)) 2 && (eqb (half s (i + 6)) 0 && (eqb (word s (i + 8)) 0 && eqb (word s (i + 12)) 0))))
 
--- The lowest record behind the tables that breaks its layout.
+-- The lowest record behind the tables that breaks its layout, by its number among the records, tables counted first.
 abbrev pub bad-column : List ℕ → Option ℕ
 bad-column s = first-failing (record-ok s) (table-count s) (column-count s)
 

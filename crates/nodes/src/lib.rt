@@ -1,4 +1,4 @@
-// Nodes in their working form: where the sources and the parts of a node stand, what columns it emits and how they are labelled.
+// Nodes in their working form: where the sources and the parts of a node stand, and what columns it emits.
 ghost use mathlib.Core.Logic.{_⊎_};
 ghost use mathlib.Core.Path.{_≡_};
 ghost use Prim.Native.Nat.{ℕ, _+_, _-_, _≤_, _<_, max};

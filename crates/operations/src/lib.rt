@@ -1,4 +1,4 @@
-// The operations that hand out a sheet, one pass and all five, on any bytes. Most plans are small, and buffers take time to clear: the smallest that hold a
+// The operations that hand out a sheet, one pass and all five, on any bytes. Most plans are small, and buffers take time to clear: small ones that hold the
 // plan are tried first, and what is refused there for want of room, by 14, is run again in larger ones, up to document 01's 2,048 cells.
 use checker::Answer;
 use optimizer::Chosen;
@@ -9,8 +9,7 @@ ghost use Rattle.optimizer.specs.Choices.{Choice};
 ghost use Rattle.hand_out.specs.HandOut.{outcome};
 ghost use Rattle.operations.specs.Rooms.{FitsIn, RunsIn};
 
-// Buffers for 16 cells. Each size is three to four times the one before and has a function of its own, so that a small plan has a small frame: each page of a
-// frame is touched when the function is entered.
+// Buffers for 16 cells. Each size has a function of its own, so that a small plan has a small frame: each page of a frame is touched when the function is entered.
 fn in_16(s: &[u8], c: Chosen, count: usize, out: &mut [u8]) -> Answer
     requires { ⌜ Choice c ⌝ }
     requires { ⌜ FitsIn 16 (now s) ⌝ }
@@ -76,7 +75,7 @@ fn in_2048(s: &[u8], c: Chosen, count: usize, out: &mut [u8]) -> Answer
     sheet_passes::run(s, c, count, &mut x, &mut y, &mut z, &mut w, out)
 }
 
-// The chosen passes on a sheet that is accepted, of at most so many cells: in small buffers that hold it, and where these have no room in the next
+// The chosen passes on a sheet that is accepted, of at most so many cells: in small buffers that hold it, and where these have no room in larger
 // ones. It calls itself for these, and so keeps a small frame: LLVM puts no callee with a large frame into a function that calls itself.
 fn run(s: &[u8], c: Chosen, count: usize, cells: usize, out: &mut [u8]) -> Answer
     requires { ⌜ Choice c ⌝ }

@@ -15,7 +15,7 @@ use Rattle.sheet.specs.Cell.{Cell}
 use Rattle.sheet.specs.Content.{Content, cell-of, constant-as-cell, unary-tag, binary-tag, labelled, target-as-cell, bit0, constant-cell, column-cell, unary-cell, binary-cell, label-cell, item-cell, key-cell, target-cell, agg-cell, row-cell, aggregate-cell, filter-cell, limit-cell, offset-cell, order-cell, projection-cell, remap-cell}
 use Rattle.sheet.specs.Cells.{all-cells, alone, expression-cells, optional-cells, constant-cells, label-cells, target-cells, item-cells, key-cells, agg-cells, row-cells, leaf-cells, other-cells, over-cells, join-cells, cells}
 use Rattle.words.proofs.Tags.{leaf-tag, over-tag, join-tag}
-use Rattle.predicates.specs.Predicates.{leaf-filter, has-scan-filter, join-predicate, has-join-predicate, flagged, any-flagged}
+use Rattle.predicates.specs.Predicates.{leaf-has-filter, has-scan-filter, join-has-predicate, has-join-predicate, flagged, any-flagged}
 
 or-assoc : (a b c : Bool) → (a || b) || c ≡ a || (b || c)
 or-assoc true b c = refl
@@ -154,7 +154,7 @@ module _ where
   abbrev none-below : (n : ℕ) → n < 50 → eqb n 62 ≡ false
   none-below = above 62 (omega arith)
 
-  leaf-62 : (l : Leaf) → any-flagged 62 (leaf-cells l) ≡ leaf-filter l
+  leaf-62 : (l : Leaf) → any-flagged 62 (leaf-cells l) ≡ leaf-has-filter l
   unfolding leaf-cells
   leaf-62 (scan t none none) = refl
   leaf-62 (scan t (some r) none) = refl
@@ -206,7 +206,7 @@ module _ where
   leaf-56 (nothing ls) = behind 56 not-below (all-cells label-cells ls) _ (in-labels 56 not-below ls) refl
   leaf-56 (values rs) = behind 56 not-below (all-cells row-cells rs) _ (in-rows 56 not-below rs) refl
 
-  join-56 : (outer : Bool) (j : Join) → any-flagged 56 (join-cells outer j) ≡ join-predicate j
+  join-56 : (outer : Bool) (j : Join) → any-flagged 56 (join-cells outer j) ≡ join-has-predicate j
   unfolding join-cells
   join-56 true (nested-loop none) = refl
   join-56 false (nested-loop none) = refl
@@ -219,4 +219,4 @@ module _ where
   join-predicate-told (leaf l) = leaf-56 l
   join-predicate-told (over o n) = over-source 56 not-below (cells n) (over-cells o) (has-join-predicate n) (join-predicate-told n) (in-over 56 not-below over-56 o)
   join-predicate-told (join outer j l r) =
-      over-sources 56 not-below (cells l) (cells r) (join-cells outer j) (has-join-predicate l) (has-join-predicate r) (join-predicate j) (join-predicate-told l) (join-predicate-told r) (join-56 outer j)
+      over-sources 56 not-below (cells l) (cells r) (join-cells outer j) (has-join-predicate l) (has-join-predicate r) (join-has-predicate j) (join-predicate-told l) (join-predicate-told r) (join-56 outer j)

@@ -1,4 +1,4 @@
--- What IndexLookup and HashJoin leave as it is: IndexLookup rewrites Scans with a filter alone, and HashJoin joins with a predicate.
+-- What IndexLookup and HashJoin leave as it is: IndexLookup rewrites only Scans that have a filter, and HashJoin only joins that have a predicate.
 use Prim.Native.Nat.{ℕ, _+_, _≤_}
 use native.Mathlib.Omega.{arith}
 use mathlib.Core.Bool.{Bool, true, false, _||_}
@@ -12,7 +12,7 @@ use Rattle.sql.specs.Answer.{Answer, done, _>>=_}
 use Rattle.sql.specs.Optimizer.{HashJoin}
 use Rattle.sql.specs.Optimizer
 use Rattle.sql.specs.Room
-use Rattle.predicates.specs.Predicates.{leaf-filter, has-scan-filter, join-predicate, has-join-predicate}
+use Rattle.predicates.specs.Predicates.{leaf-has-filter, has-scan-filter, join-has-predicate, has-join-predicate}
 
 clash : {A : Type 0} → _≡_ {A = Bool} true false → A
 clash e = absurd (let z : _≡_ {A = ℕ} 0 1 = cc in omega arith)
@@ -29,7 +29,7 @@ module _ (room : ℕ) (schema : Schema) where
   fits : (rest : ℕ) (p : Node) → rest + node-size p ≤ room → Room.step room schema rest p ≡ done p
   fits rest p h = ap (λ (b : Bool). Room.if-room b p) (le-leb (rest + node-size p) room h)
 
-  leaf-idle : (rest : ℕ) (l : Leaf) → leaf-filter l ≡ false → rest + leaf-size l ≤ room → Room.index-lookup room schema rest l ≡ done (leaf l)
+  leaf-idle : (rest : ℕ) (l : Leaf) → leaf-has-filter l ≡ false → rest + leaf-size l ≤ room → Room.index-lookup room schema rest l ≡ done (leaf l)
   unfolding Room.index-lookup Optimizer.index-lookup
   leaf-idle rest (scan table alias none) e h = fits rest (leaf (scan table alias none)) h
   leaf-idle rest (scan table alias (some predicate)) e h = clash e
@@ -49,7 +49,7 @@ module _ (room : ℕ) (schema : Schema) where
       ∙ ap (λ (a : Answer Node). a >>= λ r. done (join outer j left r))
       (lookup-idle (rest + (node-size left + join-size j)) right (right-false (has-scan-filter left) (has-scan-filter right) e) (omega arith))
 
-join-idle : (schema : Schema) (outer : Bool) (j : Join) → join-predicate j ≡ false → (left right left′ right′ : Node) → left′ ≡ left → right′ ≡ right
+join-idle : (schema : Schema) (outer : Bool) (j : Join) → join-has-predicate j ≡ false → (left right left′ right′ : Node) → left′ ≡ left → right′ ≡ right
     → join outer (Optimizer.hash-join (Rattle.sql.specs.Plan.columns schema left) j) left′ right′ ≡ join outer j left right
 join-idle schema outer (nested-loop none) e left right left′ right′ l r = cc
 join-idle schema outer (nested-loop (some predicate)) e left right left′ right′ l r = clash e
@@ -60,7 +60,7 @@ pub hash-idle : (schema : Schema) (p : Node) → has-join-predicate p ≡ false 
 hash-idle schema (leaf l) e = refl
 hash-idle schema (over o source) e = ap (over o) (hash-idle schema source e)
 hash-idle schema (join outer j left right) e =
-    let f = right-false (has-join-predicate left) (has-join-predicate right || join-predicate j) e in
-    join-idle schema outer j (right-false (has-join-predicate right) (join-predicate j) f) left right (HashJoin schema left) (HashJoin schema right)
-    (hash-idle schema left (left-false (has-join-predicate left) (has-join-predicate right || join-predicate j) e))
-    (hash-idle schema right (left-false (has-join-predicate right) (join-predicate j) f))
+    let f = right-false (has-join-predicate left) (has-join-predicate right || join-has-predicate j) e in
+    join-idle schema outer j (right-false (has-join-predicate right) (join-has-predicate j) f) left right (HashJoin schema left) (HashJoin schema right)
+    (hash-idle schema left (left-false (has-join-predicate left) (has-join-predicate right || join-has-predicate j) e))
+    (hash-idle schema right (left-false (has-join-predicate right) (join-has-predicate j) f))

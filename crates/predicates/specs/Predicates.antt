@@ -14,25 +14,25 @@ use Rattle.encode.specs.Encode.{cells-in}
 
 -- ---- plans
 
-abbrev pub leaf-filter : Leaf → Bool
-leaf-filter (scan table alias filter) = present filter
-leaf-filter (lookup access table alias constants) = false
-leaf-filter (nothing labels) = false
-leaf-filter (values rows) = false
+abbrev pub leaf-has-filter : Leaf → Bool
+leaf-has-filter (scan table alias filter) = present filter
+leaf-has-filter (lookup access table alias constants) = false
+leaf-has-filter (nothing labels) = false
+leaf-has-filter (values rows) = false
 
 abbrev pub has-scan-filter : Node → Bool
-has-scan-filter (leaf l) = leaf-filter l
+has-scan-filter (leaf l) = leaf-has-filter l
 has-scan-filter (over o source) = has-scan-filter source
 has-scan-filter (join outer j left right) = has-scan-filter left || has-scan-filter right
 
-abbrev pub join-predicate : Join → Bool
-join-predicate (nested-loop predicate) = present predicate
-join-predicate (hash left-column right-column) = false
+abbrev pub join-has-predicate : Join → Bool
+join-has-predicate (nested-loop predicate) = present predicate
+join-has-predicate (hash left-column right-column) = false
 
 abbrev pub has-join-predicate : Node → Bool
 has-join-predicate (leaf l) = false
 has-join-predicate (over o source) = has-join-predicate source
-has-join-predicate (join outer j left right) = has-join-predicate left || (has-join-predicate right || join-predicate j)
+has-join-predicate (join outer j left right) = has-join-predicate left || (has-join-predicate right || join-has-predicate j)
 
 -- ---- cells
 

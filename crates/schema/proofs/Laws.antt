@@ -28,7 +28,7 @@ use Rattle.labels.specs.Names.{Names, column-names}
 use Rattle.indexes.specs.Indexes.{marks-from}
 use Rattle.schema.specs.declared.Kind.{Kind}
 use Rattle.schema.specs.declared.Kind.the-variants.{Boolean, Integer, Float, String}
-use Rattle.schema.specs.Schema.{Recorded, as-kind, number, Filled, mark}
+use Rattle.schema.specs.Schema.{Recorded, as-kind, number, Filled}
 use Rattle.schema.proofs.Fill.{map-same, map-map, up-to-append, up-to-more}
 
 -- An accepted sheet has its records in order.
@@ -86,6 +86,10 @@ names-more [] t = append-nil (map (λ (c : Column). c .name) (t .columns))
 names-more (u ∷ ts) t =
     ap (λ (l : List ℕ). map (λ (c : Column). c .name) (u .columns) ++ l) (names-more ts t)
     ∙ sym (append-assoc (map (λ (c : Column). c .name) (u .columns)) (column-names ts) (map (λ (c : Column). c .name) (t .columns)))
+
+-- Column i of a table is the key, or has an index. The table's column records start at byte `from`.
+abbrev pub mark : List ℕ → (from key i : ℕ) → Bool
+mark s from key i = eqb i key || eqb (byte s (from + i * 16 + 5)) 1
 
 -- the marks of a table's columns from column i on, by their records
 pub marks-are : (s : List ℕ) (first key i n : ℕ) → marks-from key i (map (column s) (up-to (first + i) n)) ≡ map (mark s (columns-at s + first * 16) key) (up-to i n)

@@ -15,9 +15,9 @@ use Rattle.sheet.specs.Check.{column, table}
 use Rattle.layout.proofs.Laws.{laid}
 use Rattle.first_lookup.specs.First.{marks-in}
 use Rattle.indexes.specs.Indexes.{marks-from, table-marks}
-use Rattle.schema.specs.Schema.{Recorded, mark, column-records}
+use Rattle.schema.specs.Schema.{Recorded, column-records}
 use Rattle.schema.proofs.Fill.{map-within}
-use Rattle.schema.proofs.Laws.{marks-are, known}
+use Rattle.schema.proofs.Laws.{mark, marks-are, known}
 
 -- a byte of a part of a part
 byte-in : (s : List ℕ) (a n b m j : ℕ) → j < m → b + j < n → byte (take m (drop b (take n (drop a s)))) j ≡ byte s (a + (b + j))

@@ -39,7 +39,3 @@ number String = 3
 pub record Filled {A : Type 0} (values : List A) (r : ℕ) (d : List A) : Type 0 where
   pub is : take r d ≡ values
   pub inside : r ≤ length d
-
--- Column i of a table is the key, or has an index. The table's column records start at byte `from`.
-abbrev pub mark : List ℕ → (from key i : ℕ) → Bool
-mark s from key i = eqb i key || eqb (byte s (from + i * 16 + 5)) 1

@@ -34,7 +34,7 @@ pub fn column_records<'a>(s: &'a [u8]) -> &'a [u8]
     &s[from..to]
 }
 
-// ---- one record
+// ---- one record, by schema.rs's fields: for who asks for one. The passes are lent slices.
 
 // The kinds of columns, the Rust's DataType.
 pub enum Kind {

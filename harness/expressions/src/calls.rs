@@ -73,9 +73,11 @@ unsafe extern "C" {
     fn expression_push_right(
         s: In, n: usize, lo: usize, hi: usize, g: In, k: usize, a: usize, b: usize, d: Out, m: usize, at: usize, width: usize, by: usize,
     ) -> usize;
-    fn expression_find_lookup(s: In, n: usize, lo: usize, hi: usize, marks: *const bool, k: usize) -> Found;
+    fn expression_find_lookup(s: In, n: usize, lo: usize, hi: usize, key: usize, columns: *const u8, k: usize) -> Found;
     #[allow(clippy::too_many_arguments)]
-    fn expression_remaining(s: In, n: usize, lo: usize, hi: usize, d: Out, m: usize, from: usize, at: usize, marks: *const bool, k: usize) -> Rest;
+    fn expression_remaining(
+        s: In, n: usize, lo: usize, hi: usize, d: Out, m: usize, from: usize, at: usize, key: usize, columns: *const u8, k: usize,
+    ) -> Rest;
 }
 
 fn written(end: usize, d: &[usize]) -> Written {
@@ -159,14 +161,23 @@ pub fn push_right(s: &[usize], g: &[usize], d: &mut [usize], width: usize) -> Wr
     written(end, d)
 }
 
+/// The records of a table's columns, as a sheet has them, but for the mark of an index all 0: the functions read no more of them.
+pub fn records(index: &[bool]) -> Vec<u8> {
+    let mut records = vec![0; 16 * index.len()];
+    for (i, &mark) in index.iter().enumerate() {
+        records[16 * i + 5] = u8::from(mark);
+    }
+    records
+}
+
 /// Where the conjunct stands, and its column.
-pub fn find_lookup(s: &[usize], marks: &[bool]) -> Option<(usize, usize, usize)> {
-    let r = unsafe { expression_find_lookup(s.as_ptr(), s.len(), 0, s.len(), marks.as_ptr(), marks.len()) };
+pub fn find_lookup(s: &[usize], key: usize, columns: &[u8]) -> Option<(usize, usize, usize)> {
+    let r = unsafe { expression_find_lookup(s.as_ptr(), s.len(), 0, s.len(), key, columns.as_ptr(), columns.len()) };
     r.found.then_some((r.lo, r.hi, r.column))
 }
 
 /// Where the remaining conjuncts end, and whether a lookup was met.
-pub fn remaining(s: &[usize], d: &mut [usize], marks: &[bool]) -> (Written, bool) {
-    let r = unsafe { expression_remaining(s.as_ptr(), s.len(), 0, s.len(), d.as_mut_ptr(), d.len(), 0, 0, marks.as_ptr(), marks.len()) };
+pub fn remaining(s: &[usize], d: &mut [usize], key: usize, columns: &[u8]) -> (Written, bool) {
+    let r = unsafe { expression_remaining(s.as_ptr(), s.len(), 0, s.len(), d.as_mut_ptr(), d.len(), 0, 0, key, columns.as_ptr(), columns.len()) };
     (written(r.at, d), r.met)
 }

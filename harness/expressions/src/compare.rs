@@ -119,11 +119,11 @@ fn after_cnf(r: &mut Answers, cnf: &[usize], a: &Asked, g: &mut [usize], d: &mut
     r.pushed[0] = taken(d, pushed);
     let end = calls::for_right(cnf, d, a.left, a.left);
     r.conjuncts[1] = taken(d, end);
-    let marks: Vec<bool> = (0..WIDTH).map(|c| c == a.key || a.index[c]).collect();
-    r.index = calls::find_lookup(cnf, &marks).map(|(lo, hi, column)| {
+    let columns = calls::records(&a.index);
+    r.index = calls::find_lookup(cnf, a.key, &columns).map(|(lo, hi, column)| {
         let end = calls::into_column_values(cnf, lo, hi, d).expect("room");
         let values = words::first_references(&d[..end]);
-        let (end, met) = calls::remaining(cnf, d, &marks);
+        let (end, met) = calls::remaining(cnf, d, a.key, &columns);
         assert!(met);
         (column, values, words::first_references(&d[..end.expect("room")]))
     });

@@ -31,9 +31,9 @@ fn ignore<T>(_: T) {}
 
 type Call = fn(&[usize], &mut [usize]);
 
-fn marks() -> [bool; 8] {
-    [false; 8]
-}
+/// The records of eight columns without an index, and a key that the expressions below don't look up, so that every conjunct is asked.
+const COLUMNS: [u8; 16 * 8] = [0; 16 * 8];
+const KEY: usize = 7;
 
 const CALLS: [(&str, Call); 12] = [
     ("fold_expression", |s, d| ignore(calls::fold(TEXT, s, d))),
@@ -46,8 +46,8 @@ const CALLS: [(&str, Call); 12] = [
     ("is_column_lookup", |s, _| ignore(calls::is_column_lookup(s))),
     ("into_column_values", |s, d| ignore(calls::into_column_values(s, 0, s.len(), d))),
     ("push_left", |s, d| ignore(calls::push_left(s, &[], d, 4))),
-    ("find_lookup", |s, _| ignore(calls::find_lookup(s, &marks()))),
-    ("remaining", |s, d| ignore(calls::remaining(s, d, &marks()))),
+    ("find_lookup", |s, _| ignore(calls::find_lookup(s, KEY, &COLUMNS))),
+    ("remaining", |s, d| ignore(calls::remaining(s, d, KEY, &COLUMNS))),
 ];
 
 /// Expressions of n cells, with their depth.

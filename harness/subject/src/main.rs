@@ -14,7 +14,7 @@
 //!     subject rows N SEED              the six plans that the library hands out, read over random tables
 //!     subject bench-all                all five passes beside the compiled Rust's `optimize`
 //!     subject bench-random N SEED      the same on N random accepted sheets: how the ratios are spread
-//!     subject bench-least              plans on which the reading and writing of all bytes alone takes longer than the Rust's `optimize`
+//!     subject bench-least              plans on which a copy of the sheet alone takes longer than the Rust's `optimize`
 mod bench;
 mod operations;
 
