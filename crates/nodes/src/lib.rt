@@ -92,7 +92,7 @@ pub fn own_trees(s: &[usize], lo: usize, hi: usize) -> usize
 }
 
 // Where the own words of the node from lo to hi start: those of its parts, between its sources and its cell. A Remap's Targets, of which there can be many,
-// are one cell each.
+// are one cell each. Of an Aggregate's expressions many can be.
 pub fn own_start(s: &[usize], lo: usize, hi: usize) -> usize
     requires { ⌜ NodeAt (now s) lo hi ⌝ }
     ensures { λ r. ⌜ OwnStart (now (s .entry)) lo hi r ⌝ }
@@ -101,10 +101,14 @@ pub fn own_start(s: &[usize], lo: usize, hi: usize) -> usize
         return lo;
     }
     let n = own_trees(s, lo, hi);
-    if cells::tag_at(s, hi) == 61 {
+    let tag = cells::tag_at(s, hi);
+    if tag == 61 {
         return hi - 6 - 6 * n;
     }
-    parts_start(s, n, hi - 6)
+    if tag == 50 {
+        return parts_start(s, n, hi - 6);
+    }
+    trees_start(s, n, hi - 6)
 }
 
 // The number of columns of table t; a table that there isn't has none.
