@@ -1,2 +1,3 @@
 pub mod Predicates
 pub mod Idle
+pub mod Examples
