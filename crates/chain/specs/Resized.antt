@@ -10,7 +10,7 @@ use lib.Dec.{leb}
 unfoldable pub new-size : ℕ → ℕ → ℕ → ℕ
 new-size tag new old = cond (leb 50 tag) new old
 
--- The words of cells, of which n words of their node stand before the first.
+-- The words of cells with new sizes, where n words of their node stand before the first.
 unfoldable pub resized : ℕ → List ℕ → List ℕ
 resized n [] = []
 resized n (t ∷ []) = t ∷ []

@@ -47,7 +47,7 @@ fn put_label(d: &mut [usize], at: usize, l: labels::Label) -> usize
 }
 
 // The labels of the node from lo to hi, column by column. An Aggregate, a Projection or a Remap says no more labels than it has parts (a Remap at most
-// 256), and looking for one passes the parts and the nodes below: no more than n² short steps in a plan of n cells, 18 ms in the worst one of 2,048.
+// 256), and looking for one passes the parts and the nodes below: no more than n² short steps in a plan of n cells.
 fn each_label(
     s: &[usize],
     lo: usize,
@@ -117,7 +117,7 @@ pub fn write_labels(
     let m = nodes::own_start(s, lo, hi);
     if n == 1 {
         let t = cells::tag_at(s, hi);
-        if labels::own_columns(t) {
+        if labels::says_columns(t) {
             return each_label(s, lo, hi, d, at, widths, names, columns);
         }
         return write_labels(s, lo, m, d, at, widths, names, columns);

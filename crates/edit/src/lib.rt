@@ -44,14 +44,7 @@ fn move_words(x: &mut [usize], end: usize, t: usize, to: usize)
 
 // The first n words of the scratch y take the place of the words of x from `from` up to t - tail. Where they are as many as those were, the words behind
 // them stay where they are; otherwise these are moved within x, once.
-pub fn replace(
-    x: &mut [usize],
-    y: &mut [usize],
-    n: usize,
-    t: usize,
-    from: usize,
-    tail: usize,
-) -> usize
+fn replace(x: &mut [usize], y: &mut [usize], n: usize, t: usize, from: usize, tail: usize) -> usize
     requires { ⌜ (from + tail ≤ t) × (t ≤ length (now x)) ⌝ }
     ensures { λ r. ⌜ Replaces (now (x .entry)) (now (y .entry)) n t from tail r (now (x .exit)) ⌝ }
 {

@@ -13,7 +13,7 @@ ghost use Rattle.nodes.specs.Columns.{ColumnsAt, ColumnCount};
 ghost use Rattle.labels.specs.Names.{first-column, NamesAt, ColumnName, TableLabel, qualifier-text, ColumnLabel};
 ghost use Rattle.labels.specs.Labels.{Labelled, ExpressionRoute, ExpressionEnds, ItemRoute, ItemEnds, RemapRoute, TargetsUp, Routes, alias-if, is-aliased, says-columns, LeafOrigin, AskedCount, CountedAt, LeftColumns, Steps, Traces};
 
-// The label of a column: none, a name, or a name with its table's; names are text references.
+// The label of a column: none, a name, or a name behind its qualifier, a table's name or alias; all are text references.
 pub enum Label {
     Unlabelled,
     Unqualified(usize),
@@ -187,8 +187,8 @@ fn leaf_origin(s: &[usize], lo: usize, hi: usize, i: usize) -> Origin
     Origin::Column(c.a, aliased(c.tag, c.flag), c.b, i)
 }
 
-// Whether a node with this tag and one source has columns of its own.
-pub fn own_columns(tag: usize) -> bool
+// Whether a node with this tag says its columns itself: an Aggregate, a Projection, a Remap, a Scan or a Values. A leaf of another tag isn't asked.
+pub fn says_columns(tag: usize) -> bool
     ensures { λ r. ⌜ r ≡ says-columns tag ⌝ }
 {
     if tag == 50 {
@@ -203,7 +203,7 @@ fn columns_for(s: &[usize], lo: usize, hi: usize, widths: &[usize]) -> usize
     requires { ⌜ ColumnsAt (now widths) (now s) lo hi ⌝ }
     ensures { λ r. ⌜ AskedCount (now (widths .entry)) (now (s .entry)) lo hi r ⌝ }
 {
-    if own_columns(cells::tag_at(s, hi)) {
+    if says_columns(cells::tag_at(s, hi)) {
         return 0;
     }
     nodes::columns(s, lo, hi, widths)
@@ -225,7 +225,7 @@ fn next_over(
     ensures { λ r. ⌜ Steps (now (widths .entry)) (now (s .entry)) lo hi i w r ⌝ }
 {
     let t = cells::tag_at(s, hi);
-    if own_columns(t) {
+    if says_columns(t) {
         let route = own_route(s, lo, hi, m, i);
         match route {
             Route::Ends(l) => {

@@ -14,7 +14,7 @@ map-operands f (column c) = column c
 map-operands f (unary o x) = unary o (f x)
 map-operands f (binary o l r) = binary o (f l) (f r)
 
--- `transform` with `before`: a cell is rewritten, then the operands of what it became are gone into. The number bounds how deep the calls go; that
+-- `transform` with `before`: a cell is rewritten, then the operands of what it became are gone into. The number bounds how deep the calls go; as
 -- many as the expression has cells are enough, in each of the rewrites below.
 abbrev pub transform : (Expression → Expression) → ℕ → Expression → Expression
 transform before zero e = e

@@ -1,4 +1,4 @@
--- plan.rs and optimizer.rs to the letter: the passes are the Rust's `Node::transform` with one rewrite of a node, before or after its sources, and
+-- plan.rs and optimizer.rs to the letter: the passes but ConstantFolding are the Rust's `Node::transform` with one rewrite of a node, before or after its sources, and
 -- push_filters and maybe_push_filter call each other. The bounds on the recursion in crate sql are high enough.
 use Prim.Native.Nat.{ℕ, zero, suc, _+_, _≤_}
 use mathlib.Core.Path.{_≡_, refl, sym, ap, ap₂, _∙_}

@@ -24,7 +24,7 @@ lookup-cell k key c n =
     cond (eqb c key) (record { tag = 54; flag = k .flag / 2; a = k .a; b = k .b; c = n })
     (record { tag = 53; flag = k .flag / 2; a = k .a; b = k .b; c = c + 65536 * n })
 
--- Some Scan with a filter stands in x from lo up to hi, and its filter's conjunctive normal form in the first m words of w.
+-- Some Scan with a filter stands in x from lo up to hi, and an expression in the first m words of w, which callers make the filter's conjunctive normal form.
 pub record ScanAt (x : List ℕ) (lo hi : ℕ) (y w : List ℕ) (m key : ℕ) (columns : List ℕ) : Type 0 where
   pub schema : Schema
   pub table : ℕ

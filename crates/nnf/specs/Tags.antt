@@ -1,4 +1,4 @@
--- Whether a cell of an expression has a tag: the Rust's `contains` of a test of operators.
+-- Whether a cell of an expression has a tag: the Rust's `contains` of a test of one cell.
 use Prim.Native.Nat.{ℕ}
 use mathlib.Core.Bool.{Bool, _||_}
 use mathlib.Core.Path.{_≡_}

@@ -1,4 +1,4 @@
--- A node's own cells are those of its expressions and parts: they stand between its last source and the node's cell, and none of them is a node. Here: what
+-- A node's own cells are those of its expressions and parts: they stand between the node before it, if any, and the node's cell, and none of them is a node. Here: what
 -- refusal 9 asks of a node, and its column count, told by its own cells, its cell and its sources' column counts.
 use Prim.Native.Nat.{ℕ, suc, _+_, _-_, _%_, max}
 use mathlib.Core.Bool.{Bool, true, false, not, _&&_, _||_, cond}

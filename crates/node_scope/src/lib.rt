@@ -112,7 +112,7 @@ fn targets_end(s: &[u8], from: usize, to: usize) -> usize
 // ---- a node, whose own cells are those from `own` up to its cell `at`
 
 // The number of sources of a node: two of 52 HashJoin and 56 NestedLoopJoin; none of 53 IndexLookup, 54 KeyLookup, 57 Nothing, 62 Scan and 63 Values; one
-// of any other.
+// of any other node; and none of a tag from 64 on, which no node has.
 pub fn sources(tag: usize) -> usize
     requires { ⌜ 50 ≤ tag ⌝ }
     ensures { λ r. ⌜ (r ≡ sources tag) × (r ≤ 2) ⌝ }

@@ -23,7 +23,7 @@ pub fn trees_start(s: &[usize], n: usize, hi: usize) -> usize
     at
 }
 
-// The same of a node's parts, of which many can be constants or columns: one cell each, as the tag tells. A branch by the tag is foreseen, where the walk
+// The same of a node's parts, of which many can be constants or columns: one cell each, as the tag tells. A branch by the tag is predicted, where the walk
 // would wait for the size.
 fn parts_start(s: &[usize], n: usize, hi: usize) -> usize
     requires { ⌜ PartsAt (now s) n hi ⌝ }
@@ -92,7 +92,7 @@ pub fn own_trees(s: &[usize], lo: usize, hi: usize) -> usize
 }
 
 // Where the own words of the node from lo to hi start: those of its parts, between its sources and its cell. A Remap's Targets, of which there can be many,
-// are one cell each. Of an Aggregate's expressions many can be.
+// are one cell each, and of an Aggregate's expressions many can be.
 pub fn own_start(s: &[usize], lo: usize, hi: usize) -> usize
     requires { ⌜ NodeAt (now s) lo hi ⌝ }
     ensures { λ r. ⌜ OwnStart (now (s .entry)) lo hi r ⌝ }

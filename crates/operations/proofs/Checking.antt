@@ -17,7 +17,7 @@ use Rattle.sound.specs.Refusals.{Refused-by, From-to, plan-refused}
 use Rattle.checker.specs.Checker.{numbers}
 use Rattle.checker.specs.declared.Answer as Code
 use Rattle.hand_out.specs.HandOut.{outcome}
-use Rattle.operations.specs.Rooms.{FitsIn}
+use Rattle.sheet_passes.specs.Rooms.{FitsIn}
 
 outcome-of : (a : Code.Answer) (out : List ℕ) (m : Numbers) → numbers a ≡ m → outcome a out ≡ record { numbers = m; output = out }
 outcome-of a out m e = ap (λ (z : Numbers). record { numbers = z; output = out }) e

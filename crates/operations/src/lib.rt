@@ -6,8 +6,9 @@ ghost use mathlib.Core.Path.{_≡_};
 ghost use Prim.Native.Nat.{_≤_};
 ghost use Rattle.sheet.specs.Operations.{one-pass, all-five};
 ghost use Rattle.optimizer.specs.Choices.{Choice};
+ghost use Rattle.optimizer.specs.declared.Chosen.the-variants.{All};
 ghost use Rattle.hand_out.specs.HandOut.{outcome};
-ghost use Rattle.operations.specs.Rooms.{FitsIn, RunsIn};
+ghost use Rattle.sheet_passes.specs.Rooms.{FitsIn, RunsIn};
 
 // Buffers for 16 cells. Each size has a function of its own, so that a small plan has a small frame: each page of a frame is touched when the function is entered.
 fn in_16(s: &[u8], c: Chosen, count: usize, out: &mut [u8]) -> Answer
@@ -130,6 +131,21 @@ pub fn pass(s: &[u8], k: usize, out: &mut [u8]) -> Answer
     run(s, Chosen::One(k), a.columns, a.cells, out)
 }
 
+// All five on a sheet that is accepted, of so many cells. A plan without a predicate needs fewer buffers, and a small one smaller ones (crate predicate_free). With
+// 16 cells or fewer, looking at each cell takes as long as that saves.
+fn run_all(s: &[u8], count: usize, cells: usize, out: &mut [u8]) -> Answer
+    requires { ⌜ FitsIn cells (now s) × (cells ≤ 2048) ⌝ }
+    ensures { λ a. ⌜ RunsIn 2048 (now (s .entry)) All count (now (out .entry)) a (now (out .exit)) ⌝ }
+{
+    if cells <= 16 {
+        return run(s, Chosen::All, count, cells, out);
+    }
+    if predicates::has_predicate(s) {
+        return run(s, Chosen::All, count, cells, out);
+    }
+    predicate_free::optimize(s, count, cells, out)
+}
+
 // All five in turn.
 pub fn optimize(s: &[u8], out: &mut [u8]) -> Answer
     ensures { λ a. ⌜ outcome a (now (out .exit)) ≡ all-five (now (s .entry)) (now (out .entry)) ⌝ }
@@ -138,5 +154,5 @@ pub fn optimize(s: &[u8], out: &mut [u8]) -> Answer
     if a.number != 0 {
         return a;
     }
-    run(s, Chosen::All, a.columns, a.cells, out)
+    run_all(s, a.columns, a.cells, out)
 }

@@ -28,11 +28,11 @@ module _ {schema : Schema} {text : List ℕ} {tables : ℕ} {x : List ℕ} {t ro
   here : NodeHere x 0 t p
   here = top-here x t p (at .words-are) (at .inside)
 
-  in-room : 0 + node-size p ≤ room
+  pub in-room : 0 + node-size p ≤ room
   in-room = omega (arith, at .all, at .inside, ap length (at .words-are), length-take-le t x (at .inside), words-long p)
 
 -- What one function leaves of a plan, another leaves that is the same on it.
-runs-same : {G : Schema → List ℕ → Type 0} (f g : ℕ → Schema → Node → Answer Node) {x : List ℕ} {t : ℕ} {d : List ℕ} {r : Folded}
+pub runs-same : {G : Schema → List ℕ → Type 0} (f g : ℕ → Schema → Node → Answer Node) {x : List ℕ} {t : ℕ} {d : List ℕ} {r : Folded}
     → ((schema : Schema) (text : List ℕ) (tables room : ℕ) (p : Node) → Plan-in schema text tables x t room p → f room schema p ≡ g room schema p)
     → Runs G f x t d r → Runs G g x t d r
 runs-same f g {d = d} {r = r} e h schema text tables room p given at =

@@ -1,4 +1,4 @@
--- The cells of a plan tell whether it has a Scan with a filter, or a join with a predicate.
+-- The cells of a plan tell what its nodes are: a test that no part's cell passes is passed by one of a plan's cells if and only if a node's own cell passes it.
 use Prim.Native.Nat.{ℕ, _<_}
 use native.Mathlib.Omega.{arith}
 use mathlib.Core.Bool.{Bool, true, false, _&&_, _||_}
@@ -12,10 +12,9 @@ use Rattle.value.specs.Value.{Value, Truth, False, Unknown, True, truth, datum,
 use Rattle.sql.specs.Expression.{Expression, constant, column, unary, binary, Unary, Not, function, IsNull, IsNaN, Identity, Negate, Binary, logical, And, Or, Equal, GreaterThan, LessThan, Add, Divide}
 use Rattle.sql.specs.Plan.{Label, unlabelled, unqualified, qualified, by-key, by-index, Leaf, scan, lookup, nothing, values, limit, offset, order, projection, remap, aggregate, Over, filter, other, Join, nested-loop, hash, Node, leaf, over, join}
 use Rattle.sheet.specs.Cell.{Cell}
-use Rattle.sheet.specs.Content.{Content, cell-of, constant-as-cell, unary-tag, binary-tag, labelled, target-as-cell, bit0, constant-cell, column-cell, unary-cell, binary-cell, label-cell, item-cell, key-cell, target-cell, agg-cell, row-cell, aggregate-cell, filter-cell, limit-cell, offset-cell, order-cell, projection-cell, remap-cell}
-use Rattle.sheet.specs.Cells.{all-cells, alone, expression-cells, optional-cells, constant-cells, label-cells, target-cells, item-cells, key-cells, agg-cells, row-cells, leaf-cells, other-cells, over-cells, join-cells, cells}
-use Rattle.words.proofs.Tags.{leaf-tag, over-tag, join-tag}
-use Rattle.predicates.specs.Predicates.{leaf-has-filter, has-scan-filter, join-has-predicate, has-join-predicate, flagged, any-flagged}
+use Rattle.sheet.specs.Content.{Content, cell-of, constant-as-cell, unary-tag, binary-tag, labelled, target-as-cell, bit0, constant-cell, column-cell, unary-cell, binary-cell, label-cell, item-cell, key-cell, target-cell, agg-cell, row-cell, aggregate-cell, filter-cell, limit-cell, offset-cell, order-cell, projection-cell, remap-cell, scan-cell, nothing-cell, values-cell, nested-loop-join-cell, hash-join-cell}
+use Rattle.sheet.specs.Cells.{all-cells, alone, present, lookup-content, expression-cells, optional-cells, constant-cells, label-cells, target-cells, item-cells, key-cells, agg-cells, row-cells, leaf-cells, other-cells, over-cells, join-cells, cells}
+use Rattle.predicates.specs.Predicates.{leaf-has-filter, has-scan-filter, join-has-predicate, has-join-predicate, is-filter, has-predicate, any-cell, flagged, predicated}
 
 or-assoc : (a b c : Bool) → (a || b) || c ≡ a || (b || c)
 or-assoc true b c = refl
@@ -60,29 +59,50 @@ target-low : (i : Option ℕ) → target-as-cell i .tag < 50
 target-low none = omega arith
 target-low (some i) = omega arith
 
--- ---- for a tag that no part has
+-- ---- a node's own cell, which stands behind its parts
 
-module _ (tag : ℕ) (high : (n : ℕ) → n < 50 → eqb n tag ≡ false) where
-  any-append : (u v : List Cell) → any-flagged tag (u ++ v) ≡ any-flagged tag u || any-flagged tag v
+abbrev leaf-own : Leaf → Content
+leaf-own (scan t al f) = scan-cell (present f) t al
+leaf-own (lookup a t al vs) = lookup-content a t al (length vs)
+leaf-own (nothing ls) = nothing-cell (length ls)
+leaf-own (values rs) = values-cell (length rs)
+
+abbrev over-own : Over → Content
+over-own (filter e) = filter-cell
+over-own (other (limit n)) = limit-cell n
+over-own (other (offset n)) = offset-cell n
+over-own (other (order ks)) = order-cell (length ks)
+over-own (other (projection is)) = projection-cell (length is)
+over-own (other (remap ts)) = remap-cell (length ts)
+over-own (other (aggregate es gs)) = aggregate-cell (length es) (length gs)
+
+abbrev join-own : Bool → Join → Content
+join-own outer (nested-loop p) = nested-loop-join-cell (present p) outer
+join-own outer (hash l r) = hash-join-cell outer l r
+
+-- ---- a test that no part's cell passes
+
+module _ (test : Cell → Bool) (no-part : (k : Cell) → k .tag < 50 → test k ≡ false) where
+  any-append : (u v : List Cell) → any-cell test (u ++ v) ≡ any-cell test u || any-cell test v
   any-append [] v = refl
-  any-append (c ∷ u) v = ap (λ (b : Bool). flagged tag c || b) (any-append u v) ∙ sym (or-assoc (flagged tag c) (any-flagged tag u) (any-flagged tag v))
+  any-append (c ∷ u) v = ap (λ (b : Bool). test c || b) (any-append u v) ∙ sym (or-assoc (test c) (any-cell test u) (any-cell test v))
 
   -- behind what has none
-  behind : (u v : List Cell) {b : Bool} → any-flagged tag u ≡ false → any-flagged tag v ≡ b → any-flagged tag (u ++ v) ≡ b
-  behind u v h k = any-append u v ∙ ap (λ (b : Bool). b || any-flagged tag v) h ∙ k
+  behind : (u v : List Cell) {b : Bool} → any-cell test u ≡ false → any-cell test v ≡ b → any-cell test (u ++ v) ≡ b
+  behind u v h k = any-append u v ∙ ap (λ (b : Bool). b || any-cell test v) h ∙ k
 
-  -- a cell alone, with another tag
-  another : (k : Content) → eqb (cell-of k .tag) tag ≡ false → any-flagged tag (alone k) ≡ false
-  another k h = or-false (flagged tag (cell-of k)) ∙ ap (λ (b : Bool). b && bit0 (cell-of k)) h
+  -- a cell alone
+  itself : (k : Content) → any-cell test (alone k) ≡ test (cell-of k)
+  itself k = or-false (test (cell-of k))
 
-  low : (k : Content) → cell-of k .tag < 50 → any-flagged tag (alone k) ≡ false
-  low k h = another k (high (cell-of k .tag) h)
+  low : (k : Content) → cell-of k .tag < 50 → any-cell test (alone k) ≡ false
+  low k h = itself k ∙ no-part (cell-of k) h
 
-  none-all : {A : Type 0} (f : A → List Cell) → ((x : A) → any-flagged tag (f x) ≡ false) → (xs : List A) → any-flagged tag (all-cells f xs) ≡ false
+  none-all : {A : Type 0} (f : A → List Cell) → ((x : A) → any-cell test (f x) ≡ false) → (xs : List A) → any-cell test (all-cells f xs) ≡ false
   none-all f h [] = refl
   none-all f h (x ∷ xs) = behind (f x) (all-cells f xs) (h x) (none-all f h xs)
 
-  in-expression : (e : Expression) → any-flagged tag (expression-cells e) ≡ false
+  in-expression : (e : Expression) → any-cell test (expression-cells e) ≡ false
   unfolding expression-cells
   in-expression (constant v) = low (constant-cell v) (constant-low v)
   in-expression (column i) = low (column-cell i) (omega arith)
@@ -90,58 +110,93 @@ module _ (tag : ℕ) (high : (n : ℕ) → n < 50 → eqb n tag ≡ false) where
   in-expression (binary o l r) =
       behind (expression-cells l) _ (in-expression l) (behind (expression-cells r) _ (in-expression r) (low (binary-cell o) (binary-low o)))
 
-  in-expressions : (es : List Expression) → any-flagged tag (all-cells expression-cells es) ≡ false
+  in-expressions : (es : List Expression) → any-cell test (all-cells expression-cells es) ≡ false
   in-expressions = none-all expression-cells in-expression
 
-  in-optional : (e : Option Expression) → any-flagged tag (optional-cells e) ≡ false
+  in-optional : (e : Option Expression) → any-cell test (optional-cells e) ≡ false
   in-optional none = refl
   in-optional (some e) = in-expression e
 
-  in-over : ((o : Over) → eqb (over-tag o) tag ≡ false) → (o : Over) → any-flagged tag (over-cells o) ≡ false
+  -- what stands behind an expression, in a part
+  in-part : (e : Expression) (k : Content) → cell-of k .tag < 50 → any-cell test (expression-cells e ++ alone k) ≡ false
+  in-part e k h = behind (expression-cells e) _ (in-expression e) (low k h)
+
+  in-row : (es : List Expression) → any-cell test (row-cells es) ≡ false
+  in-row es = behind (all-cells expression-cells es) _ (in-expressions es) (low (row-cell (length es)) (omega arith))
+
+  in-leaf : (l : Leaf) → any-cell test (leaf-cells l) ≡ test (cell-of (leaf-own l))
+  unfolding leaf-cells
+  in-leaf (scan t al f) = behind (optional-cells f) _ (in-optional f) (itself (leaf-own (scan t al f)))
+  in-leaf (lookup a t al vs) =
+      behind (all-cells constant-cells vs) _ (none-all constant-cells (λ v. low (constant-cell v) (constant-low v)) vs) (itself (leaf-own (lookup a t al vs)))
+  in-leaf (nothing ls) =
+      behind (all-cells label-cells ls) _ (none-all label-cells (λ l. low (label-cell l) (labelled-low 40 (omega arith) l)) ls) (itself (leaf-own (nothing ls)))
+  in-leaf (values rs) = behind (all-cells row-cells rs) _ (none-all row-cells in-row rs) (itself (leaf-own (values rs)))
+
+  in-over : (o : Over) → any-cell test (over-cells o) ≡ test (cell-of (over-own o))
   unfolding over-cells other-cells
-  in-over h (filter e) = behind (expression-cells e) _ (in-expression e) (another filter-cell (h (filter e)))
-  in-over h (other (limit n)) = another (limit-cell n) (h (other (limit n)))
-  in-over h (other (offset n)) = another (offset-cell n) (h (other (offset n)))
-  in-over h (other (order ks)) =
-      behind (all-cells key-cells ks) _
-      (none-all key-cells (λ k. behind (expression-cells (k .0)) _ (in-expression (k .0)) (low (key-cell (k .1)) (omega arith))) ks)
-      (another (order-cell (length ks)) (h (other (order ks))))
-  in-over h (other (projection is)) =
-      behind (all-cells item-cells is) _
-      (none-all item-cells (λ i. behind (expression-cells (i .0)) _ (in-expression (i .0)) (low (item-cell (i .1)) (labelled-low 41 (omega arith) (i .1)))) is)
-      (another (projection-cell (length is)) (h (other (projection is))))
-  in-over h (other (remap ts)) =
-      behind (all-cells target-cells ts) _ (none-all target-cells (λ t. low (target-cell t) (target-low t)) ts) (another (remap-cell (length ts)) (h (other (remap ts))))
-  in-over h (other (aggregate es gs)) =
+  in-over (filter e) = behind (expression-cells e) _ (in-expression e) (itself (over-own (filter e)))
+  in-over (other (limit n)) = itself (over-own (other (limit n)))
+  in-over (other (offset n)) = itself (over-own (other (offset n)))
+  in-over (other (order ks)) =
+      behind (all-cells key-cells ks) _ (none-all key-cells (λ k. in-part (k .0) (key-cell (k .1)) (omega arith)) ks) (itself (over-own (other (order ks))))
+  in-over (other (projection is)) =
+      behind (all-cells item-cells is) _ (none-all item-cells (λ i. in-part (i .0) (item-cell (i .1)) (labelled-low 41 (omega arith) (i .1))) is)
+      (itself (over-own (other (projection is))))
+  in-over (other (remap ts)) =
+      behind (all-cells target-cells ts) _ (none-all target-cells (λ t. low (target-cell t) (target-low t)) ts) (itself (over-own (other (remap ts))))
+  in-over (other (aggregate es gs)) =
       behind (all-cells expression-cells es) _ (in-expressions es)
-      (behind (all-cells agg-cells gs) _
-      (none-all agg-cells (λ g. behind (expression-cells (g .1)) _ (in-expression (g .1)) (low (agg-cell (g .0)) (omega arith))) gs)
-      (another (aggregate-cell (length es) (length gs)) (h (other (aggregate es gs)))))
+      (behind (all-cells agg-cells gs) _ (none-all agg-cells (λ g. in-part (g .1) (agg-cell (g .0)) (omega arith)) gs)
+      (itself (over-own (other (aggregate es gs)))))
 
-  in-constants : (vs : List Value) → any-flagged tag (all-cells constant-cells vs) ≡ false
-  in-constants = none-all constant-cells (λ v. low (constant-cell v) (constant-low v))
+  in-join : (outer : Bool) (j : Join) → any-cell test (join-cells outer j) ≡ test (cell-of (join-own outer j))
+  unfolding join-cells
+  in-join outer (nested-loop p) = behind (optional-cells p) _ (in-optional p) (itself (join-own outer (nested-loop p)))
+  in-join outer (hash l r) = itself (join-own outer (hash l r))
 
-  in-labels : (ls : List Label) → any-flagged tag (all-cells label-cells ls) ≡ false
-  in-labels = none-all label-cells (λ l. low (label-cell l) (labelled-low 40 (omega arith) l))
-
-  in-rows : (rs : List (List Expression)) → any-flagged tag (all-cells row-cells rs) ≡ false
-  in-rows = none-all row-cells (λ es. behind (all-cells expression-cells es) _ (in-expressions es) (low (row-cell (length es)) (omega arith)))
-
-  -- a node over one source
-  over-source : (u v : List Cell) (b : Bool) → any-flagged tag u ≡ b → any-flagged tag v ≡ false → any-flagged tag (u ++ v) ≡ b
-  over-source u v b h k = any-append u v ∙ ap (λ (c : Bool). any-flagged tag u || c) k ∙ or-false (any-flagged tag u) ∙ h
-
-  -- a node over two
-  over-sources : (u v w : List Cell) (a b c : Bool) → any-flagged tag u ≡ a → any-flagged tag v ≡ b → any-flagged tag w ≡ c
-      → any-flagged tag (u ++ (v ++ w)) ≡ a || (b || c)
-  over-sources u v w a b c h j k = any-append u (v ++ w) ∙ ap (λ (d : Bool). any-flagged tag u || d) (any-append v w) ∙ cc
+  -- A property of plans that is found in a source, or in what the node's own cell says, is told by the cells.
+  told : (P : Node → Bool) → ((l : Leaf) → test (cell-of (leaf-own l)) ≡ P (leaf l))
+      → ((o : Over) (n : Node) → P n || test (cell-of (over-own o)) ≡ P (over o n))
+      → ((outer : Bool) (j : Join) (l r : Node) → P l || (P r || test (cell-of (join-own outer j))) ≡ P (join outer j l r))
+      → (p : Node) → any-cell test (cells p) ≡ P p
+  unfolding cells
+  told P f g h (leaf l) = in-leaf l ∙ f l
+  told P f g h (over o n) =
+      any-append (cells n) (over-cells o) ∙ ap (λ (b : Bool). b || any-cell test (over-cells o)) (told P f g h n) ∙ ap (λ (b : Bool). P n || b) (in-over o) ∙ g o n
+  told P f g h (join outer j l r) =
+      any-append (cells l) (cells r ++ join-cells outer j)
+      ∙ ap (λ (b : Bool). any-cell test (cells l) || b) (any-append (cells r) (join-cells outer j))
+      ∙ both (told P f g h l) (told P f g h r) (in-join outer j)
+      ∙ h outer j l r
+    where
+      both : {a b c a′ b′ c′ : Bool} → a ≡ a′ → b ≡ b′ → c ≡ c′ → a || (b || c) ≡ a′ || (b′ || c′)
+      both x y z = cc
 
 -- ---- 62 Scan
 
-above : (t : ℕ) → 50 < t → (n : ℕ) → n < 50 → eqb n t ≡ false
-above t h n k = ne-eqb n t (λ e. omega arith)
+no-part-is : (tag : ℕ) → 50 < tag → (k : Cell) → k .tag < 50 → eqb (k .tag) tag ≡ false
+no-part-is tag h k l = ne-eqb (k .tag) tag (λ e. omega arith)
 
-over-62 : (o : Over) → eqb (over-tag o) 62 ≡ false
+no-part-flagged : (tag : ℕ) → 50 < tag → (k : Cell) → k .tag < 50 → flagged tag k ≡ false
+no-part-flagged tag h k l = ap (λ (b : Bool). b && bit0 k) (no-part-is tag h k l)
+
+scan-flagged : (l : Leaf) → flagged 62 (cell-of (leaf-own l)) ≡ leaf-has-filter l
+scan-flagged (scan t none none) = refl
+scan-flagged (scan t none (some e)) = refl
+scan-flagged (scan t (some r) none) = refl
+scan-flagged (scan t (some r) (some e)) = refl
+scan-flagged (lookup by-key t none vs) = refl
+scan-flagged (lookup by-key t (some r) vs) = refl
+scan-flagged (lookup (by-index i) t none vs) = refl
+scan-flagged (lookup (by-index i) t (some r) vs) = refl
+scan-flagged (nothing ls) = refl
+scan-flagged (values rs) = refl
+
+over-unflagged : (tag : ℕ) → ((o : Over) → eqb (cell-of (over-own o) .tag) tag ≡ false) → (o : Over) (b : Bool) → b || flagged tag (cell-of (over-own o)) ≡ b
+over-unflagged tag h o b = ap (λ (c : Bool). b || (c && bit0 (cell-of (over-own o)))) (h o) ∙ or-false b
+
+over-62 : (o : Over) → eqb (cell-of (over-own o) .tag) 62 ≡ false
 over-62 (filter e) = refl
 over-62 (other (limit n)) = refl
 over-62 (other (offset n)) = refl
@@ -150,39 +205,28 @@ over-62 (other (projection is)) = refl
 over-62 (other (remap ts)) = refl
 over-62 (other (aggregate es gs)) = refl
 
-module _ where
-  abbrev none-below : (n : ℕ) → n < 50 → eqb n 62 ≡ false
-  none-below = above 62 (omega arith)
+join-62 : (outer : Bool) (j : Join) (a b : Bool) → a || (b || flagged 62 (cell-of (join-own outer j))) ≡ a || b
+join-62 outer (nested-loop p) a b = ap (λ (c : Bool). a || c) (or-false b)
+join-62 outer (hash l r) a b = ap (λ (c : Bool). a || c) (or-false b)
 
-  leaf-62 : (l : Leaf) → any-flagged 62 (leaf-cells l) ≡ leaf-has-filter l
-  unfolding leaf-cells
-  leaf-62 (scan t none none) = refl
-  leaf-62 (scan t (some r) none) = refl
-  leaf-62 (scan t none (some e)) = behind 62 none-below (expression-cells e) _ (in-expression 62 none-below e) refl
-  leaf-62 (scan t (some r) (some e)) = behind 62 none-below (expression-cells e) _ (in-expression 62 none-below e) refl
-  leaf-62 (lookup by-key t none vs) = behind 62 none-below (all-cells constant-cells vs) _ (in-constants 62 none-below vs) refl
-  leaf-62 (lookup by-key t (some r) vs) = behind 62 none-below (all-cells constant-cells vs) _ (in-constants 62 none-below vs) refl
-  leaf-62 (lookup (by-index i) t none vs) = behind 62 none-below (all-cells constant-cells vs) _ (in-constants 62 none-below vs) refl
-  leaf-62 (lookup (by-index i) t (some r) vs) = behind 62 none-below (all-cells constant-cells vs) _ (in-constants 62 none-below vs) refl
-  leaf-62 (nothing ls) = behind 62 none-below (all-cells label-cells ls) _ (in-labels 62 none-below ls) refl
-  leaf-62 (values rs) = behind 62 none-below (all-cells row-cells rs) _ (in-rows 62 none-below rs) refl
-
-  join-62 : (outer : Bool) (j : Join) → any-flagged 62 (join-cells outer j) ≡ false
-  unfolding join-cells
-  join-62 outer (nested-loop p) = behind 62 none-below (optional-cells p) _ (in-optional 62 none-below p) refl
-  join-62 outer (hash a b) = refl
-
-  pub scan-filter-told : (p : Node) → any-flagged 62 (cells p) ≡ has-scan-filter p
-  unfolding cells
-  scan-filter-told (leaf l) = leaf-62 l
-  scan-filter-told (over o n) = over-source 62 none-below (cells n) (over-cells o) (has-scan-filter n) (scan-filter-told n) (in-over 62 none-below over-62 o)
-  scan-filter-told (join outer j l r) =
-      over-sources 62 none-below (cells l) (cells r) (join-cells outer j) (has-scan-filter l) (has-scan-filter r) false (scan-filter-told l) (scan-filter-told r) (join-62 outer j)
-      ∙ ap (λ (b : Bool). has-scan-filter l || b) (or-false (has-scan-filter r))
+pub scan-filter-told : (p : Node) → any-cell (flagged 62) (cells p) ≡ has-scan-filter p
+scan-filter-told =
+    told (flagged 62) (no-part-flagged 62 (omega arith)) has-scan-filter scan-flagged (λ o n. over-unflagged 62 over-62 o (has-scan-filter n))
+    (λ outer j l r. join-62 outer j (has-scan-filter l) (has-scan-filter r))
 
 -- ---- 56 NestedLoopJoin
 
-over-56 : (o : Over) → eqb (over-tag o) 56 ≡ false
+leaf-56 : (l : Leaf) → flagged 56 (cell-of (leaf-own l)) ≡ false
+leaf-56 (scan t none f) = refl
+leaf-56 (scan t (some r) f) = refl
+leaf-56 (lookup by-key t none vs) = refl
+leaf-56 (lookup by-key t (some r) vs) = refl
+leaf-56 (lookup (by-index i) t none vs) = refl
+leaf-56 (lookup (by-index i) t (some r) vs) = refl
+leaf-56 (nothing ls) = refl
+leaf-56 (values rs) = refl
+
+over-56 : (o : Over) → eqb (cell-of (over-own o) .tag) 56 ≡ false
 over-56 (filter e) = refl
 over-56 (other (limit n)) = refl
 over-56 (other (offset n)) = refl
@@ -191,32 +235,56 @@ over-56 (other (projection is)) = refl
 over-56 (other (remap ts)) = refl
 over-56 (other (aggregate es gs)) = refl
 
-module _ where
-  abbrev not-below : (n : ℕ) → n < 50 → eqb n 56 ≡ false
-  not-below = above 56 (omega arith)
+join-flagged : (outer : Bool) (j : Join) → flagged 56 (cell-of (join-own outer j)) ≡ join-has-predicate j
+join-flagged true (nested-loop none) = refl
+join-flagged false (nested-loop none) = refl
+join-flagged true (nested-loop (some e)) = refl
+join-flagged false (nested-loop (some e)) = refl
+join-flagged outer (hash l r) = refl
 
-  leaf-56 : (l : Leaf) → any-flagged 56 (leaf-cells l) ≡ false
-  unfolding leaf-cells
-  leaf-56 (scan t none p) = behind 56 not-below (optional-cells p) _ (in-optional 56 not-below p) refl
-  leaf-56 (scan t (some r) p) = behind 56 not-below (optional-cells p) _ (in-optional 56 not-below p) refl
-  leaf-56 (lookup by-key t none vs) = behind 56 not-below (all-cells constant-cells vs) _ (in-constants 56 not-below vs) refl
-  leaf-56 (lookup by-key t (some r) vs) = behind 56 not-below (all-cells constant-cells vs) _ (in-constants 56 not-below vs) refl
-  leaf-56 (lookup (by-index i) t none vs) = behind 56 not-below (all-cells constant-cells vs) _ (in-constants 56 not-below vs) refl
-  leaf-56 (lookup (by-index i) t (some r) vs) = behind 56 not-below (all-cells constant-cells vs) _ (in-constants 56 not-below vs) refl
-  leaf-56 (nothing ls) = behind 56 not-below (all-cells label-cells ls) _ (in-labels 56 not-below ls) refl
-  leaf-56 (values rs) = behind 56 not-below (all-cells row-cells rs) _ (in-rows 56 not-below rs) refl
+pub join-predicate-told : (p : Node) → any-cell (flagged 56) (cells p) ≡ has-join-predicate p
+join-predicate-told =
+    told (flagged 56) (no-part-flagged 56 (omega arith)) has-join-predicate leaf-56 (λ o n. over-unflagged 56 over-56 o (has-join-predicate n))
+    (λ outer j l r. ap (λ (b : Bool). has-join-predicate l || (has-join-predicate r || b)) (join-flagged outer j))
 
-  join-56 : (outer : Bool) (j : Join) → any-flagged 56 (join-cells outer j) ≡ join-has-predicate j
-  unfolding join-cells
-  join-56 true (nested-loop none) = refl
-  join-56 false (nested-loop none) = refl
-  join-56 true (nested-loop (some e)) = behind 56 not-below (expression-cells e) _ (in-expression 56 not-below e) refl
-  join-56 false (nested-loop (some e)) = behind 56 not-below (expression-cells e) _ (in-expression 56 not-below e) refl
-  join-56 outer (hash a b) = refl
+-- ---- any predicate
 
-  pub join-predicate-told : (p : Node) → any-flagged 56 (cells p) ≡ has-join-predicate p
-  unfolding cells
-  join-predicate-told (leaf l) = leaf-56 l
-  join-predicate-told (over o n) = over-source 56 not-below (cells n) (over-cells o) (has-join-predicate n) (join-predicate-told n) (in-over 56 not-below over-56 o)
-  join-predicate-told (join outer j l r) =
-      over-sources 56 not-below (cells l) (cells r) (join-cells outer j) (has-join-predicate l) (has-join-predicate r) (join-has-predicate j) (join-predicate-told l) (join-predicate-told r) (join-56 outer j)
+no-part-predicated : (k : Cell) → k .tag < 50 → predicated k ≡ false
+no-part-predicated k h =
+    let a = no-part-is 51 (omega arith) k h in
+    let b = no-part-flagged 56 (omega arith) k h in
+    let c = no-part-flagged 62 (omega arith) k h in
+    ap (λ (z : Bool). z || (flagged 56 k || flagged 62 k)) a ∙ ap (λ (z : Bool). z || flagged 62 k) b ∙ c
+
+leaf-predicated : (l : Leaf) → predicated (cell-of (leaf-own l)) ≡ leaf-has-filter l
+leaf-predicated (scan t none none) = refl
+leaf-predicated (scan t none (some e)) = refl
+leaf-predicated (scan t (some r) none) = refl
+leaf-predicated (scan t (some r) (some e)) = refl
+leaf-predicated (lookup by-key t none vs) = refl
+leaf-predicated (lookup by-key t (some r) vs) = refl
+leaf-predicated (lookup (by-index i) t none vs) = refl
+leaf-predicated (lookup (by-index i) t (some r) vs) = refl
+leaf-predicated (nothing ls) = refl
+leaf-predicated (values rs) = refl
+
+over-predicated : (o : Over) → predicated (cell-of (over-own o)) ≡ is-filter o
+over-predicated (filter e) = refl
+over-predicated (other (limit n)) = refl
+over-predicated (other (offset n)) = refl
+over-predicated (other (order ks)) = refl
+over-predicated (other (projection is)) = refl
+over-predicated (other (remap ts)) = refl
+over-predicated (other (aggregate es gs)) = refl
+
+join-predicated : (outer : Bool) (j : Join) → predicated (cell-of (join-own outer j)) ≡ join-has-predicate j
+join-predicated true (nested-loop none) = refl
+join-predicated false (nested-loop none) = refl
+join-predicated true (nested-loop (some e)) = refl
+join-predicated false (nested-loop (some e)) = refl
+join-predicated outer (hash l r) = refl
+
+pub predicate-told : (p : Node) → any-cell predicated (cells p) ≡ has-predicate p
+predicate-told =
+    told predicated no-part-predicated has-predicate leaf-predicated (λ o n. ap (λ (b : Bool). has-predicate n || b) (over-predicated o))
+    (λ outer j l r. ap (λ (b : Bool). has-predicate l || (has-predicate r || b)) (join-predicated outer j))

@@ -21,7 +21,7 @@ use Rattle.encode.specs.Encode.{cells-in, as-cell}
 use Rattle.encode.proofs.Says.{node-cells}
 use Rattle.encode.proofs.Laws.{next-cell}
 use Rattle.sheet_laws.specs.Size.{node-length}
-use Rattle.predicates.specs.Predicates.{flagged, any-flagged, WholeCells, has-scan-filter, has-join-predicate}
+use Rattle.predicates.specs.Predicates.{any-cell, flagged, WholeCells, has-scan-filter, has-join-predicate}
 use Rattle.predicates.proofs.Cells.{scan-filter-told, join-predicate-told}
 
 -- ---- one cell
@@ -37,7 +37,7 @@ other-tag t flag tag h = ap (λ (b : Bool). b && eqb (flag % 2) 1) (sym (ne-eqb 
 pub record Undecided (x : List ℕ) (n tag i : ℕ) : Type 0 where
   pub inside : n ≤ length x
   pub whole : n ≡ i + 6 * length (cells-in (drop i (take n x)))
-  pub same : any-flagged tag (cells-in (take n x)) ≡ any-flagged tag (cells-in (drop i (take n x)))
+  pub same : any-cell (flagged tag) (cells-in (take n x)) ≡ any-cell (flagged tag) (cells-in (drop i (take n x)))
 
 pub undecided-all : {x : List ℕ} {n : ℕ} (tag : ℕ) → WholeCells x n → Undecided x n tag 0
 undecided-all tag w = record { inside = w .inside; whole = omega (arith, w .whole); same = refl }
@@ -50,22 +50,22 @@ module _ {x : List ℕ} {n tag i : ℕ} (u : Undecided x n tag i) where
     next : cells-in (drop i (take n x)) ≡ as-cell k ∷ cells-in (drop (i + 6) (take n x))
     next = next-cell x n i (next-inside h .0) (u .inside) ∙ ap (λ (c : Cell). as-cell c ∷ cells-in (drop (i + 6) (take n x))) (sym e)
 
-    first : any-flagged tag (cells-in (take n x)) ≡ flagged tag (as-cell k) || any-flagged tag (cells-in (drop (i + 6) (take n x)))
-    first = u .same ∙ ap (any-flagged tag) next
+    first : any-cell (flagged tag) (cells-in (take n x)) ≡ flagged tag (as-cell k) || any-cell (flagged tag) (cells-in (drop (i + 6) (take n x)))
+    first = u .same ∙ ap (any-cell (flagged tag)) next
 
-    pub decided : flagged tag (as-cell k) ≡ true → true ≡ any-flagged tag (cells-in (take n x))
-    decided f = sym (first ∙ ap (λ (b : Bool). b || any-flagged tag (cells-in (drop (i + 6) (take n x)))) f)
+    pub decided : flagged tag (as-cell k) ≡ true → true ≡ any-cell (flagged tag) (cells-in (take n x))
+    decided f = sym (first ∙ ap (λ (b : Bool). b || any-cell (flagged tag) (cells-in (drop (i + 6) (take n x)))) f)
 
     pub undecided-next : flagged tag (as-cell k) ≡ false → Undecided x n tag (i + 6)
     undecided-next f =
         record {
           inside = u .inside;
           whole = omega (arith, u .whole, ap length next);
-          same = first ∙ ap (λ (b : Bool). b || any-flagged tag (cells-in (drop (i + 6) (take n x)))) f;
+          same = first ∙ ap (λ (b : Bool). b || any-cell (flagged tag) (cells-in (drop (i + 6) (take n x)))) f;
         }
 
-  pub none-flagged : n ≤ i → false ≡ any-flagged tag (cells-in (take n x))
-  none-flagged h = sym (u .same ∙ ap (any-flagged tag) (none-left (cells-in (drop i (take n x))) (omega (arith, u .whole))))
+  pub none-flagged : n ≤ i → false ≡ any-cell (flagged tag) (cells-in (take n x))
+  none-flagged h = sym (u .same ∙ ap (any-cell (flagged tag)) (none-left (cells-in (drop i (take n x))) (omega (arith, u .whole))))
     where
       none-left : (ks : List Sheet.Cell) → length ks ≡ 0 → ks ≡ []
       none-left [] e = refl
@@ -80,11 +80,11 @@ module _ {x : List ℕ} {n : ℕ} (p : Node) (here : NodeHere x 0 n p) where
   plan-cells : cells-in (take n x) ≡ cells p
   plan-cells = ap cells-in plan-words ∙ node-cells p
 
-  pub scan-filter-found : {r : Bool} → r ≡ any-flagged 62 (cells-in (take n x)) → r ≡ has-scan-filter p
-  scan-filter-found e = e ∙ ap (any-flagged 62) plan-cells ∙ scan-filter-told p
+  pub scan-filter-found : {r : Bool} → r ≡ any-cell (flagged 62) (cells-in (take n x)) → r ≡ has-scan-filter p
+  scan-filter-found e = e ∙ ap (any-cell (flagged 62)) plan-cells ∙ scan-filter-told p
 
-  pub join-predicate-found : {r : Bool} → r ≡ any-flagged 56 (cells-in (take n x)) → r ≡ has-join-predicate p
-  join-predicate-found e = e ∙ ap (any-flagged 56) plan-cells ∙ join-predicate-told p
+  pub join-predicate-found : {r : Bool} → r ≡ any-cell (flagged 56) (cells-in (take n x)) → r ≡ has-join-predicate p
+  join-predicate-found e = e ∙ ap (any-cell (flagged 56)) plan-cells ∙ join-predicate-told p
 
 pub whole-cells : {x : List ℕ} {n : ℕ} → NodeAt x 0 n → WholeCells x n
 whole-cells {x} {n} at =

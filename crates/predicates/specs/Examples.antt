@@ -1,10 +1,12 @@
 -- Plans of which the definitions are computed.
 use mathlib.Core.Bool.{true, false}
 use mathlib.Core.Path.{_≡_, refl}
+use mathlib.Core.List.{[], _∷_}
 use mathlib.Core.Option.{none, some}
 use Rattle.sql.specs.Expression.{Expression, column}
-use Rattle.sql.specs.Plan.{scan, limit, filter, other, nested-loop, hash, Node, leaf, over, join}
-use Rattle.predicates.specs.Predicates.{has-scan-filter, has-join-predicate}
+use Rattle.sql.specs.Plan.{unlabelled, scan, values, limit, projection, filter, other, nested-loop, hash, Node, leaf, over, join}
+use Rattle.sheet.specs.Cells.{expression-cells, leaf-cells, other-cells, over-cells, join-cells, cells}
+use Rattle.predicates.specs.Predicates.{has-scan-filter, has-join-predicate, has-predicate, any-cell, predicated}
 
 -- a Scan, and one with an alias and a filter
 abbrev plain : Node
@@ -29,3 +31,17 @@ a-predicate-below = refl
 -- Filters, and filters of Scans, are no joins' predicates.
 none-in-a-join : has-join-predicate (over (filter predicate) (join true (nested-loop none) filtered plain)) ≡ false
 none-in-a-join = refl
+
+-- Each of the three is a predicate.
+one-of-each : (has-predicate filtered ≡ true)
+    × ((has-predicate (over (other (limit 1)) (over (filter predicate) plain)) ≡ true)
+    × (has-predicate (join false (hash 0 0) plain (join true (nested-loop (some predicate)) plain plain)) ≡ true))
+one-of-each = (refl, (refl, refl))
+
+-- Expressions elsewhere, and an outer join without a predicate, are none.
+abbrev free : Node
+free = over (other (projection ((predicate, unlabelled) ∷ []))) (join true (nested-loop none) plain (leaf (values ((predicate ∷ []) ∷ []))))
+
+none-at-all : (has-predicate free ≡ false) × (any-cell predicated (cells free) ≡ false)
+unfolding cells leaf-cells other-cells over-cells join-cells expression-cells
+none-at-all = (refl, refl)

@@ -1,5 +1,6 @@
--- What IndexLookup and HashJoin leave as it is: IndexLookup rewrites only Scans that have a filter, and HashJoin only joins that have a predicate.
-use Prim.Native.Nat.{ℕ, _+_, _≤_}
+-- What a pass leaves as it is: IndexLookup rewrites only Scans that have a filter, and HashJoin only joins that have a predicate. FilterPushdown, which rewrites
+-- Filters and joins that have a predicate, leaves a plan as it is that has no predicate at all.
+use Prim.Native.Nat.{ℕ, zero, suc, _+_, _≤_}
 use native.Mathlib.Omega.{arith}
 use mathlib.Core.Bool.{Bool, true, false, _||_}
 use mathlib.Core.Path.{_≡_, refl, ap, _∙_}
@@ -7,21 +8,21 @@ use mathlib.Core.List.{List}
 use mathlib.Core.Option.{none, some}
 use borrow.Author.Tests.{le-leb}
 use Rattle.sql.specs.Schema.{Schema}
-use Rattle.sql.specs.Plan.{Leaf, scan, lookup, nothing, values, Join, nested-loop, hash, Node, leaf, over, join, leaf-size, over-size, join-size, node-size}
+use Rattle.sql.specs.Plan.{Leaf, scan, lookup, nothing, values, Over, filter, other, Join, nested-loop, hash, Node, leaf, over, join, leaf-size, over-size, join-size, node-size}
 use Rattle.sql.specs.Answer.{Answer, done, _>>=_}
 use Rattle.sql.specs.Optimizer.{HashJoin}
 use Rattle.sql.specs.Optimizer
 use Rattle.sql.specs.Room
-use Rattle.predicates.specs.Predicates.{leaf-has-filter, has-scan-filter, join-has-predicate, has-join-predicate}
+use Rattle.predicates.specs.Predicates.{leaf-has-filter, has-scan-filter, join-has-predicate, has-join-predicate, is-filter, has-predicate}
 
-clash : {A : Type 0} → _≡_ {A = Bool} true false → A
+pub clash : {A : Type 0} → _≡_ {A = Bool} true false → A
 clash e = absurd (let z : _≡_ {A = ℕ} 0 1 = cc in omega arith)
 
-left-false : (a b : Bool) → a || b ≡ false → a ≡ false
+pub left-false : (a b : Bool) → a || b ≡ false → a ≡ false
 left-false true b e = e
 left-false false b e = refl
 
-right-false : (a b : Bool) → a || b ≡ false → b ≡ false
+pub right-false : (a b : Bool) → a || b ≡ false → b ≡ false
 right-false true b e = clash e
 right-false false b e = e
 
@@ -49,6 +50,62 @@ module _ (room : ℕ) (schema : Schema) where
       ∙ ap (λ (a : Answer Node). a >>= λ r. done (join outer j left r))
       (lookup-idle (rest + (node-size left + join-size j)) right (right-false (has-scan-filter left) (has-scan-filter right) e) (omega arith))
 
+  -- ---- FilterPushdown
+
+  sources-stay : (outer : Bool) (j : Join) (left right : Node) (f : ℕ → Node → Answer Node) (rest : ℕ) → f (rest + (node-size right + join-size j)) left ≡ done left
+      → f (rest + (node-size left + join-size j)) right ≡ done right → Room.each-source room schema f rest (join outer j left right) ≡ done (join outer j left right)
+  sources-stay outer j left right f rest l r =
+      ap (λ (a : Answer Node). a >>= λ m. f (rest + (node-size m + join-size j)) right >>= λ q. done (join outer j m q)) l
+      ∙ ap (λ (a : Answer Node). a >>= λ q. done (join outer j left q)) r
+
+  push-leaf : (n rest : ℕ) (l : Leaf) → rest + leaf-size l ≤ room → Room.push-filters-from room schema n rest (leaf l) ≡ done (leaf l)
+  unfolding Room.push-filters-from Room.maybe-push-filter Room.maybe-push-join Optimizer.maybe-push-join
+  push-leaf zero rest l h = refl
+  push-leaf (suc n) rest l h = ap (λ (a : Answer Node). a >>= Room.each-source room schema (Room.push-filters-from room schema n) rest) (fits rest (leaf l) h)
+
+  -- Below a node that stays, its sources stay.
+  push-over : (n rest : ℕ) (o : Over) (source : Node) → is-filter o ≡ false → rest + node-size (over o source) ≤ room
+      → ((k : ℕ) → Room.push-filters-from room schema k (rest + over-size o) source ≡ done source)
+      → Room.push-filters-from room schema n rest (over o source) ≡ done (over o source)
+  unfolding Room.push-filters-from Room.maybe-push-filter Room.maybe-push-join Optimizer.maybe-push-join
+  push-over zero rest o source e h below = refl
+  push-over (suc n) rest (filter predicate) source e h below = clash e
+  push-over (suc n) rest (other o) source e h below =
+      ap (λ (a : Answer Node). a >>= Room.each-source room schema (Room.push-filters-from room schema n) rest) (fits rest (over (other o) source) h)
+      ∙ ap (λ (a : Answer Node). a >>= λ s. done (over (other o) s)) (below n)
+
+  push-join : (n rest : ℕ) (outer : Bool) (j : Join) (left right : Node) → join-has-predicate j ≡ false → rest + node-size (join outer j left right) ≤ room
+      → ((k : ℕ) → Room.push-filters-from room schema k (rest + (node-size right + join-size j)) left ≡ done left)
+      → ((k : ℕ) → Room.push-filters-from room schema k (rest + (node-size left + join-size j)) right ≡ done right)
+      → Room.push-filters-from room schema n rest (join outer j left right) ≡ done (join outer j left right)
+  unfolding Room.push-filters-from Room.maybe-push-filter Room.maybe-push-join Optimizer.maybe-push-join
+  push-join zero rest outer j left right e h f g = refl
+  push-join (suc n) rest outer (nested-loop (some predicate)) left right e h f g = clash e
+  push-join (suc n) rest outer (nested-loop none) left right e h f g =
+      ap (λ (a : Answer Node). a >>= Room.each-source room schema (Room.push-filters-from room schema n) rest) (fits rest (join outer (nested-loop none) left right) h)
+      ∙ sources-stay outer (nested-loop none) left right (Room.push-filters-from room schema n) rest (f n) (g n)
+  push-join (suc n) rest outer (hash a b) left right e h f g =
+      ap (λ (a : Answer Node). a >>= Room.each-source room schema (Room.push-filters-from room schema n) rest) (fits rest (join outer (hash a b) left right) h)
+      ∙ sources-stay outer (hash a b) left right (Room.push-filters-from room schema n) rest (f n) (g n)
+
+  push-idle-from : (n rest : ℕ) (p : Node) → has-predicate p ≡ false → rest + node-size p ≤ room → Room.push-filters-from room schema n rest p ≡ done p
+  push-idle-from n rest (leaf l) e h = push-leaf n rest l h
+  push-idle-from n rest (over o source) e h =
+      push-over n rest o source (right-false (has-predicate source) (is-filter o) e) h
+      (λ k. push-idle-from k (rest + over-size o) source (left-false (has-predicate source) (is-filter o) e) (omega arith))
+  push-idle-from n rest (join outer j left right) e h =
+      let f = right-false (has-predicate left) (has-predicate right || join-has-predicate j) e in
+      push-join n rest outer j left right (right-false (has-predicate right) (join-has-predicate j) f) h
+      (λ k. push-idle-from k (rest + (node-size right + join-size j)) left (left-false (has-predicate left) (has-predicate right || join-has-predicate j) e) (omega arith))
+      (λ k. push-idle-from k (rest + (node-size left + join-size j)) right (left-false (has-predicate right) (join-has-predicate j) f) (omega arith))
+
+  -- A plan without a predicate, for which there is room.
+  pub push-idle : (rest : ℕ) (p : Node) → has-predicate p ≡ false → rest + node-size p ≤ room → Room.FilterPushdown room schema rest p ≡ done p
+  unfolding Room.FilterPushdown
+  push-idle rest p e h = push-idle-from (node-size p) rest p e h
+
+-- ---- HashJoin
+
 join-idle : (schema : Schema) (outer : Bool) (j : Join) → join-has-predicate j ≡ false → (left right left′ right′ : Node) → left′ ≡ left → right′ ≡ right
     → join outer (Optimizer.hash-join (Rattle.sql.specs.Plan.columns schema left) j) left′ right′ ≡ join outer j left right
 join-idle schema outer (nested-loop none) e left right left′ right′ l r = cc
@@ -64,3 +121,24 @@ hash-idle schema (join outer j left right) e =
     join-idle schema outer j (right-false (has-join-predicate right) (join-has-predicate j) f) left right (HashJoin schema left) (HashJoin schema right)
     (hash-idle schema left (left-false (has-join-predicate left) (has-join-predicate right || join-has-predicate j) e))
     (hash-idle schema right (left-false (has-join-predicate right) (join-has-predicate j) f))
+
+-- ---- no predicate at all
+
+or-left : (a b c d : Bool) → (a ≡ false → c ≡ false) → (b ≡ false → d ≡ false) → a || b ≡ false → c || d ≡ false
+or-left a b c d f g e =
+    ap (λ (z : Bool). z || d) (f (left-false a b e)) ∙ g (right-false a b e)
+
+pub no-scan-filter : (p : Node) → has-predicate p ≡ false → has-scan-filter p ≡ false
+no-scan-filter (leaf l) e = e
+no-scan-filter (over o source) e = no-scan-filter source (left-false (has-predicate source) (is-filter o) e)
+no-scan-filter (join outer j left right) e =
+    or-left (has-predicate left) (has-predicate right || join-has-predicate j) (has-scan-filter left) (has-scan-filter right) (no-scan-filter left)
+    (λ f. no-scan-filter right (left-false (has-predicate right) (join-has-predicate j) f)) e
+
+pub no-join-predicate : (p : Node) → has-predicate p ≡ false → has-join-predicate p ≡ false
+no-join-predicate (leaf l) e = refl
+no-join-predicate (over o source) e = no-join-predicate source (left-false (has-predicate source) (is-filter o) e)
+no-join-predicate (join outer j left right) e =
+    or-left (has-predicate left) (has-predicate right || join-has-predicate j) (has-join-predicate left) (has-join-predicate right || join-has-predicate j)
+    (no-join-predicate left)
+    (or-left (has-predicate right) (join-has-predicate j) (has-join-predicate right) (join-has-predicate j) (no-join-predicate right) (λ f. f)) e

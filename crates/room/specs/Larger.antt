@@ -16,7 +16,7 @@ use Rattle.sql.specs.Room.{if-room, join-predicate, scan-filter, go-on}
 use Rattle.sql.specs.Room
 use Rattle.room.specs.Done.{not-done, After, after}
 
--- the one does what the other does, where that is done
+-- s does what r does, where r is done
 abbrev Follows : {A : Type 0} → Answer A → Answer A → Type 0
 Follows {A} r s = (a : A) → r ≡ done a → s ≡ done a
 

@@ -18,7 +18,7 @@ use Rattle.rows.specs.Reading.{read}
 use Rattle.rows.specs.Equalities.{equalities, of-one-kind, all}
 use Rattle.sql.specs.Worked.{A, B, number, equals}
 
--- Tables of one column, its key: a Float 2 ^ 53 (4340000000000000 is that), in all others an Integer one above.
+-- Two tables of one column, their key: in the first a Float 2 ^ 53 (4340000000000000 is that), in the second an Integer one above.
 abbrev one-column : Schema
 one-column = record { name = 0; primary-key = 0; columns = record { name = 0; kind = Integer; index = false } ∷ [] } ∷ record { name = 0; primary-key = 0; columns = record { name = 0; kind = Integer; index = false } ∷ [] } ∷ []
 

@@ -8,9 +8,9 @@ use Rattle.sql.specs.Schema.{Table}
 use Rattle.sql.specs.Plan.{Node, columns, node-size}
 use Rattle.sql.specs.Answer.{Answer, done}
 use Rattle.sheet.specs.Parts.{table-count}
-use Rattle.sheet.specs.Check.{text, schema, plan}
+use Rattle.sheet.specs.Check.{text, schema, cells-of, plan}
 use Rattle.sheet_laws.specs.Accepted.{accepted}
-use Rattle.sheet_laws.specs.Plan.{Bytes, parts-of, text-length, plan-fits, plan-size}
+use Rattle.sheet_laws.specs.Plan.{Bytes, parts-of, text-length, plan-cells, plan-fits}
 use Rattle.sound.specs.Sound.{Sound}
 use Rattle.sound.specs.HandedOut.{names-inside}
 use Rattle.sound.specs.Checks.{passes-sound}
@@ -22,6 +22,8 @@ use Rattle.kept.specs.Kept.{Kept}
 use Rattle.schema.specs.Schema.{Recorded, Filled}
 use Rattle.schema.proofs.Laws.{recorded}
 use Rattle.schema.proofs.Lent.{names-lent, indexes-lent}
+use Rattle.encode.specs.Encode.{cells-in}
+use Rattle.encode.proofs.Says.{node-cells}
 use Rattle.decode.specs.Decode.{Acceptable, Decodes}
 use Rattle.fold_operator.specs.declared.Folded.{Folded}
 use Rattle.checker.specs.declared.Answer as Code
@@ -78,6 +80,12 @@ module _ (s : List ℕ) (b : Bytes s) {x y z w : List ℕ} (at : RunAt s x y z w
         plan = decoded s b (at .node) (at .is) x t x′ (at .room) d same (at .all) (at .fits);
         short = omega (arith, at .short, same);
       }
+
+  -- The working form has the sheet's cells.
+  pub cells-decoded : cells-in (take t x′) ≡ cells-of s
+  cells-decoded =
+      ap cells-in (decoded s b (at .node) (at .is) x t x′ (at .room) d same (at .all) (at .fits) .words-are)
+      ∙ node-cells (at .node) ∙ sym (plan-cells s b (at .node) (at .is))
 
   pub still-alike : Alike x′ y z w
   still-alike =

@@ -1,1 +1,2 @@
 pub mod SheetPasses
+pub mod Rooms

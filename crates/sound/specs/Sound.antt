@@ -1,5 +1,5 @@
 -- What the checks ask of a plan, apart from its size, said without places: all that a cell says can be written, every column is in scope, and no two
--- Targets of one Remap are equal. Checks.antt shows that it is what the checks ask.
+-- Targets of one Remap have the same number. Checks.antt shows that it is what the checks ask.
 use Prim.Native.Nat.{ℕ, _+_, _^_, _<_}
 use mathlib.Core.Path.{_≡_}
 use mathlib.Core.List.{List, []}

@@ -134,7 +134,7 @@ abbrev pub qualifier : Option ℕ → ℕ → ℕ
 qualifier none name = name
 qualifier (some alias) name = alias
 
--- 0, 1, .., n − 1, counted from `from`
+-- the n numbers from `from` on
 abbrev pub up-to : ℕ → ℕ → List ℕ
 up-to from zero = []
 up-to from (suc n) = from ∷ up-to (suc from) n

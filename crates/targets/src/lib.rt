@@ -1,5 +1,5 @@
-// Refusal 10 of document 01: no two Targets of one Remap are equal. The cells are walked once, from the first to the last. A Remap's Targets stand since the
-// node before it.
+// Refusal 10 of document 01: no two Targets of one Remap have the same number. The cells are walked once, from the first to the last. A Remap's Targets stand
+// behind the last node before it.
 ghost use mathlib.Core.Path.{_≡_};
 ghost use Rattle.layout.specs.Layout.{Whole, as-cell};
 ghost use Rattle.targets.specs.Targets.{target-number, Untargeted, Repeats};

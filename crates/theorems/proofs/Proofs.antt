@@ -191,13 +191,17 @@ same-then : (r : Answer Node) (f g : Node → Answer Node) → ((n : Node) → f
 same-then (done n) f g h = h n
 same-then (refused number place) f g h = refl
 
-pub one-pass-gives : One-pass-gives
-one-pass-gives s b k low high out =
+pass-gives : (s : List ℕ) → Bytes s → (k : ℕ) → 1 ≤ k → k ≤ 5 → (out : List ℕ)
+    → Gives s out (plan s >>= λ (n : Node). with-room (Sizes.pass (schema s) k n) (pass (schema s) k n)) (one-pass s k out)
+pass-gives s b k low high out =
     let f = Room.pass max-cells (schema s) k in
     let g : Node → Answer Node = λ n. with-room (Sizes.pass (schema s) k n) (pass (schema s) k n) in
     subst (Gives s out (plan s >>= g)) (sym (pass-is s k low high out))
     (subst (λ (r : Answer Node). Gives s out r (hand-out s out (passed s k))) (same-then (plan s) f g (pass-sized (schema s) k))
     (gives s b out f (λ n m p. pass-handed-out s b n p k m) (pass-refused max-cells (schema s) k low high)))
+
+pub one-pass-gives : One-pass-gives
+one-pass-gives = record { gives = pass-gives; no-other = λ s b k h out. no-such-pass s k out h }
 
 pub all-five-gives : All-five-gives
 all-five-gives s b out =

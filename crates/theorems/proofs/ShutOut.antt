@@ -6,6 +6,7 @@ use borrow.Author.Tests.{ltb-true, leb-true, leb-false}
 use mathlib.Core.Path.{_≡_, refl, sym, ap, _∙_, subst}
 use mathlib.Core.Bool.{Bool, true, false, _&&_, false≢true}
 use mathlib.Core.List.{List, [], _∷_, _++_}
+use mathlib.Core.Logic.{_⊎_, inl, inr}
 use lib.Dec.{leb, ltb}
 use lib.ListN.{length, drop, getD, replicate}
 use Rattle.sql.specs.Plan.{Node, node-size}
@@ -24,6 +25,7 @@ use Rattle.sheet.specs.Worked.{P1}
 use Rattle.sheet_laws.specs.Content.{and-left, and-right}
 use Rattle.room.specs.Done.{done-same}
 use Rattle.rows.specs.Equalities.{all}
+use Rattle.sheet_laws.specs.Plan.{Bytes}
 use Rattle.sound.specs.Operations.{sheet-of}
 use Rattle.theorems.specs.Sizes
 use Rattle.theorems.specs.Theorems.{with-room, needed, Hands-out, Gives, Is-one-pass, Is-all-five}
@@ -53,10 +55,24 @@ passed s k = plan s >>= λ (n : Node). with-room (Sizes.pass (schema s) k n) (pa
 abbrev optimized : List ℕ → Answer Node
 optimized s = plan s >>= λ (n : Node). with-room (Sizes.optimize (schema s) n) (optimize (schema s) n)
 
+-- for each number, a pass or none
+pass-settled : (program : Program) → Is-one-pass program → (s : List ℕ) → Bytes s → (k : ℕ) (out : List ℕ) → program s k out ≡ one-pass s k out
+pass-settled program is s b k out = go (leb 1 k) refl (leb k 5) refl
+  where
+    other : (k < 1) ⊎ (5 < k) → program s k out ≡ one-pass s k out
+    other h = is .no-other s b k h out ∙ sym (one-pass-gives .no-other s b k h out)
+
+    go : (t : Bool) → leb 1 k ≡ t → (u : Bool) → leb k 5 ≡ u → program s k out ≡ one-pass s k out
+    go true e true f =
+        let low = leb-true 1 k e in
+        let high = leb-true k 5 f in
+        gives-one s out (passed s k) (program s k out) (one-pass s k out) (is .gives s b k low high out) (one-pass-gives .gives s b k low high out)
+    go true e false f = other (inr (leb-false k 5 f))
+    go false e u f = other (inl (leb-false 1 k e))
+
 pub settled : Settled
 settled = (
-  λ program is s b k low high out.
-      gives-one s out (passed s k) (program s k out) (one-pass s k out) (is s b k low high out) (one-pass-gives s b k low high out),
+  pass-settled,
   λ program is s b out. gives-one s out (optimized s) (program s out) (all-five s out) (is s b out) (all-five-gives s b out),
 )
 
@@ -67,7 +83,7 @@ asked : (s out : List ℕ) (r : Answer Node) (m : Node) (o : Outcome) → Gives 
 asked s out r m o g e fits = subst (λ (a : Answer Node). Gives s out a o) e g .0 fits
 
 pass-asked : (program : Program) → Is-one-pass program → (s : List ℕ) (k : ℕ) (out : List ℕ) (m : Node) → Answerable s k out m → Hands-out s out m (program s k out)
-pass-asked program is s k out m a = asked s out (passed s k) m (program s k out) (is s (a .bytes) k (a .from-1) (a .to-5) out) (a .gives) (a .fits)
+pass-asked program is s k out m a = asked s out (passed s k) m (program s k out) (is .gives s (a .bytes) k (a .from-1) (a .to-5) out) (a .gives) (a .fits)
 
 five-asked : (program : Program-of-five) → Is-all-five program → (s out : List ℕ) (m : Node) → Answerable-five s out m → Hands-out s out m (program s out)
 five-asked program is s out m a = asked s out (optimized s) m (program s out) (is s (a .bytes) out) (a .gives) (a .fits)

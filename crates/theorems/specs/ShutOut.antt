@@ -1,9 +1,9 @@
 -- Document 01: "Shut out by point 2: refusing all sheets (P1 and every acceptable one); one fixed sheet for all; the input handed back (point 3 alone would let
 -- it by); five passes' work in pass 1 and four idle ones, as each pass is compared alone; invented cell or column counts, which are those of the output's
 -- tree." Here it is stated that none of these programs, nor one that spoils the output behind the sheet, is the operation `one pass` or `all five` of the second
--- promise (Theorems.antt, whose names are used). What is asked of a program is asked only where a sheet is to be handed out. So it may answer as it should
--- wherever there is a refusal: check's, folding's, for room, or because the output is too short. Each statement is proved in proofs/ShutOut.antt, under its
--- name in small letters.
+-- promise (Theorems.antt, whose names are used). But for `Settled`, what is asked of a program is asked only where a sheet is to be handed out. So it may answer
+-- as it should wherever there is a refusal: check's, folding's, for room, or because the output is too short. Each statement is proved in
+-- proofs/ShutOut.antt, under its name in small letters.
 use Prim.Native.Nat.{ℕ, _≤_}
 use mathlib.Core.List.{List, _++_}
 use mathlib.Core.Path.{_≡_}
@@ -36,10 +36,10 @@ abbrev pub Shut-out-five : Program-of-five → Type 0
 Shut-out-five program = Is-all-five program → ⊥
 
 -- Document 01: "Each operation's contract settles number, place, counts and every output byte, refusals included." A program that meets the second promise
--- answers all bytes, in each of the five passes and with every output, as the definition does. So one that differs from that anywhere is shut out.
+-- answers all bytes, for every number of a pass and with every output, as the definition does. So one that differs from that anywhere is shut out.
 abbrev pub Settled : Type 0
 Settled =
-    ((program : Program) → Is-one-pass program → (s : List ℕ) → Bytes s → (k : ℕ) → 1 ≤ k → k ≤ 5 → (out : List ℕ) → program s k out ≡ one-pass s k out)
+    ((program : Program) → Is-one-pass program → (s : List ℕ) → Bytes s → (k : ℕ) (out : List ℕ) → program s k out ≡ one-pass s k out)
     × ((program : Program-of-five) → Is-all-five program → (s : List ℕ) → Bytes s → (out : List ℕ) → program s out ≡ all-five s out)
 
 -- ======== Where a sheet is to be handed out.

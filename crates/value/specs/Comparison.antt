@@ -91,15 +91,15 @@ is-greater Greater = true
 is-greater Unordered = false
 is-greater NotComparable = false
 
--- false is less than true, and Null with a Boolean or Null gives Null
+-- Booleans are compared, and Null with a Boolean or Null gives Null.
 abbrev pub compared-truths : (Finding → Bool) → Truth → Truth → Truth
 compared-truths test Unknown b = Unknown
-compared-truths test False False = ofBool (test Equal)
+compared-truths test False False = ofBool (test (compare-booleans false false))
 compared-truths test False Unknown = Unknown
-compared-truths test False True = ofBool (test Less)
-compared-truths test True False = ofBool (test Greater)
+compared-truths test False True = ofBool (test (compare-booleans false true))
+compared-truths test True False = ofBool (test (compare-booleans true false))
 compared-truths test True Unknown = Unknown
-compared-truths test True True = ofBool (test Equal)
+compared-truths test True True = ofBool (test (compare-booleans true true))
 
 -- a Null or Boolean against what is neither: Null gives Null, a Boolean doesn't fit
 abbrev pub against-datum : Truth → Result Value

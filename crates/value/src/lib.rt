@@ -1,4 +1,4 @@
-// value.rs, and the operators of expression.rs on two or one values: what a constant expression folds to.
+// value.rs: the values of expressions, and what And, Or, Not, Is Null and Is NaN give of them. The other operators are in crates arithmetic and comparison.
 ghost use Prim.Native.Nat.{ℕ};
 ghost use mathlib.Core.Path.{_≡_};
 ghost use mathlib.Core.List.{List};

@@ -15,7 +15,7 @@ use Rattle.cells.proofs.start.Reads as start-reads
 use Rattle.cells.proofs.tag_at.Reads as tag-at-reads
 use Rattle.column_labels.proofs.each_label.Reads as each-label-reads
 use Rattle.column_labels.proofs.leaf_labels.Reads as leaf-labels-reads
-use Rattle.labels.proofs.own_columns.Reads as own-columns-reads
+use Rattle.labels.proofs.says_columns.Reads as says-columns-reads
 use Rattle.nodes.proofs.own_start.Reads as own-start-reads
 use Rattle.nodes.proofs.source_count.Reads as source-count-reads
 use Rattle.column_labels.proofs.+write_labels.{statement}
@@ -37,7 +37,7 @@ write-labels-below t =
     write-labels.Pre
 
 abbrev write-labels-claims : ℕ → write-labels-lts.Claims
-write-labels-claims t = (source-count-reads.Asked, source-count-reads.Learnt, leaf-labels-reads.Asked, leaf-labels-reads.Learnt, own-start-reads.Asked, own-start-reads.Learnt, tag-at-reads.Asked, tag-at-reads.Learnt, own-columns-reads.Asked, own-columns-reads.Learnt, each-label-reads.Asked, each-label-reads.Learnt, write-labels-below t, write-labels.Post, start-reads.Asked, start-reads.Learnt)
+write-labels-claims t = (source-count-reads.Asked, source-count-reads.Learnt, leaf-labels-reads.Asked, leaf-labels-reads.Learnt, own-start-reads.Asked, own-start-reads.Learnt, tag-at-reads.Asked, tag-at-reads.Learnt, says-columns-reads.Asked, says-columns-reads.Learnt, each-label-reads.Asked, each-label-reads.Learnt, write-labels-below t, write-labels.Post, start-reads.Asked, start-reads.Learnt)
 
 write-labels-source-count-requires : (t : ℕ) → write-labels-lts.Need-source-count-requires (write-labels-claims t) (write-labels-at t) write-labels.Post
 write-labels-source-count-requires t c κs = columns-node (c .before .before .before .before .before .pre .1 .0)
@@ -57,8 +57,8 @@ write-labels-own-start-requires t c κs = columns-node (c .before .before .befor
 write-labels-tag-at-requires : (t : ℕ) → write-labels-lts.Need-tag-at-requires (write-labels-claims t) (write-labels-at t) write-labels.Post
 write-labels-tag-at-requires t c κs = let (h, k) = at-in (columns-node (c .before .before .before .before .before .before .before .before .before .pre .1 .0)) in (omega arith, k)
 
-write-labels-own-columns-requires : (t : ℕ) → write-labels-lts.Need-own-columns-requires (write-labels-claims t) (write-labels-at t) write-labels.Post
-write-labels-own-columns-requires t c κs = search needs
+write-labels-says-columns-requires : (t : ℕ) → write-labels-lts.Need-says-columns-requires (write-labels-claims t) (write-labels-at t) write-labels.Post
+write-labels-says-columns-requires t c κs = search needs
 
 write-labels-each-label-requires : (t : ℕ) → write-labels-lts.Need-each-label-requires (write-labels-claims t) (write-labels-at t) write-labels.Post
 write-labels-each-label-requires t c κs = (c .before .before .before .before .before .before .before .before .before .before .before .before .before .pre .1 .0, c .before .before .before .before .before .before .before .before .before .before .before .before .before .pre .1 .1)
@@ -76,7 +76,7 @@ write-labels-same-length-3 : (t : ℕ) → write-labels-lts.Need-same-length-3 (
 write-labels-same-length-3 t c = search needs
 
 write-labels-returns-3 : (t : ℕ) → write-labels-lts.Need-returns-3 (write-labels-claims t) (write-labels-at t) write-labels.Post
-write-labels-returns-3 t c = let (y, z) = says-false-here (c .before .before .before .before .before .before .tag-at .ensures) (sym (c .before .before .before .before .before .own-columns .ensures) ∙ c .before .before .before .before .if3 .left) in source-written (counted-as (c .before .before .before .before .before .before .before .before .before .before .source-count .ensures) (c .before .before .before .before .before .before .before .if2 .taken)) (c .before .before .before .before .before .before .before .before .own-start .ensures) y z (c .before .before .write-labels .ensures)
+write-labels-returns-3 t c = let (y, z) = says-false-here (c .before .before .before .before .before .before .tag-at .ensures) (sym (c .before .before .before .before .before .says-columns .ensures) ∙ c .before .before .before .before .if3 .left) in source-written (counted-as (c .before .before .before .before .before .before .before .before .before .before .source-count .ensures) (c .before .before .before .before .before .before .before .if2 .taken)) (c .before .before .before .before .before .before .before .before .own-start .ensures) y z (c .before .before .write-labels .ensures)
 
 write-labels-start-requires : (t : ℕ) → write-labels-lts.Need-start-requires (write-labels-claims t) (write-labels-at t) write-labels.Post
 write-labels-start-requires t c κs = join-sized (two-left (c .before .before .before .source-count .ensures) (c .before .before .if1 .left) (c .if2 .left)) (c .before .own-start .ensures) (columns-node (c .before .before .before .before .before .before .before .before .before .pre .1 .0))
@@ -101,7 +101,7 @@ pub +write-labels-spec : {M : Type 1} → statement M
     (write-labels-returns t)
     (write-labels-own-start-requires t)
     (write-labels-tag-at-requires t)
-    (write-labels-own-columns-requires t)
+    (write-labels-says-columns-requires t)
     (write-labels-each-label-requires t)
     (write-labels-same-length-2 t)
     (write-labels-returns-2 t)

@@ -10,11 +10,11 @@ use Rattle.labels.proofs.columns_for.Tie as tie
 tag-at-requires : tie.Need-tag-at-requires
 tag-at-requires c κs = let (h, k) = at-in (columns-node (c .before .before .pre)) in (omega arith, k)
 
-own-columns-requires : tie.Need-own-columns-requires
-own-columns-requires c κs = search needs
+says-columns-requires : tie.Need-says-columns-requires
+says-columns-requires c κs = search needs
 
 returns : tie.Need-returns
-returns c = not-asked (columns-node (c .before .before .before .before .before .pre)) (says-here (c .before .before .tag-at .ensures) (sym (c .before .own-columns .ensures) ∙ c .if1 .taken))
+returns c = not-asked (columns-node (c .before .before .before .before .before .pre)) (says-here (c .before .before .tag-at .ensures) (sym (c .before .says-columns .ensures) ∙ c .if1 .taken))
 
 columns-requires : tie.Need-columns-requires
 columns-requires c κs = search needs
@@ -24,4 +24,4 @@ returns-2 c = λ schema p k u h. c .columns .ensures schema p k u
 
 pub columns-for-spec : {M : Type 1} → statement M
 columns-for-spec =
-    tie.close (tie.spec tag-at-requires own-columns-requires returns columns-requires returns-2)
+    tie.close (tie.spec tag-at-requires says-columns-requires returns columns-requires returns-2)

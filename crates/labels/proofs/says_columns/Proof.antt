@@ -5,10 +5,10 @@ use mathlib.Core.Path.{_≡_, refl, sym, ap, _∙_, subst}
 use mathlib.Core.List.{List, [], _∷_, _++_}
 use lib.ListN.{length, take, drop}
 use borrow.Author.Needs.{needs}
-use Rattle.labels.proofs.own_columns.Statement.{statement}
-use Rattle.labels.proofs.own_columns.Tie as tie
-use Rattle.labels.proofs.own_columns.Reads as reads
-use Rattle.labels.proofs.own_columns.Lts as lts
+use Rattle.labels.proofs.says_columns.Statement.{statement}
+use Rattle.labels.proofs.says_columns.Tie as tie
+use Rattle.labels.proofs.says_columns.Reads as reads
+use Rattle.labels.proofs.says_columns.Lts as lts
 
 returns : tie.Need-returns
 returns c = says-one (c .before .args .tag) (c .if1 .taken)
@@ -16,5 +16,5 @@ returns c = says-one (c .before .args .tag) (c .if1 .taken)
 returns-2 : tie.Need-returns-2
 returns-2 c = says-other (c .before .args .tag) (c .if1 .left)
 
-pub own-columns-spec : {M : Type 1} → statement M
-own-columns-spec = tie.close (tie.spec returns returns-2)
+pub says-columns-spec : {M : Type 1} → statement M
+says-columns-spec = tie.close (tie.spec returns returns-2)

@@ -19,8 +19,8 @@ use Rattle.optimizer.specs.Settled.{Settled, pass-settled, optimize-settled}
 use Rattle.optimizer.specs.declared.Chosen.{Chosen}
 use Rattle.optimizer.specs.declared.Chosen.the-variants.{One, All}
 use Rattle.hand_out.specs.HandOut.{outcome}
 use Rattle.sheet_passes.specs.SheetPasses.{RunAt, RunsOn}
-use Rattle.operations.specs.Rooms.{FitsIn, RunsIn}
+use Rattle.sheet_passes.specs.Rooms.{FitsIn, RunsIn}
 
 chosen-settled : (c : Chosen) (room more : ℕ) → room ≤ more → (schema : Schema) (n : Node) (r : Answer Node) → chosen c room schema n ≡ r → Settled r → chosen c more schema n ≡ r
 chosen-settled (One k) room more h schema n r e s = pass-settled room more h schema k n r e s

@@ -1,0 +1,2 @@
+pub mod PredicateFree
+pub mod Idle
