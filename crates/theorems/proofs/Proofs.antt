@@ -201,7 +201,7 @@ pass-gives s b k low high out =
     (gives s b out f (λ n m p. pass-handed-out s b n p k m) (pass-refused max-cells (schema s) k low high)))
 
 pub one-pass-gives : One-pass-gives
-one-pass-gives = record { gives = pass-gives; no-other = λ s b k h out. no-such-pass s k out h }
+one-pass-gives = record { gives = pass-gives; no-other = no-such-pass }
 
 pub all-five-gives : All-five-gives
 all-five-gives s b out =

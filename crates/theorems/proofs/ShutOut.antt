@@ -60,7 +60,7 @@ pass-settled : (program : Program) → Is-one-pass program → (s : List ℕ) �
 pass-settled program is s b k out = go (leb 1 k) refl (leb k 5) refl
   where
     other : (k < 1) ⊎ (5 < k) → program s k out ≡ one-pass s k out
-    other h = is .no-other s b k h out ∙ sym (one-pass-gives .no-other s b k h out)
+    other h = is .no-other s k out h ∙ sym (one-pass-gives .no-other s k out h)
 
     go : (t : Bool) → leb 1 k ≡ t → (u : Bool) → leb k 5 ≡ u → program s k out ≡ one-pass s k out
     go true e true f =

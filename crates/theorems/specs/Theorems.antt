@@ -119,12 +119,12 @@ Gives s out (done m) o = (needed s m ≤ length out → Hands-out s out m o) × 
 -- An operation is the Rust's passes: for each of the five, and every sheet and output, it gives check's refusal if there is one; then 14 if and only if one of
 -- the pass's sizes (Sizes.antt) is over 2,048 cells; then the Rust's answer. `pass` is one optimizer of optimizer.rs by its number, as defined in crate
 -- sql, to be read beside it. It knows no limit of room. Only pass 1, ConstantFolding, refuses (11 to 13), and only 2, 3 and 5 have sizes. Any other number than
--- the five is refused by 1.
+-- the five is refused by 1, whatever the bytes are.
 pub record Is-one-pass (operation : List ℕ → ℕ → List ℕ → Outcome) : Type 0 where
   pub gives :
       (s : List ℕ) → Bytes s → (k : ℕ) → 1 ≤ k → k ≤ 5 → (out : List ℕ)
       → Gives s out (plan s >>= λ (n : Node). with-room (Sizes.pass (schema s) k n) (pass (schema s) k n)) (operation s k out)
-  pub no-other : (s : List ℕ) → Bytes s → (k : ℕ) → (k < 1) ⊎ (5 < k) → (out : List ℕ) → operation s k out ≡ refuse out 1 0
+  pub no-other : (s : List ℕ) (k : ℕ) (out : List ℕ) → (k < 1) ⊎ (5 < k) → operation s k out ≡ refuse out 1 0
 
 -- The same of all five, `Plan::optimize` in plan.rs. Where ConstantFolding refuses there are no sizes.
 abbrev pub Is-all-five : (List ℕ → List ℕ → Outcome) → Type 0
