@@ -21,7 +21,7 @@ use Rattle.fold_operator.specs.declared.Folded.{Folded}
 use Rattle.fold_operator.specs.declared.Folded.the-variants as Folded
 use Rattle.fold_operator.proofs.Parts.{appended, wrote}
 use Rattle.fold_parts.specs.Leaves.{Leaves}
-use Rattle.fold_parts.proofs.Leaves.{answer-as, refused-on, done-on, made-into}
+use Rattle.fold_parts.proofs.Leaves.{answer-as, said-as, up-to-as, refused-on, done-on, made-into}
 use Rattle.constant_folding.specs.Nodes.{Node-fits, words-of, fold-source, SourceHere, SourceAt, FoldsSource}
 use Rattle.constant_folding.proofs.Nodes.{by-node, node-left}
 
@@ -81,21 +81,20 @@ module _ {text x : List ℕ} {lo hi end : ℕ} (b : Bare x lo hi end) (h : lo < 
       (λ os e p v w f. (omega (arith, node-in p w .0), (omega (arith, chain-end os p v w), node-in (chain os p) v .1))) (t .source) (t .here)
 
   -- what the node below leaves
-  left-below : {y : List ℕ} {at : ℕ} {z : List ℕ} {zat : ℕ} {r : Folded} {y₁ z₁ : List ℕ} → FoldsSource text x lo end y at z zat r y₁ z₁ → (first : ℕ) → lo ≡ 6 * first
+  left-below : {y : List ℕ} {at : ℕ} {r : Folded} {y₁ : List ℕ} → FoldsSource text x lo end y at r y₁ → (first : ℕ) → lo ≡ 6 * first
       → (p : Node) → NodeHere x lo end p → Node-fits text p → Leaves node-words y at (ConstantFolding first p) r y₁
   left-below g first k p w f = node-left first p (g .leaves first (some p) k (below-here p w f))
 
-  pub bare-refused : {y : List ℕ} {at : ℕ} {z : List ℕ} {zat j i : ℕ} {y₁ z₁ : List ℕ} → FoldsSource text x lo end y at z zat (Folded.Refused j i) y₁ z₁
-      → FoldsSource text x lo hi y at z zat (Folded.Refused j i) y₁ z₁
-  bare-refused {y} {at} {j = j} {i = i} {y₁ = y₁} g = record {
-    leaves = λ first source k u. by-below (λ o. Leaves words-of y at (fold-source first o) (Folded.Refused j i) y₁)
-        (λ os e p v w f. left-chain first os e p (refused-on (ConstantFolding first p) (λ q. done (chain os q)) (left-below g first k p w f))) source u;
-    within = record { ends = tt };
-    stays = record { same = tt };
+  pub bare-refused : {y : List ℕ} {at : ℕ} {r : Folded} {j i : ℕ} {y₁ : List ℕ} → r ≡ Folded.Refused j i → FoldsSource text x lo end y at r y₁ → FoldsSource text x lo hi y at r y₁
+  bare-refused {y} {at} {r} {y₁ = y₁} q g = record {
+    leaves = λ first source k u. by-below (λ o. Leaves words-of y at (fold-source first o) r y₁)
+        (λ os e p v w f. left-chain first os e p
+        (said-as (sym q) (refused-on (ConstantFolding first p) (λ q. done (chain os q)) (said-as q (left-below g first k p w f))))) source u;
+    within = up-to-as (sym q) (record { ends = tt });
   }
 
-  module _ {y : List ℕ} {at : ℕ} {z : List ℕ} {zat u : ℕ} {y₁ z₁ : List ℕ} (room : at + (hi - lo) ≤ length y) (long : length y₁ ≡ length y)
-      (g : FoldsSource text x lo end y at z zat (Folded.Done u) y₁ z₁) {v : ℕ} {y₂ : List ℕ} (c : Follows x end hi y₁ at u v y₂) where
+  module _ {y : List ℕ} {at u : ℕ} {y₁ : List ℕ} (room : at + (hi - lo) ≤ length y) (long : length y₁ ≡ length y)
+      (g : FoldsSource text x lo end y at (Folded.Done u) y₁) {v : ℕ} {y₂ : List ℕ} (c : Follows x end hi y₁ at u v y₂) where
     -- the chain over what the node below folds to
     followed : (os : List Other) (p q : Node) → NodeHere x lo hi (chain os p) → NodeHere x lo end p → Appended y at (node-words q) u y₁
         → Appended y at (node-words (chain os q)) v y₂ × (v ≤ at + (hi - lo))
@@ -111,7 +110,7 @@ module _ {text x : List ℕ} {lo hi end : ℕ} (b : Bare x lo hi end) (h : lo < 
     ended os p v w (done q) l = followed os p q v w (l .left) .1
     ended os p v w (refused number place) l = absurd (l .left)
 
-    pub bare-done : SourceAt text x lo hi → FoldsSource text x lo hi y at z zat (Folded.Done v) y₂ z₁
+    pub bare-done : SourceAt text x lo hi → FoldsSource text x lo hi y at (Folded.Done v) y₂
     bare-done t = record {
       leaves = λ first source k u. by-below (λ o. Leaves words-of y at (fold-source first o) (Folded.Done v) y₂)
           (λ os e p v w f. left-chain first os e p
@@ -119,5 +118,4 @@ module _ {text x : List ℕ} {lo hi end : ℕ} (b : Bare x lo hi end) (h : lo < 
       within = record {
         ends = by-below (λ o. v ≤ at + (hi - lo)) (λ os e p v w f. ended os p v w (ConstantFolding (t .first) p) (left-below g (t .first) (t .numbered) p w f)) (t .source) (t .here);
       };
-      stays = record { same = g .stays .same };
     }

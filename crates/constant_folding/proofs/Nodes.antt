@@ -5,8 +5,7 @@ use mathlib.Core.Bool.{Bool}
 use mathlib.Core.Path.{_≡_, refl, sym, ap, _∙_, subst}
 use mathlib.Core.List.{List, [], _∷_, _++_, append-assoc}
 use mathlib.Core.Option.{Option, none, some}
-use lib.ListN.{length, take, length-append}
-use lib.Seq.{take-take}
+use lib.ListN.{length, length-append}
 use Rattle.sql.specs.Plan.{Leaf, scan, lookup, nothing, values, Over, Join, Node, leaf, over, join, node-size}
 use Rattle.sql.specs.Answer.{Answer, done, refused, _>>=_}
 use Rattle.sql.specs.Optimizer.{fold-leaf, fold-over, fold-join, ConstantFolding}
@@ -17,7 +16,7 @@ use Rattle.sound.specs.Answers.{answer-is}
 use Rattle.cells.specs.declared.Cell.{Cell}
 use Rattle.cells.specs.Cells.{sized, cell-at, start-at, Part, Sized}
 use Rattle.cells.specs.Room.{Wrote, Seals, Copies}
-use Rattle.cells.proofs.Laws.{then, part-left, part-right, part-in}
+use Rattle.cells.proofs.Laws.{part-left, part-right, part-in}
 use Rattle.words.specs.Words.{cell, all-words, expression-words, row-words, node-words, leaf-own, over-own, join-own, leaf-cell, over-cell, join-cell, source-words, own-words, node-cell}
 use Rattle.words.specs.Place.{NodeHere, NodeAt}
 use Rattle.words.proofs.Nodes.{node-shape, node-cell-is, node-in, node-size-at, node-start, node-long, source-part}
@@ -26,12 +25,12 @@ use Rattle.nodes.specs.Own.{OwnStart}
 use Rattle.fold_operator.specs.Left.{Appended}
 use Rattle.fold_operator.specs.declared.Folded.{Folded}
 use Rattle.fold_operator.specs.declared.Folded.the-variants as Folded
-use Rattle.fold_operator.proofs.Parts.{appended, wrote, appended-part, before-stays, part-kept}
+use Rattle.fold_operator.proofs.Parts.{appended, wrote}
 use Rattle.fold_parts.specs.Leaves.{Leaves, Up-to}
 use Rattle.fold_parts.specs.Parts.{Part-fits}
 use Rattle.fold_parts.specs.Own.{own-parts, OwnHere, OwnAt, Own-left, FoldsOwn}
 use Rattle.fold_parts.proofs.Leaves.{appended-none, appended-then, appended-as, answer-as, said-as, up-to-as, refused-on, done-on, made-into, made-of}
-use Rattle.constant_folding.specs.Nodes.{Node-fits, earlier-source, last-source, words-of, fold-source, SourcesAt, LastStart, ClosesAt, Closes, SourceHere, SourceAt, Same-below, Stays, FoldsSource}
+use Rattle.constant_folding.specs.Nodes.{Node-fits, earlier-source, last-source, words-of, fold-source, SourcesAt, LastStart, SourceHere, SourceAt, FoldsSource, first-refusal, node-refusal, Refuses}
 use Rattle.constant_folding.proofs.Cells.{leaf-cell-kept, over-cell-kept, join-cell-kept}
 
 -- ---- last_source
@@ -58,13 +57,6 @@ module _ {x : List ℕ} {lo m : ℕ} where
     last-some e (leaf l) u = absurd (omega (arith, u .high))
     last-some e (over o n) u = let k = node-start n (record { part = u }) in omega arith
     last-some e (join outer j l r) u = e ∙ node-start r (record { part = part-right (node-words l) (node-words r) u })
-
--- ---- close
-
-pub closes : {x : List ℕ} {hi : ℕ} {y : List ℕ} {at m : ℕ} {z : List ℕ} {zat n end r : ℕ} {k : Cell} {y₁ y₂ : List ℕ} → length y₁ ≡ length y → k ≡ cell-at x hi
-    → Copies z zat n y m end y₁ → Seals y₁ at end k r y₂ → Closes x hi y at m z zat n r y₂
-closes {at = at} {r = r} {y₂ = y₂} long e c s =
-    record { over-all = λ y₀ v w l a p. subst (λ (k : Cell). Wrote y₀ at (sized (v ++ w) k) r y₂) e (s y₀ (v ++ w) (long ∙ l) (then l a (c w p))) }
 
 -- ---- where the sources stand
 
@@ -178,58 +170,101 @@ module _ {text x : List ℕ} {lo hi : ℕ} where
           go (over o n) u f = made (over o n) u f (t .first) (over-mid own last (t .first) (t .numbered) o n u)
           go (join outer j l r) u f = made (join outer j l r) u f (t .first + node-size l) (join-mid own last (t .first) (t .numbered) outer j l r u)
 
--- ---- what waits in z
+-- ---- what is appended
 
--- Some words are appended.
-pub record Waiting (z : List ℕ) (zat n : ℕ) (z′ : List ℕ) : Type 0 where
+-- Some words are.
+pub record Some-appended (y : List ℕ) (at n : ℕ) (y′ : List ℕ) : Type 0 where
   pub words : List ℕ
-  pub is : Appended z zat words n z′
+  pub is : Appended y at words n y′
 
-waits : {A : Type 0} {f : A → List ℕ} {z : List ℕ} {zat n : ℕ} {z′ : List ℕ} (a : Answer A) → Leaves f z zat a (Folded.Done n) z′ → Waiting z zat n z′
-waits {f = f} (done y) h = record { words = f y; is = h .left }
-waits (refused i p) h = absurd (h .left)
+some-left : {A : Type 0} {f : A → List ℕ} {y : List ℕ} {at n : ℕ} {y′ : List ℕ} (a : Answer A) → Leaves f y at a (Folded.Done n) y′ → Some-appended y at n y′
+some-left {f = f} (done y) h = record { words = f y; is = h .left }
+some-left (refused i p) h = absurd (h .left)
 
-own-waits : {z : List ℕ} {zat n : ℕ} {z′ : List ℕ} (first : ℕ) (p : Node) → Own-left z zat first p (Folded.Done n) z′ → Waiting z zat n z′
-own-waits first (leaf l) h = waits (fold-leaf first l) h
-own-waits first (over o n) h = waits (fold-over first o) h
-own-waits first (join outer j l r) h = waits (fold-join first j) h
+own-left : {y : List ℕ} {at n : ℕ} {y′ : List ℕ} (first : ℕ) (p : Node) → Own-left y at first p (Folded.Done n) y′ → Some-appended y at n y′
+own-left first (leaf l) h = some-left (fold-leaf first l) h
+own-left first (over o n) h = some-left (fold-over first o) h
+own-left first (join outer j l r) h = some-left (fold-join first j) h
 
-stays-as : {zat : ℕ} {z z′ : List ℕ} {r q : Folded} → r ≡ q → Stays zat z z′ r → Stays zat z z′ q
-stays-as {zat} {z} {z′} e h = subst (λ (x : Folded). Stays zat z z′ x) e h
+own-as : (y : List ℕ) (at : ℕ) {r q : Folded} (y′ : List ℕ) → r ≡ q → (first : ℕ) (p : Node) → Own-left y at first p r y′ → Own-left y at first p q y′
+own-as y at y′ e first (leaf l) h = said-as e h
+own-as y at y′ e first (over o n) h = said-as e h
+own-as y at y′ e first (join outer j l r) h = said-as e h
 
-own-as : (z : List ℕ) (zat : ℕ) {r q : Folded} (z′ : List ℕ) → r ≡ q → (first : ℕ) (p : Node) → Own-left z zat first p r z′ → Own-left z zat first p q z′
-own-as z zat z′ e first (leaf l) h = said-as e h
-own-as z zat z′ e first (over o n) h = said-as e h
-own-as z zat z′ e first (join outer j l r) h = said-as e h
-
-pub own-bound : {text x : List ℕ} {lo hi : ℕ} {z : List ℕ} {zat m : ℕ} {q : Folded} {z′ : List ℕ} {n : ℕ} → q ≡ Folded.Done n → FoldsOwn text x lo hi z zat m q z′ → n ≤ zat + (hi - 6 - m)
+pub own-bound : {text x : List ℕ} {lo hi : ℕ} {y : List ℕ} {at m : ℕ} {q : Folded} {y′ : List ℕ} {n : ℕ} → q ≡ Folded.Done n → FoldsOwn text x lo hi y at m q y′ → n ≤ at + (hi - 6 - m)
 own-bound e g = up-to-as e (g .within) .ends
 
-pub source-bound : {text x : List ℕ} {lo hi : ℕ} {y : List ℕ} {at : ℕ} {z : List ℕ} {zat : ℕ} {q : Folded} {y′ z′ : List ℕ} {n : ℕ} → q ≡ Folded.Done n
-    → FoldsSource text x lo hi y at z zat q y′ z′ → n ≤ at + (hi - lo)
+pub source-bound : {text x : List ℕ} {lo hi : ℕ} {y : List ℕ} {at : ℕ} {q : Folded} {y′ : List ℕ} {n : ℕ} → q ≡ Folded.Done n → FoldsSource text x lo hi y at q y′ → n ≤ at + (hi - lo)
 source-bound e g = up-to-as e (g .within) .ends
 
-pub own-waiting : {text x : List ℕ} {lo hi : ℕ} {z : List ℕ} {zat m : ℕ} {q : Folded} {z′ : List ℕ} {n : ℕ} → OwnAt text x lo hi m → q ≡ Folded.Done n
-    → FoldsOwn text x lo hi z zat m q z′ → Waiting z zat n z′
-own-waiting {z = z} {zat} {z′ = z′} t e g = own-waits (t .first) (t .p) (own-as z zat z′ e (t .first) (t .p) (g .leaves (t .first) (t .p) (t .numbered) (t .here)))
+own-appended : {text x : List ℕ} {lo hi : ℕ} {y : List ℕ} {at m : ℕ} {q : Folded} {y′ : List ℕ} {n : ℕ} → OwnAt text x lo hi m → q ≡ Folded.Done n
+    → FoldsOwn text x lo hi y at m q y′ → Some-appended y at n y′
+own-appended {y = y} {at} {y′ = y′} t e g = own-left (t .first) (t .p) (own-as y at y′ e (t .first) (t .p) (g .leaves (t .first) (t .p) (t .numbered) (t .here)))
 
--- What is folded is appended too.
-pub source-waiting : {text x : List ℕ} {lo hi : ℕ} {y : List ℕ} {at : ℕ} {z : List ℕ} {zat : ℕ} {q : Folded} {y′ z′ : List ℕ} {n : ℕ} → SourceAt text x lo hi → q ≡ Folded.Done n
-    → FoldsSource text x lo hi y at z zat q y′ z′ → Waiting y at n y′
-source-waiting t e g = waits (fold-source (t .first) (t .source)) (said-as e (g .leaves (t .first) (t .source) (t .numbered) (t .here)))
+pub source-appended : {text x : List ℕ} {lo hi : ℕ} {y : List ℕ} {at : ℕ} {q : Folded} {y′ : List ℕ} {n : ℕ} → SourceAt text x lo hi → q ≡ Folded.Done n
+    → FoldsSource text x lo hi y at q y′ → Some-appended y at n y′
+source-appended t e g = some-left (fold-source (t .first) (t .source)) (said-as e (g .leaves (t .first) (t .source) (t .numbered) (t .here)))
 
--- It can be copied, however the words behind it change.
-pub waiting-in : {text x : List ℕ} {lo hi m : ℕ} → lo < hi → OwnStart x lo hi m → SourceAt text x lo hi → {z : List ℕ} {zat : ℕ} {q : Folded} {z₁ : List ℕ} {n : ℕ}
-    → FoldsOwn text x lo hi z zat m q z₁ → q ≡ Folded.Done n → {z₂ : List ℕ} → length z₂ ≡ length z → n ≤ length z → ClosesAt x hi z₂ zat n
-waiting-in h own t g e long k =
-    let (i, (j, l)) = own-in own h t in
-    let w = own-waiting (own-at own h t) e g in
-    record { first = omega arith; last = l; order = omega (arith, w .is .ends); inside = omega arith }
+-- ---- refuse
+
+module _ {text x : List ℕ} {lo hi m number place : ℕ} {y : List ℕ} {at : ℕ} {q : Folded} {y₁ : List ℕ} (g : FoldsOwn text x lo hi y at m q y₁) where
+  pub refuses-then : {n : ℕ} → q ≡ Folded.Done n → Refuses text x lo hi m number place (Folded.Refused number place)
+  refuses-then {n} e = record { is = λ first p k u. go first p (own-as y at y₁ e first p (g .leaves first p k u)) }
+    where
+      of-answer : {A : Type 0} {f : A → List ℕ} (a : Answer A) → Leaves f y at a (Folded.Done n) y₁ → Folded.Refused number place ≡ first-refusal a number place
+      of-answer (done z) h = refl
+      of-answer (refused i p) h = absurd (h .left)
+
+      go : (first : ℕ) (p : Node) → Own-left y at first p (Folded.Done n) y₁ → Folded.Refused number place ≡ node-refusal first p number place
+      go first (leaf l) h = of-answer (fold-leaf first l) h
+      go first (over o s) h = of-answer (fold-over first o) h
+      go first (join outer j a b) h = of-answer (fold-join first j) h
+
+  pub refuses-first : {i c : ℕ} → q ≡ Folded.Refused i c → Refuses text x lo hi m number place (Folded.Refused i c)
+  refuses-first {i} {c} e = record { is = λ first p k u. go first p (own-as y at y₁ e first p (g .leaves first p k u)) }
+    where
+      of-answer : {A : Type 0} {f : A → List ℕ} (a : Answer A) → Leaves f y at a (Folded.Refused i c) y₁ → Folded.Refused i c ≡ first-refusal a number place
+      of-answer (done z) h = absurd (h .left)
+      of-answer (refused j d) h = ap (λ (n : ℕ). Folded.Refused n c) (h .left .0) ∙ ap (λ (n : ℕ). Folded.Refused j n) (h .left .1)
+
+      go : (first : ℕ) (p : Node) → Own-left y at first p (Folded.Refused i c) y₁ → Folded.Refused i c ≡ node-refusal first p number place
+      go first (leaf l) h = of-answer (fold-leaf first l) h
+      go first (over o s) h = of-answer (fold-over first o) h
+      go first (join outer j a b) h = of-answer (fold-join first j) h
+
+-- Whatever it is, it is a refusal.
+pub record Refusal (r : Folded) : Type 0 where
+  pub number : ℕ
+  pub place : ℕ
+  pub is : r ≡ Folded.Refused number place
+
+refusal : (first : ℕ) (p : Node) (number place : ℕ) → Refusal (node-refusal first p number place)
+refusal first p number place = go p
+  where
+    of-answer : {A : Type 0} (a : Answer A) → Refusal (first-refusal a number place)
+    of-answer (done y) = record { number = number; place = place; is = refl }
+    of-answer (refused i c) = record { number = i; place = c; is = refl }
+
+    go : (p : Node) → Refusal (node-refusal first p number place)
+    go (leaf l) = of-answer (fold-leaf first l)
+    go (over o n) = of-answer (fold-over first o)
+    go (join outer j l r) = of-answer (fold-join first j)
+
+pub refuses-some : {text x : List ℕ} {lo hi m number place : ℕ} {r : Folded} → OwnAt text x lo hi m → Refuses text x lo hi m number place r → Refusal r
+refuses-some {number = number} {place} t w =
+    let f = refusal (t .first) (t .p) number place in
+    record { number = f .number; place = f .place; is = w .is (t .first) (t .p) (t .numbered) (t .here) ∙ f .is }
+
+-- The own parts' refusal, or that of what is folded after them.
+refused-after : {A B : Type 0} {g : B → List ℕ} {d : List ℕ} {at number place : ℕ} {d′ : List ℕ} {r : Folded} (a : Answer A) (k : A → Answer B)
+    → ((y : A) → Leaves g d at (k y) (Folded.Refused number place) d′) → r ≡ first-refusal a number place → Leaves g d at (a >>= k) r d′
+refused-after (done y) k h e = said-as (sym e) (h y)
+refused-after (refused i p) k h e = said-as (sym e) (record { left = (refl, refl) })
 
 -- ---- fold_node
 
-pub source-none : {text x : List ℕ} {lo hi : ℕ} {y : List ℕ} {at : ℕ} {z : List ℕ} {zat : ℕ} → hi ≤ lo → FoldsSource text x lo hi y at z zat (Folded.Done at) y z
-source-none {text} {x} {lo} {hi} {y} {at} h = record { leaves = go; within = record { ends = omega arith }; stays = record { same = refl } }
+pub source-none : {text x : List ℕ} {lo hi : ℕ} {y : List ℕ} {at : ℕ} → hi ≤ lo → FoldsSource text x lo hi y at (Folded.Done at) y
+source-none {text} {x} {lo} {hi} {y} {at} h = record { leaves = go; within = record { ends = omega arith } }
   where
     go : (first : ℕ) (source : Option Node) → lo ≡ 6 * first → SourceHere text x lo hi source → Leaves words-of y at (fold-source first source) (Folded.Done at) y
     go first none e u = record { left = appended-none y at }
@@ -255,13 +290,12 @@ module _ {text x : List ℕ} {lo hi : ℕ} where
   pub source-in : lo < hi → SourceAt text x lo hi → (lo ≤ hi) × (hi ≤ length x)
   source-in h t = by-node (λ o. (lo ≤ hi) × (hi ≤ length x)) (λ p u f. (omega arith, node-in p u .1)) h (t .source) (t .here)
 
-  pub source-single : {y : List ℕ} {at : ℕ} {z : List ℕ} {zat r : ℕ} {y₁ : List ℕ} → hi - lo ≡ 6 → at + (hi - lo) ≤ length y → SourceAt text x lo hi → Copies x lo hi y at r y₁
-      → FoldsSource text x lo hi y at z zat (Folded.Done r) y₁ z
-  source-single {y} {at} {r = r} {y₁ = y₁} h room t c = record {
+  pub source-single : {y : List ℕ} {at r : ℕ} {y₁ : List ℕ} → hi - lo ≡ 6 → at + (hi - lo) ≤ length y → SourceAt text x lo hi → Copies x lo hi y at r y₁
+      → FoldsSource text x lo hi y at (Folded.Done r) y₁
+  source-single {y} {at} {r} {y₁} h room t c = record {
     leaves = λ first source k u. by-node (λ o. Leaves words-of y at (fold-source first o) (Folded.Done r) y₁)
         (λ p v f. made-into (ConstantFolding first p) some (λ q. refl) (answer-as (sym (node-alone first p v h)) (record { left = copied p v }))) (omega arith) source u;
     within = record { ends = by-node (λ o. r ≤ at + (hi - lo)) (λ p v f. omega (arith, copied p v .ends, v .part .high)) (omega arith) (t .source) (t .here) };
-    stays = record { same = refl };
   }
     where
       copied : (p : Node) → NodeHere x lo hi p → Appended y at (node-words p) r y₁
@@ -291,147 +325,134 @@ module _ {x : List ℕ} {lo hi : ℕ} where
       ∙ ap (λ (c : Cell). sized (node-words a ++ (node-words b ++ join-own k)) c)
       (node-cell-is (join outer j l r) u ∙ ap cell (sym (answer-is (λ m. join-cell outer m ≡ join-cell outer j) (fold-join first j) k (join-cell-kept outer first j) e)))
 
-module _ {text x : List ℕ} {lo hi m mid : ℕ} (h : lo < hi) (own : OwnStart x lo hi m) (last : LastStart x lo m mid)
-    {y : List ℕ} {at : ℕ} {z : List ℕ} {zat : ℕ} {q : Folded} {z₁ : List ℕ} (g : FoldsOwn text x lo hi z zat m q z₁) where
-  pub own-refused : {j i : ℕ} → q ≡ Folded.Refused j i → FoldsSource text x lo hi y at z zat (Folded.Refused j i) y z₁
-  own-refused {j} {i} e = record {
-    leaves = λ first source n u. by-node (λ o. Leaves words-of y at (fold-source first o) (Folded.Refused j i) y)
-        (λ p v f. made-into (ConstantFolding first p) some (λ q. refl) (go first n p v f)) h source u;
-    within = record { ends = tt };
-    stays = record { same = tt };
+module _ {text x : List ℕ} {lo hi m mid : ℕ} (h : lo < hi) (own : OwnStart x lo hi m) (last : LastStart x lo m mid) {y : List ℕ} {at : ℕ} where
+  node-folded : {r : Folded} {y′ : List ℕ}
+      → ((first : ℕ) → lo ≡ 6 * first → (p : Node) → NodeHere x lo hi p → Node-fits text p → Leaves node-words y at (ConstantFolding first p) r y′)
+      → Up-to (at + (hi - lo)) r → FoldsSource text x lo hi y at r y′
+  node-folded {r} {y′} go w = record {
+    leaves = λ first source k u. by-node (λ o. Leaves words-of y at (fold-source first o) r y′)
+        (λ p v f. made-into (ConstantFolding first p) some (λ q. refl) (go first k p v f)) h source u;
+    within = w;
   }
-    where
-      go : (first : ℕ) → lo ≡ 6 * first → (p : Node) → NodeHere x lo hi p → Node-fits text p → Leaves node-words y at (ConstantFolding first p) (Folded.Refused j i) y
-      go first n (leaf l) v f = refused-on (fold-leaf first l) (λ m. done (leaf m)) (said-as e (g .leaves first (leaf l) (leaf-number own first n l v) (own-here (leaf l) v f)))
-      go first n (over o s) v f =
-          refused-on (fold-over (first + node-size s) o) (λ p. ConstantFolding first s >>= λ t. done (over p t))
-          (said-as e (g .leaves (first + node-size s) (over o s) (over-number own first n o s v) (own-here (over o s) v f)))
-      go first n (join outer c a b) v f =
-          refused-on (fold-join (first + (node-size a + node-size b)) c) (λ k. ConstantFolding first a >>= λ l. ConstantFolding (first + node-size a) b >>= λ r. done (join outer k l r))
-          (said-as e (g .leaves (first + (node-size a + node-size b)) (join outer c a b) (join-number own first n outer c a b v) (own-here (join outer c a b) v f)))
 
-  module _ {n : ℕ} (qe : q ≡ Folded.Done n) {q₂ : Folded} {y₁ z₂ : List ℕ} (g₂ : FoldsSource text x lo mid y at z₁ n q₂ y₁ z₂) where
-    -- what each call leaves, by the kind of node
-    leaf-own-left : (first : ℕ) → lo ≡ 6 * first → (l : Leaf) → NodeHere x lo hi (leaf l) → Node-fits text (leaf l) → Leaves leaf-own z zat (fold-leaf first l) (Folded.Done n) z₁
-    leaf-own-left first e l u f = said-as qe (g .leaves first (leaf l) (leaf-number own first e l u) (own-here (leaf l) u f))
+  -- a source is refused
+  node-refused : SourceAt text x lo hi → {number place : ℕ} {r : Folded} {y′ : List ℕ} → Refuses text x lo hi m number place r
+      → ((first : ℕ) → lo ≡ 6 * first → (p : Node) → NodeHere x lo hi p → Node-fits text p → Leaves node-words y at (ConstantFolding first p) r y′)
+      → FoldsSource text x lo hi y at r y′
+  node-refused t w go = let f = refuses-some (own-at own h t) w in node-folded go (up-to-as (sym (f .is)) (record { ends = tt }))
 
-    over-own-left : (first : ℕ) → lo ≡ 6 * first → (o : Over) (s : Node) → NodeHere x lo hi (over o s) → Node-fits text (over o s)
-        → Leaves over-own z zat (fold-over (first + node-size s) o) (Folded.Done n) z₁
-    over-own-left first e o s u f = said-as qe (g .leaves (first + node-size s) (over o s) (over-number own first e o s u) (own-here (over o s) u f))
-
-    join-own-left : (first : ℕ) → lo ≡ 6 * first → (outer : Bool) (c : Join) (a b : Node) → NodeHere x lo hi (join outer c a b) → Node-fits text (join outer c a b)
-        → Leaves join-own z zat (fold-join (first + (node-size a + node-size b)) c) (Folded.Done n) z₁
-    join-own-left first e outer c a b u f =
-        said-as qe (g .leaves (first + (node-size a + node-size b)) (join outer c a b) (join-number own first e outer c a b u) (own-here (join outer c a b) u f))
-
-    pub earlier-refused : {j i : ℕ} → q₂ ≡ Folded.Refused j i → FoldsSource text x lo hi y at z zat (Folded.Refused j i) y₁ z₂
-    earlier-refused {j} {i} e = record {
-      leaves = λ first source k u. by-node (λ o. Leaves words-of y at (fold-source first o) (Folded.Refused j i) y₁)
-          (λ p v f. made-into (ConstantFolding first p) some (λ q. refl) (go first k p v f)) h source u;
-      within = record { ends = tt };
-      stays = record { same = tt };
-    }
+  module _ {q₂ : Folded} {y₁ : List ℕ} (g₂ : FoldsSource text x lo mid y at q₂ y₁) where
+    pub earlier-refused : SourceAt text x lo hi → {j i : ℕ} → q₂ ≡ Folded.Refused j i → {r : Folded} {y′ : List ℕ} → Refuses text x lo hi m j i r → FoldsSource text x lo hi y at r y′
+    earlier-refused t {j} {i} e {r} {y′} w = node-refused t w go
       where
-        go : (first : ℕ) → lo ≡ 6 * first → (p : Node) → NodeHere x lo hi p → Node-fits text p → Leaves node-words y at (ConstantFolding first p) (Folded.Refused j i) y₁
+        go : (first : ℕ) → lo ≡ 6 * first → (p : Node) → NodeHere x lo hi p → Node-fits text p → Leaves node-words y at (ConstantFolding first p) r y′
         go first k (leaf l) v f = absurd (said-as e (g₂ .leaves first none k (earlier-here own last (leaf l) v f)) .left)
         go first k (over o s) v f = absurd (said-as e (g₂ .leaves first none k (earlier-here own last (over o s) v f)) .left)
         go first k (join outer c a b) v f =
-            done-on (fold-join (first + (node-size a + node-size b)) c) (λ k. ConstantFolding first a >>= λ l. ConstantFolding (first + node-size a) b >>= λ r. done (join outer k l r))
-            (join-own-left first k outer c a b v f)
-            (λ d _ _. refused-on (ConstantFolding first a) (λ l. ConstantFolding (first + node-size a) b >>= λ r. done (join outer d l r))
+            refused-after (fold-join (first + (node-size a + node-size b)) c)
+            (λ k. ConstantFolding first a >>= λ l. ConstantFolding (first + node-size a) b >>= λ r. done (join outer k l r))
+            (λ d. refused-on (ConstantFolding first a) (λ l. ConstantFolding (first + node-size a) b >>= λ r. done (join outer d l r))
             (node-left first a (said-as e (g₂ .leaves first (some a) k (earlier-here own last (join outer c a b) v f)))))
+            (w .is (first + (node-size a + node-size b)) (join outer c a b) (join-number own first k outer c a b v) (own-here (join outer c a b) v f))
 
-    module _ {e : ℕ} (q₂e : q₂ ≡ Folded.Done e) {q₃ : Folded} {y₂ z₃ : List ℕ} (g₃ : FoldsSource text x mid m y₁ e z₂ n q₃ y₂ z₃) where
+    module _ {e : ℕ} (q₂e : q₂ ≡ Folded.Done e) {q₃ : Folded} {y₂ : List ℕ} (g₃ : FoldsSource text x mid m y₁ e q₃ y₂) where
       join-earlier : (first : ℕ) → lo ≡ 6 * first → (outer : Bool) (c : Join) (a b : Node) → NodeHere x lo hi (join outer c a b) → Node-fits text (join outer c a b)
           → Leaves node-words y at (ConstantFolding first a) (Folded.Done e) y₁
       join-earlier first k outer c a b v f = node-left first a (said-as q₂e (g₂ .leaves first (some a) k (earlier-here own last (join outer c a b) v f)))
 
-      pub last-refused : {j i : ℕ} → q₃ ≡ Folded.Refused j i → FoldsSource text x lo hi y at z zat (Folded.Refused j i) y₂ z₃
-      last-refused {j} {i} w = record {
-        leaves = λ first source k u. by-node (λ o. Leaves words-of y at (fold-source first o) (Folded.Refused j i) y₂)
-            (λ p v f. made-into (ConstantFolding first p) some (λ q. refl) (go first k p v f)) h source u;
-        within = record { ends = tt };
-        stays = record { same = tt };
-      }
+      pub last-refused : SourceAt text x lo hi → {j i : ℕ} → q₃ ≡ Folded.Refused j i → {r : Folded} {y′ : List ℕ} → Refuses text x lo hi m j i r → FoldsSource text x lo hi y at r y′
+      last-refused t {j} {i} z {r} {y′} w = node-refused t w go
         where
-          go : (first : ℕ) → lo ≡ 6 * first → (p : Node) → NodeHere x lo hi p → Node-fits text p → Leaves node-words y at (ConstantFolding first p) (Folded.Refused j i) y₂
-          go first k (leaf l) v f = absurd (said-as w (g₃ .leaves first none (omega (arith, mid-is own last (leaf l) v)) (last-here own last (leaf l) v f)) .left)
+          go : (first : ℕ) → lo ≡ 6 * first → (p : Node) → NodeHere x lo hi p → Node-fits text p → Leaves node-words y at (ConstantFolding first p) r y′
+          go first k (leaf l) v f = absurd (said-as z (g₃ .leaves first none (omega (arith, mid-is own last (leaf l) v)) (last-here own last (leaf l) v f)) .left)
           go first k (over o s) v f =
-              done-on (fold-over (first + node-size s) o) (λ p. ConstantFolding first s >>= λ t. done (over p t)) (over-own-left first k o s v f)
-              (λ d _ _. refused-on (ConstantFolding first s) (λ t. done (over d t))
-              (node-left first s (said-as w (g₃ .leaves first (some s) (over-mid own last first k o s v) (last-here own last (over o s) v f)))))
+              refused-after (fold-over (first + node-size s) o) (λ p. ConstantFolding first s >>= λ t. done (over p t))
+              (λ d. refused-on (ConstantFolding first s) (λ t. done (over d t))
+              (node-left first s (said-as z (g₃ .leaves first (some s) (over-mid own last first k o s v) (last-here own last (over o s) v f)))))
+              (w .is (first + node-size s) (over o s) (over-number own first k o s v) (own-here (over o s) v f))
           go first k (join outer c a b) v f =
-              done-on (fold-join (first + (node-size a + node-size b)) c) (λ k. ConstantFolding first a >>= λ l. ConstantFolding (first + node-size a) b >>= λ r. done (join outer k l r))
-              (join-own-left first k outer c a b v f)
-              (λ d _ _. done-on (ConstantFolding first a) (λ l. ConstantFolding (first + node-size a) b >>= λ r. done (join outer d l r)) (join-earlier first k outer c a b v f)
+              refused-after (fold-join (first + (node-size a + node-size b)) c)
+              (λ k. ConstantFolding first a >>= λ l. ConstantFolding (first + node-size a) b >>= λ r. done (join outer k l r))
+              (λ d. done-on (ConstantFolding first a) (λ l. ConstantFolding (first + node-size a) b >>= λ r. done (join outer d l r)) (join-earlier first k outer c a b v f)
               (λ l _ _. refused-on (ConstantFolding (first + node-size a) b) (λ r. done (join outer d l r))
-              (node-left (first + node-size a) b (said-as w (g₃ .leaves (first + node-size a) (some b) (join-mid own last first k outer c a b v) (last-here own last (join outer c a b) v f))))))
+              (node-left (first + node-size a) b (said-as z (g₃ .leaves (first + node-size a) (some b) (join-mid own last first k outer c a b v) (last-here own last (join outer c a b) v f))))))
+              (w .is (first + (node-size a + node-size b)) (join outer c a b) (join-number own first k outer c a b v) (own-here (join outer c a b) v f))
 
-      module _ {i : ℕ} (q₃e : q₃ ≡ Folded.Done i) where
-        -- What waited is still there.
-        same-z : take n z₃ ≡ take n z₁
-        same-z = stays-as q₃e (g₃ .stays) .same ∙ stays-as q₂e (g₂ .stays) .same
+      module _ {i : ℕ} (q₃e : q₃ ≡ Folded.Done i) {q : Folded} {y₃ : List ℕ} (g : FoldsOwn text x lo hi y₂ i m q y₃) where
+        pub own-refused : {j c : ℕ} → q ≡ Folded.Refused j c → FoldsSource text x lo hi y at (Folded.Refused j c) y₃
+        own-refused {j} {c} z = node-folded go (record { ends = tt })
+          where
+            go : (first : ℕ) → lo ≡ 6 * first → (p : Node) → NodeHere x lo hi p → Node-fits text p → Leaves node-words y at (ConstantFolding first p) (Folded.Refused j c) y₃
+            go first n (leaf l) v f = refused-on (fold-leaf first l) (λ m. done (leaf m)) (said-as z (g .leaves first (leaf l) (leaf-number own first n l v) (own-here (leaf l) v f)))
+            go first n (over o s) v f =
+                refused-on (fold-over (first + node-size s) o) (λ p. ConstantFolding first s >>= λ t. done (over p t))
+                (said-as z (g .leaves (first + node-size s) (over o s) (over-number own first n o s v) (own-here (over o s) v f)))
+            go first n (join outer c a b) v f =
+                refused-on (fold-join (first + (node-size a + node-size b)) c)
+                (λ k. ConstantFolding first a >>= λ l. ConstantFolding (first + node-size a) b >>= λ r. done (join outer k l r))
+                (said-as z (g .leaves (first + (node-size a + node-size b)) (join outer c a b) (join-number own first n outer c a b v) (own-here (join outer c a b) v f)))
 
-        module _ (t : SourceAt text x lo hi) (zroom : zat + (hi - lo) ≤ length z) (room : at + (hi - lo) ≤ length y) (long₁ : length y₁ ≡ length y) (long₂ : length y₂ ≡ length y₁)
-            {r : ℕ} {y₃ : List ℕ} (c : Closes x hi y₂ at i z₃ zat n r y₃) where
-          closed-room : (v w o : List ℕ) (k : Cell) → Appended y at v e y₁ → Appended y₁ e w i y₂ → Appended z zat o n z₁ → at + length (sized ((v ++ w) ++ o) k) ≤ at + (hi - lo)
-          closed-room v w o k a b d =
-              let (j₁, (j₂, j₃)) = own-in own h t in
-              let (j₄, j₅) = mid-in own last h t in
-              omega (arith, sized-long ((v ++ w) ++ o) k, length-append (v ++ w) o, length-append v w, a .ends, b .ends, d .ends, own-bound qe g, source-bound q₂e g₂, source-bound q₃e g₃)
+        module _ {n : ℕ} (qe : q ≡ Folded.Done n) where
+          -- what each call leaves, by the kind of node
+          leaf-own-left : (first : ℕ) → lo ≡ 6 * first → (l : Leaf) → NodeHere x lo hi (leaf l) → Node-fits text (leaf l) → Leaves leaf-own y₂ i (fold-leaf first l) (Folded.Done n) y₃
+          leaf-own-left first e l u f = said-as qe (g .leaves first (leaf l) (leaf-number own first e l u) (own-here (leaf l) u f))
 
-          closed : (v w o : List ℕ) → Appended y at v e y₁ → Appended y₁ e w i y₂ → Appended z zat o n z₁ → Appended y at (sized ((v ++ w) ++ o) (cell-at x hi)) r y₃
-          closed v w o a b d =
-              let j = closed-room v w o (cell-at x hi) a b d in
-              let k = appended-then a b in
-              appended (c .over-all y (v ++ w) o (long₂ ∙ long₁) (wrote k (omega (arith, sized-long ((v ++ w) ++ o) (cell-at x hi), length-append (v ++ w) o)))
-              (part-kept (appended-part d (omega arith)) same-z)) (omega arith)
+          over-own-left : (first : ℕ) → lo ≡ 6 * first → (o : Over) (s : Node) → NodeHere x lo hi (over o s) → Node-fits text (over o s)
+              → Leaves over-own y₂ i (fold-over (first + node-size s) o) (Folded.Done n) y₃
+          over-own-left first e o s u f = said-as qe (g .leaves (first + node-size s) (over o s) (over-number own first e o s u) (own-here (over o s) u f))
 
-          node-done : (first : ℕ) → lo ≡ 6 * first → (p : Node) → NodeHere x lo hi p → Node-fits text p → Leaves node-words y at (ConstantFolding first p) (Folded.Done r) y₃
-          node-done first k (leaf l) v f =
-              done-on (fold-leaf first l) (λ m. done (leaf m)) (leaf-own-left first k l v f)
-              (λ d de da. record {
-                left = appended-as (leaf-words first l d v de) (closed [] [] (leaf-own d)
-                    (said-as q₂e (g₂ .leaves first none k (earlier-here own last (leaf l) v f)) .left)
-                    (said-as q₃e (g₃ .leaves first none (omega (arith, mid-is own last (leaf l) v)) (last-here own last (leaf l) v f)) .left) da);
-              })
-          node-done first k (over o s) v f =
-              done-on (fold-over (first + node-size s) o) (λ p. ConstantFolding first s >>= λ t. done (over p t)) (over-own-left first k o s v f)
-              (λ d de da. done-on (ConstantFolding first s) (λ t. done (over d t))
-              (node-left first s (said-as q₃e (g₃ .leaves first (some s) (over-mid own last first k o s v) (last-here own last (over o s) v f))))
-              (λ t _ ta. record {
-                left = appended-as (over-words (first + node-size s) o d s t v de) (closed [] (node-words t) (over-own d)
-                    (said-as q₂e (g₂ .leaves first none k (earlier-here own last (over o s) v f)) .left) ta da);
-              }))
-          node-done first k (join outer j a b) v f =
-              done-on (fold-join (first + (node-size a + node-size b)) j) (λ k. ConstantFolding first a >>= λ l. ConstantFolding (first + node-size a) b >>= λ r. done (join outer k l r))
-              (join-own-left first k outer j a b v f)
-              (λ d de da. done-on (ConstantFolding first a) (λ l. ConstantFolding (first + node-size a) b >>= λ r. done (join outer d l r)) (join-earlier first k outer j a b v f)
-              (λ l _ la. done-on (ConstantFolding (first + node-size a) b) (λ r. done (join outer d l r))
-              (node-left (first + node-size a) b (said-as q₃e (g₃ .leaves (first + node-size a) (some b) (join-mid own last first k outer j a b v) (last-here own last (join outer j a b) v f))))
-              (λ r _ ra. record { left = appended-as (join-words (first + (node-size a + node-size b)) outer j d a b l r v de) (closed (node-words l) (node-words r) (join-own d) la ra da) })))
+          join-own-left : (first : ℕ) → lo ≡ 6 * first → (outer : Bool) (c : Join) (a b : Node) → NodeHere x lo hi (join outer c a b) → Node-fits text (join outer c a b)
+              → Leaves join-own y₂ i (fold-join (first + (node-size a + node-size b)) c) (Folded.Done n) y₃
+          join-own-left first e outer c a b u f =
+              said-as qe (g .leaves (first + (node-size a + node-size b)) (join outer c a b) (join-number own first e outer c a b u) (own-here (join outer c a b) u f))
 
-          pub node-closed : FoldsSource text x lo hi y at z zat (Folded.Done r) y₃ z₃
-          node-closed = record {
-            leaves = λ first source k u. by-node (λ o. Leaves words-of y at (fold-source first o) (Folded.Done r) y₃)
-                (λ p v f. made-into (ConstantFolding first p) some (λ q. refl) (node-done first k p v f)) h source u;
-            within = record { ends = ended };
-            stays = record { same = below };
-          }
-            where
-              waiting : Waiting z zat n z₁
-              waiting = own-waiting (own-at own h t) qe g
+          module _ (t : SourceAt text x lo hi) (room : at + (hi - lo) ≤ length y) (long : length y₃ ≡ length y) {k : Cell} (ke : k ≡ cell-at x hi) {r : ℕ} {y₄ : List ℕ} (c : Seals y₃ at n k r y₄) where
+            closed-room : (v w o : List ℕ) → Appended y at v e y₁ → Appended y₁ e w i y₂ → Appended y₂ i o n y₃ → at + length (sized ((v ++ w) ++ o) (cell-at x hi)) ≤ at + (hi - lo)
+            closed-room v w o a b d =
+                let (j₁, (j₂, j₃)) = own-in own h t in
+                let (j₄, j₅) = mid-in own last h t in
+                omega (arith, sized-long ((v ++ w) ++ o) (cell-at x hi), length-append (v ++ w) o, length-append v w, a .ends, b .ends, d .ends, own-bound qe g, source-bound q₂e g₂, source-bound q₃e g₃)
 
-              below : take zat z₃ ≡ take zat z
-              below =
-                  let j : zat ≤ n = omega (arith, waiting .is .ends) in
-                  sym (take-take zat n z₃ j) ∙ (ap (take zat) same-z ∙ (take-take zat n z₁ j ∙ before-stays (waiting .is) (omega arith)))
+            closed : (v w o : List ℕ) → Appended y at v e y₁ → Appended y₁ e w i y₂ → Appended y₂ i o n y₃ → Appended y at (sized ((v ++ w) ++ o) (cell-at x hi)) r y₄
+            closed v w o a b d =
+                let j = closed-room v w o a b d in
+                let l = appended-then (appended-then a b) d in
+                appended (subst (λ (k : Cell). Wrote y at (sized ((v ++ w) ++ o) k) r y₄) ke
+                (c y ((v ++ w) ++ o) long (wrote l (omega (arith, sized-long ((v ++ w) ++ o) (cell-at x hi)))))) (omega arith)
 
-              of-words : (v w o : List ℕ) → Appended y at v e y₁ → Appended y₁ e w i y₂ → Appended z zat o n z₁ → r ≤ at + (hi - lo)
-              of-words v w o a b d = omega (arith, closed v w o a b d .ends, closed-room v w o (cell-at x hi) a b d)
+            node-done : (first : ℕ) → lo ≡ 6 * first → (p : Node) → NodeHere x lo hi p → Node-fits text p → Leaves node-words y at (ConstantFolding first p) (Folded.Done r) y₄
+            node-done first k (leaf l) v f =
+                done-on (fold-leaf first l) (λ m. done (leaf m)) (leaf-own-left first k l v f)
+                (λ d de da. record {
+                  left = appended-as (leaf-words first l d v de) (closed [] [] (leaf-own d)
+                      (said-as q₂e (g₂ .leaves first none k (earlier-here own last (leaf l) v f)) .left)
+                      (said-as q₃e (g₃ .leaves first none (omega (arith, mid-is own last (leaf l) v)) (last-here own last (leaf l) v f)) .left) da);
+                })
+            node-done first k (over o s) v f =
+                done-on (fold-over (first + node-size s) o) (λ p. ConstantFolding first s >>= λ t. done (over p t)) (over-own-left first k o s v f)
+                (λ d de da. done-on (ConstantFolding first s) (λ t. done (over d t))
+                (node-left first s (said-as q₃e (g₃ .leaves first (some s) (over-mid own last first k o s v) (last-here own last (over o s) v f))))
+                (λ t _ ta. record {
+                  left = appended-as (over-words (first + node-size s) o d s t v de) (closed [] (node-words t) (over-own d)
+                      (said-as q₂e (g₂ .leaves first none k (earlier-here own last (over o s) v f)) .left) ta da);
+                }))
+            node-done first k (join outer j a b) v f =
+                done-on (fold-join (first + (node-size a + node-size b)) j) (λ k. ConstantFolding first a >>= λ l. ConstantFolding (first + node-size a) b >>= λ r. done (join outer k l r))
+                (join-own-left first k outer j a b v f)
+                (λ d de da. done-on (ConstantFolding first a) (λ l. ConstantFolding (first + node-size a) b >>= λ r. done (join outer d l r)) (join-earlier first k outer j a b v f)
+                (λ l _ la. done-on (ConstantFolding (first + node-size a) b) (λ r. done (join outer d l r))
+                (node-left (first + node-size a) b (said-as q₃e (g₃ .leaves (first + node-size a) (some b) (join-mid own last first k outer j a b v) (last-here own last (join outer j a b) v f))))
+                (λ r _ ra. record { left = appended-as (join-words (first + (node-size a + node-size b)) outer j d a b l r v de) (closed (node-words l) (node-words r) (join-own d) la ra da) })))
 
-              ended : r ≤ at + (hi - lo)
-              ended =
-                  let a = source-waiting (earlier-at own last h t) q₂e g₂ in
-                  let b = source-waiting (last-at own last h t) q₃e g₃ in
-                  of-words (a .words) (b .words) (waiting .words) (a .is) (b .is) (waiting .is)
+            pub node-closed : FoldsSource text x lo hi y at (Folded.Done r) y₄
+            node-closed = node-folded node-done (record { ends = ended })
+              where
+                of-words : (v w o : List ℕ) → Appended y at v e y₁ → Appended y₁ e w i y₂ → Appended y₂ i o n y₃ → r ≤ at + (hi - lo)
+                of-words v w o a b d = omega (arith, closed v w o a b d .ends, closed-room v w o a b d)
+
+                ended : r ≤ at + (hi - lo)
+                ended =
+                    let a = source-appended (earlier-at own last h t) q₂e g₂ in
+                    let b = source-appended (last-at own last h t) q₃e g₃ in
+                    let d = own-appended (own-at own h t) qe g in
+                    of-words (a .words) (b .words) (d .words) (a .is) (b .is) (d .is)

@@ -1,8 +1,7 @@
 -- What folding a plan leaves.
-use Prim.Native.Nat.{ℕ, _+_, _-_, _*_, _≤_, _<_}
+use Prim.Native.Nat.{ℕ, _+_, _-_, _≤_, _<_}
 use native.Mathlib.Omega.{arith}
-use mathlib.Core.Bool.{Bool}
-use mathlib.Core.Path.{_≡_, refl, sym, ap, _∙_, subst}
+use mathlib.Core.Path.{_≡_, refl, sym, ap, _∙_}
 use mathlib.Core.List.{List, [], _∷_, _++_, map, append-nil}
 use mathlib.Core.Option.{Option, none, some}
 use lib.ListN.{length, take, drop, take-append-drop}
@@ -12,19 +11,17 @@ use Rattle.sql.specs.Expression.{Expression}
 use Rattle.sql.specs.Plan.{Label, unlabelled, unqualified, qualified, Leaf, scan, lookup, nothing, values, limit, offset, order, projection, remap, aggregate, Over, filter, other, Join, nested-loop, hash, Node, leaf, over, join, columns}
 use Rattle.sql.specs.Answer.{Answer, done, refused}
 use Rattle.sql.specs.Optimizer.{ConstantFolding}
-use Rattle.sheet.specs.Content.{Content, cell-of, item-cell}
+use Rattle.sheet.specs.Content.{cell-of, item-cell}
 use Rattle.sheet_laws.specs.Fits.{All, Optional}
-use Rattle.sound.specs.Answers.{Answered, answer-is}
+use Rattle.sound.specs.Answers.{answer-is}
 use Rattle.sound.specs.Expressions.{weaker}
 use Rattle.sound.specs.Sound.{Fitting, Within, Row-of, Sound-leaf, Sound-over, Sound-join, Sound, Emits}
 use Rattle.sound.specs.Folding.{folding-keeps}
 use Rattle.edit.specs.Edit.{Holds}
 use Rattle.kept.specs.Kept.{Kept}
-use Rattle.cells.specs.Cells.{Part}
 use Rattle.words.specs.Words.{node-words}
 use Rattle.words.specs.Place.{NodeHere}
-use Rattle.words.proofs.Nodes.{node-in}
-use Rattle.fold_operator.specs.Left.{Constants-fit, Appended}
+use Rattle.fold_operator.specs.Left.{Constants-fit}
 use Rattle.fold_operator.specs.declared.Folded.{Folded}
 use Rattle.fold_operator.specs.declared.Folded.the-variants as Folded
 use Rattle.fold_parts.specs.Leaves.{Leaves}
@@ -32,8 +29,8 @@ use Rattle.fold_parts.specs.Leaves as leaves
 use Rattle.fold_parts.specs.Parts.{Own-part, Part-fits}
 use Rattle.fold_parts.specs.Own.{key-part, item-part, row-part, optional-parts, leaf-parts, over-parts, join-parts}
 use Rattle.fold_parts.proofs.Leaves.{made-of}
-use Rattle.constant_folding.specs.Nodes.{Node-fits, words-of, fold-source, SourceHere, SourceAt, FoldsSource}
-use Rattle.constant_folding.specs.Plans.{PlanAt, Plan-done, Left, Plan-folded, FoldsPlan}
+use Rattle.constant_folding.specs.Nodes.{Node-fits, SourceHere, SourceAt, FoldsSource}
+use Rattle.constant_folding.specs.Plans.{PlanAt, Plan-done, Left, FoldsPlan}
 
 -- ---- what stands in the first t words
 
@@ -111,8 +108,8 @@ module _ {text x : List ℕ} {t : ℕ} where
   pub source-at : PlanAt text x t → SourceAt text x 0 t
   source-at a = record { source = some (a .p); here = source-here (a .schema) (a .tables) (a .p) (a .here) (a .kept); first = 0; numbered = omega arith; short = a .short }
 
-  pub plan-folded : {y z : List ℕ} {r : Folded} {y′ z′ : List ℕ} → t ≤ length y → length y′ ≡ length y → FoldsSource text x 0 t y 0 z 0 r y′ z′ → FoldsPlan text x t r y′
-  plan-folded {y} {z} {r} {y′} {z′} room long g schema tables p u k =
+  pub plan-folded : {y : List ℕ} {r : Folded} {y′ : List ℕ} → t ≤ length y → length y′ ≡ length y → FoldsSource text x 0 t y 0 r y′ → FoldsPlan text x t r y′
+  plan-folded {y} {r} {y′} room long g schema tables p u k =
       record { left = go (ConstantFolding 0 p) r refl (made-of (ConstantFolding 0 p) some (λ q. refl) (g .leaves 0 (some p) (omega arith) (source-here schema tables p u k))) (g .within) }
     where
       go : (a : Answer Node) (r : Folded) → ConstantFolding 0 p ≡ a → Leaves node-words y 0 a r y′ → leaves.Up-to (0 + (t - 0)) r → Left schema text tables p t a r y′

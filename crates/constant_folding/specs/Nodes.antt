@@ -1,21 +1,20 @@
 -- What folding a node of a plan does. The sources of a node are one kind: a node, or nothing.
-use Prim.Native.Nat.{ℕ, _+_, _-_, _*_, _≤_, _<_}
+use Prim.Native.Nat.{ℕ, _+_, _-_, _*_, _<_}
 use mathlib.Core.Path.{_≡_}
-use mathlib.Core.List.{List, [], _++_}
+use mathlib.Core.List.{List, []}
 use mathlib.Core.Option.{Option, none, some}
-use lib.ListN.{length, take}
+use lib.ListN.{length}
 use Rattle.sql.specs.Plan.{Node, leaf, over, join}
-use Rattle.sql.specs.Answer.{Answer, done, _>>=_}
-use Rattle.sql.specs.Optimizer.{ConstantFolding}
+use Rattle.sql.specs.Answer.{Answer, done, refused, _>>=_}
+use Rattle.sql.specs.Optimizer.{fold-leaf, fold-over, fold-join, ConstantFolding}
 use Rattle.sheet_laws.specs.Fits.{All, Optional}
-use Rattle.cells.specs.Cells.{sized, cell-at, Part}
-use Rattle.cells.specs.Room.{Wrote}
+use Rattle.cells.specs.Cells.{Part}
 use Rattle.words.specs.Words.{node-words, source-words}
 use Rattle.fold_operator.specs.declared.Folded.{Folded}
 use Rattle.fold_operator.specs.declared.Folded.the-variants as Folded
 use Rattle.fold_parts.specs.Leaves.{Leaves, Up-to}
 use Rattle.fold_parts.specs.Parts.{Part-fits}
-use Rattle.fold_parts.specs.Own.{leaf-parts, over-parts, join-parts}
+use Rattle.fold_parts.specs.Own.{leaf-parts, over-parts, join-parts, OwnHere}
 
 -- The own parts of the node, and of all below it, fit.
 abbrev pub Node-fits : List ℕ → Node → Type 0
@@ -56,16 +55,6 @@ pub record SourcesAt (x : List ℕ) (lo m : ℕ) : Type 0 where
 abbrev pub LastStart : List ℕ → ℕ → ℕ → ℕ → Type 0
 LastStart x lo m r = (p : Node) → Part x lo m (source-words p) → r ≡ lo + length (words-of (earlier-source p))
 
-pub record ClosesAt (x : List ℕ) (hi : ℕ) (z : List ℕ) (zat n : ℕ) : Type 0 where
-  pub first : 6 ≤ hi
-  pub last : hi ≤ length x
-  pub order : zat ≤ n
-  pub inside : n ≤ length z
-
--- Whatever was written from `at` up to m, and whatever stands in z from zat up to n, below the cell that ends before hi in x.
-pub record Closes (x : List ℕ) (hi : ℕ) (y : List ℕ) (at m : ℕ) (z : List ℕ) (zat n r : ℕ) (y′ : List ℕ) : Type 0 where
-  pub over-all : (y₀ v w : List ℕ) → length y ≡ length y₀ → Wrote y₀ at v m y → Part z zat n w → Wrote y₀ at (sized (v ++ w) (cell-at x hi)) r y′
-
 -- The node, if there is one, stands in x from word lo up to hi, and fits.
 pub record SourceHere (text x : List ℕ) (lo hi : ℕ) (source : Option Node) : Type 0 where
   pub stand : Part x lo hi (words-of source)
@@ -79,16 +68,22 @@ pub record SourceAt (text x : List ℕ) (lo hi : ℕ) : Type 0 where
   pub numbered : lo ≡ 6 * first
   pub short : length text < 65536
 
--- The first zat words stay, if nothing is refused.
-abbrev pub Same-below : ℕ → List ℕ → List ℕ → Folded → Type 0
-Same-below zat z z′ (Folded.Done n) = take zat z′ ≡ take zat z
-Same-below zat z z′ (Folded.Refused number place) = Unit {0}
-
-pub record Stays (zat : ℕ) (z z′ : List ℕ) (r : Folded) : Type 0 where
-  pub same : Same-below zat z z′ r
-
 -- The answer of folding it; what is done is not longer than it is.
-pub record FoldsSource (text x : List ℕ) (lo hi : ℕ) (y : List ℕ) (at : ℕ) (z : List ℕ) (zat : ℕ) (r : Folded) (y′ z′ : List ℕ) : Type 0 where
+pub record FoldsSource (text x : List ℕ) (lo hi : ℕ) (y : List ℕ) (at : ℕ) (r : Folded) (y′ : List ℕ) : Type 0 where
   pub leaves : (first : ℕ) (source : Option Node) → lo ≡ 6 * first → SourceHere text x lo hi source → Leaves words-of y at (fold-source first source) r y′
   pub within : Up-to (at + (hi - lo)) r
-  pub stays : Stays zat z z′ r
+
+-- An answer's refusal, and if it is done, the refusal behind it, with this number and place.
+abbrev pub first-refusal : {A : Type 0} → Answer A → ℕ → ℕ → Folded
+first-refusal (done y) number place = Folded.Refused number place
+first-refusal (refused i p) number place = Folded.Refused i p
+
+-- The refusal of a node where a source's is behind that of its own parts. The first cell of these has the number `first`.
+abbrev pub node-refusal : ℕ → Node → ℕ → ℕ → Folded
+node-refusal first (leaf l) number place = first-refusal (fold-leaf first l) number place
+node-refusal first (over o n) number place = first-refusal (fold-over first o) number place
+node-refusal first (join outer j l r) number place = first-refusal (fold-join first j) number place
+
+-- So is whatever node stands there refused, of which a source is refused with this number and place.
+pub record Refuses (text x : List ℕ) (lo hi m number place : ℕ) (r : Folded) : Type 0 where
+  pub is : (first : ℕ) (p : Node) → m ≡ 6 * first → OwnHere text x lo hi p → r ≡ node-refusal first p number place

@@ -69,7 +69,7 @@ fn filter_is_empty(s: &[usize], lo: usize, hi: usize) -> bool
 }
 
 // The amount is said in two halves.
-fn limit_is_empty(s: &[usize], lo: usize, hi: usize) -> bool
+pub fn limit_is_empty(s: &[usize], lo: usize, hi: usize) -> bool
     requires { ⌜ NodeAt (now s) lo hi ⌝ }
     requires { ⌜ tag-at (now s) hi ≡ 55 ⌝ }
     ensures { λ r. ⌜ IsEmpty (now (s .entry)) lo hi r ⌝ }

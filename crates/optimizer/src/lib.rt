@@ -29,7 +29,7 @@ pub fn pass(
     ensures { λ r. ⌜ Runs (For-all (now (text .entry)) (now (widths .entry)) (now (names .entry)) (now (columns .entry)) (now (keys .entry))) (λ room schema p. Room.pass room schema k p) (now (x .entry)) t (now (y .exit)) r ⌝ }
 {
     if k == 1 {
-        return passes::fold(text, x, y, z, t);
+        return passes::fold(text, x, y, t);
     }
     if k == 2 {
         return passes::push_down(x, y, z, w, t, widths);
@@ -130,7 +130,7 @@ pub fn optimize(
     requires { ⌜ Alike (now x) (now y) (now z) (now w) ⌝ }
     ensures { λ r. ⌜ Runs (For-all (now (text .entry)) (now (widths .entry)) (now (names .entry)) (now (columns .entry)) (now (keys .entry))) (λ room schema p. Room.optimize room schema p) (now (x .entry)) t (now (y .exit)) r ⌝ }
 {
-    match passes::fold(text, x, z, y, t) {
+    match passes::fold(text, x, z, t) {
         Folded::Done(n) => from_pushdown(z, y, x, w, n, widths, names, columns, keys),
         Folded::Refused(number, place) => Folded::Refused(number, place),
     }

@@ -20,12 +20,12 @@ fn in_room(d: &[usize], n: usize) -> Folded
 }
 
 // Pass 1, from x to y.
-pub fn fold(text: &[u8], x: &[usize], y: &mut [usize], z: &mut [usize], t: usize) -> Folded
+pub fn fold(text: &[u8], x: &[usize], y: &mut [usize], t: usize) -> Folded
     requires { ⌜ PlanAt (For-folding (now text)) (now x) t ⌝ }
-    requires { ⌜ (length (now y) ≡ length (now x)) × (length (now z) ≡ length (now x)) ⌝ }
+    requires { ⌜ length (now y) ≡ length (now x) ⌝ }
     ensures { λ r. ⌜ Runs (For-folding (now (text .entry))) (λ room schema p. Optimizer.ConstantFolding 0 p) (now (x .entry)) t (now (y .exit)) r ⌝ }
 {
-    constant_folding::constant_folding(text, x, t, y, z)
+    constant_folding::constant_folding(text, x, t, y)
 }
 
 // Pass 2, in x. y, z and w are scratch.

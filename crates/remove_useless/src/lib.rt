@@ -101,7 +101,7 @@ fn item_passes(s: &[usize], hi: usize, i: usize) -> bool
 }
 
 // Whether the n Items from lo to hi are columns 0, 1, .., without labels. The Items are met from the last to the first.
-fn pass_through(s: &[usize], lo: usize, hi: usize, n: usize) -> bool
+pub fn pass_through(s: &[usize], lo: usize, hi: usize, n: usize) -> bool
     requires { ⌜ ItemsAt (now s) lo hi n ⌝ }
     ensures { λ r. ⌜ PassesThrough (now (s .entry)) lo hi n r ⌝ }
 {

@@ -51,7 +51,7 @@ module _ (s : List ℕ) (b : Bytes s) (n : Node) (h : plan s ≡ done n) where
       }
 
   -- decoded, the plan is in x
-  decoded : (x : List ℕ) (t : ℕ) (x′ : List ℕ) (room : ℕ) → Decodes s x t x′ → length x′ ≡ length x → length x ≡ 6 * room → node-size n ≤ room
+  pub decoded : (x : List ℕ) (t : ℕ) (x′ : List ℕ) (room : ℕ) → Decodes s x t x′ → length x′ ≡ length x → length x ≡ 6 * room → node-size n ≤ room
       → Plan-in (schema s) (text s) (table-count s) x′ t room n
   decoded x t x′ room d same all fits =
       let long = words-long n in
@@ -61,7 +61,7 @@ module _ (s : List ℕ) (b : Bytes s) (n : Node) (h : plan s ≡ done n) where
   few-tables : table-count s ≤ 16
   few-tables = parts-of (accepted s n h) .tables-few
 
-  given : (t : List ℕ) → t ≡ text s → {widths names columns keys : List ℕ} → Lends s widths names columns keys
+  pub given : (t : List ℕ) → t ≡ text s → {widths names columns keys : List ℕ} → Lends s widths names columns keys
       → For-all t widths names columns keys (schema s) (text s)
   given t e l = ((sym e, omega (arith, ap length e, text-short)), lent l)
 

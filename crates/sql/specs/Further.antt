@@ -21,6 +21,13 @@ use Rattle.sql.specs.Worked.{keyed, scanned, one-row, number, equals, pl
 abbrev true-constant : Expression
 true-constant = constant (truth True)
 
+-- refused by 11, and by 13
+abbrev overflowing : Expression
+overflowing = plus (number 9223372036854775807) (number 1)
+
+abbrev mistyped : Expression
+mistyped = plus (number 1) true-constant
+
 abbrev two-values : Expression → Node
 two-values predicate = join false (nested-loop (some predicate)) (one-row (number 1 ∷ [])) (one-row (number 2 ∷ []))
 
@@ -36,7 +43,11 @@ further-plans =
     -- the place of a refusal is the operator whose operands have become constants: cell 5, not 3
     ∷ (one-pass 1 (over (filter (and (and A (constant (truth False))) (number 5))) scanned), plan (refused 13 5))
     -- a node's own expressions are folded before its source's
-    ∷ (one-pass 1 (over (filter (plus (number 9223372036854775807) (number 1))) (one-row (plus (number 1) true-constant ∷ []))), plan (refused 11 7))
+    ∷ (one-pass 1 (over (filter overflowing) (one-row (mistyped ∷ []))), plan (refused 11 7))
+    -- a join's before its left source's, and these before its right one's
+    ∷ (one-pass 1 (join false (nested-loop (some overflowing)) (one-row (mistyped ∷ [])) (one-row (overflowing ∷ []))), plan (refused 11 12))
+    ∷ (one-pass 1 (join false (nested-loop (some true-constant)) (one-row (mistyped ∷ [])) (one-row (overflowing ∷ []))), plan (refused 13 2))
+    ∷ (one-pass 1 (join false (nested-loop (some true-constant)) (one-row (number 1 ∷ [])) (one-row (overflowing ∷ []))), plan (refused 11 5))
     -- an Aggregate over a Nothing stays; so does a Limit above 0, and a Limit of 0 doesn't
     ∷ (one-pass 5 (over (other (aggregate [] ((1, A) ∷ []))) (leaf (nothing (unlabelled ∷ [])))), plan (done (over (other (aggregate [] ((1, A) ∷ []))) (leaf (nothing (unlabelled ∷ []))))))
     ∷ (one-pass 5 (over (other (limit 1)) (leaf (nothing []))), plan (done (over (other (limit 1)) (leaf (nothing [])))))

@@ -1,28 +1,19 @@
-use Rattle.constant_folding.proofs.Plans.{source-at, plan-folded}
 use Rattle.words.proofs.Nodes.{node-in}
-use Prim.Native.Nat.{ℕ, _+_, _-_, _*_, _≤_, _<_}
+use Rattle.constant_folding.proofs.Plans.{source-at, plan-folded}
 use native.Mathlib.Omega.{arith}
-use mathlib.Core.Path.{_≡_, refl, sym, ap, _∙_, subst}
-use mathlib.Core.List.{List, [], _∷_, _++_}
-use lib.ListN.{length, take, drop}
 use borrow.Author.Needs.{needs}
 use Rattle.constant_folding.proofs.constant_folding.Statement.{statement}
 use Rattle.constant_folding.proofs.constant_folding.Tie as tie
-use Rattle.constant_folding.proofs.constant_folding.Reads as reads
-use Rattle.constant_folding.proofs.constant_folding.Lts as lts
 use Rattle.constant_folding.proofs.fold_node.Reads as fold-node-reads
 
 fold-node-requires : tie.Need-fold-node-requires
-fold-node-requires c κs = ((source-at (c .before .before .before .before .before .before .pre .0), omega (arith, node-in (c .before .before .before .before .before .before .pre .0 .p) (c .before .before .before .before .before .before .pre .0 .here) .0)), (omega (arith, c .before .before .before .before .before .before .pre .1 .0), omega (arith, c .before .before .before .before .before .before .pre .1 .1)))
+fold-node-requires c κs = ((source-at (c .before .before .before .before .pre .0), omega (arith, node-in (c .before .before .before .before .pre .0 .p) (c .before .before .before .before .pre .0 .here) .0)), omega (arith, c .before .before .before .before .pre .1))
 
 same-length : tie.Need-same-length
 same-length c = search needs
 
-same-length-2 : tie.Need-same-length-2
-same-length-2 c = search needs
-
 returns : tie.Need-returns
-returns c = plan-folded (c .before .before .before .before .before .before .before .before .before .before .before .pre .1 .0) (c .before .before .before .before .fold-node .kept .1 .1 .1 .1 .0) (c .before .before .before .before .fold-node .ensures)
+returns c = plan-folded (c .before .before .before .before .before .before .before .pre .1) (c .before .before .fold-node .kept .1 .1 .1 .1 .0) (c .before .before .fold-node .ensures)
 
 pub constant-folding-spec : {M : Type 1} → statement M
-constant-folding-spec = tie.close (tie.spec fold-node-requires same-length same-length-2 returns)
+constant-folding-spec = tie.close (tie.spec fold-node-requires same-length returns)
