@@ -30,7 +30,7 @@ use Rattle.fold_parts.specs.Leaves.{Leaves, Up-to}
 use Rattle.fold_parts.specs.Parts.{Part-fits}
 use Rattle.fold_parts.specs.Own.{own-parts, OwnHere, OwnAt, Own-left, FoldsOwn}
 use Rattle.fold_parts.proofs.Leaves.{appended-none, appended-then, appended-as, answer-as, said-as, up-to-as, refused-on, done-on, made-into, made-of}
-use Rattle.constant_folding.specs.Nodes.{Node-fits, earlier-source, last-source, words-of, fold-source, SourcesAt, LastStart, SourceHere, SourceAt, FoldsSource, first-refusal, node-refusal, Refuses}
+use Rattle.constant_folding.specs.Nodes.{Node-fits, earlier-source, last-source, words-of, fold-source, SourcesAt, LastStart, SourceHere, SourceAt, FoldsSource, first-refusal, fold-own, Refuses}
 use Rattle.constant_folding.proofs.Cells.{leaf-cell-kept, over-cell-kept, join-cell-kept}
 
 -- ---- last_source
@@ -181,15 +181,11 @@ some-left : {A : Type 0} {f : A → List ℕ} {y : List ℕ} {at n : ℕ} {y′ 
 some-left {f = f} (done y) h = record { words = f y; is = h .left }
 some-left (refused i p) h = absurd (h .left)
 
-own-left : {y : List ℕ} {at n : ℕ} {y′ : List ℕ} (first : ℕ) (p : Node) → Own-left y at first p (Folded.Done n) y′ → Some-appended y at n y′
-own-left first (leaf l) h = some-left (fold-leaf first l) h
-own-left first (over o n) h = some-left (fold-over first o) h
-own-left first (join outer j l r) h = some-left (fold-join first j) h
-
-own-as : (y : List ℕ) (at : ℕ) {r q : Folded} (y′ : List ℕ) → r ≡ q → (first : ℕ) (p : Node) → Own-left y at first p r y′ → Own-left y at first p q y′
-own-as y at y′ e first (leaf l) h = said-as e h
-own-as y at y′ e first (over o n) h = said-as e h
-own-as y at y′ e first (join outer j l r) h = said-as e h
+-- of the own parts, whatever kind of node it is
+own-folded : {y : List ℕ} {at : ℕ} {r : Folded} {y′ : List ℕ} (first : ℕ) (p : Node) → Own-left y at first p r y′ → Leaves (λ w. w) y at (fold-own first p) r y′
+own-folded first (leaf l) h = made-into (fold-leaf first l) leaf-own (λ m. refl) h
+own-folded first (over o n) h = made-into (fold-over first o) over-own (λ p. refl) h
+own-folded first (join outer j l r) h = made-into (fold-join first j) join-own (λ k. refl) h
 
 pub own-bound : {text x : List ℕ} {lo hi : ℕ} {y : List ℕ} {at m : ℕ} {q : Folded} {y′ : List ℕ} {n : ℕ} → q ≡ Folded.Done n → FoldsOwn text x lo hi y at m q y′ → n ≤ at + (hi - 6 - m)
 own-bound e g = up-to-as e (g .within) .ends
@@ -199,7 +195,7 @@ source-bound e g = up-to-as e (g .within) .ends
 
 own-appended : {text x : List ℕ} {lo hi : ℕ} {y : List ℕ} {at m : ℕ} {q : Folded} {y′ : List ℕ} {n : ℕ} → OwnAt text x lo hi m → q ≡ Folded.Done n
     → FoldsOwn text x lo hi y at m q y′ → Some-appended y at n y′
-own-appended {y = y} {at} {y′ = y′} t e g = own-left (t .first) (t .p) (own-as y at y′ e (t .first) (t .p) (g .leaves (t .first) (t .p) (t .numbered) (t .here)))
+own-appended t e g = some-left (fold-own (t .first) (t .p)) (said-as e (own-folded (t .first) (t .p) (g .leaves (t .first) (t .p) (t .numbered) (t .here))))
 
 pub source-appended : {text x : List ℕ} {lo hi : ℕ} {y : List ℕ} {at : ℕ} {q : Folded} {y′ : List ℕ} {n : ℕ} → SourceAt text x lo hi → q ≡ Folded.Done n
     → FoldsSource text x lo hi y at q y′ → Some-appended y at n y′
@@ -209,28 +205,18 @@ source-appended t e g = some-left (fold-source (t .first) (t .source)) (said-as 
 
 module _ {text x : List ℕ} {lo hi m number place : ℕ} {y : List ℕ} {at : ℕ} {q : Folded} {y₁ : List ℕ} (g : FoldsOwn text x lo hi y at m q y₁) where
   pub refuses-then : {n : ℕ} → q ≡ Folded.Done n → Refuses text x lo hi m number place (Folded.Refused number place)
-  refuses-then {n} e = record { is = λ first p k u. go first p (own-as y at y₁ e first p (g .leaves first p k u)) }
+  refuses-then {n} e = record { is = λ first p k u. go (fold-own first p) (said-as e (own-folded first p (g .leaves first p k u))) }
     where
-      of-answer : {A : Type 0} {f : A → List ℕ} (a : Answer A) → Leaves f y at a (Folded.Done n) y₁ → Folded.Refused number place ≡ first-refusal a number place
-      of-answer (done z) h = refl
-      of-answer (refused i p) h = absurd (h .left)
-
-      go : (first : ℕ) (p : Node) → Own-left y at first p (Folded.Done n) y₁ → Folded.Refused number place ≡ node-refusal first p number place
-      go first (leaf l) h = of-answer (fold-leaf first l) h
-      go first (over o s) h = of-answer (fold-over first o) h
-      go first (join outer j a b) h = of-answer (fold-join first j) h
+      go : (a : Answer (List ℕ)) → Leaves (λ w. w) y at a (Folded.Done n) y₁ → Folded.Refused number place ≡ first-refusal a number place
+      go (done w) h = refl
+      go (refused i c) h = absurd (h .left)
 
   pub refuses-first : {i c : ℕ} → q ≡ Folded.Refused i c → Refuses text x lo hi m number place (Folded.Refused i c)
-  refuses-first {i} {c} e = record { is = λ first p k u. go first p (own-as y at y₁ e first p (g .leaves first p k u)) }
+  refuses-first {i} {c} e = record { is = λ first p k u. go (fold-own first p) (said-as e (own-folded first p (g .leaves first p k u))) }
     where
-      of-answer : {A : Type 0} {f : A → List ℕ} (a : Answer A) → Leaves f y at a (Folded.Refused i c) y₁ → Folded.Refused i c ≡ first-refusal a number place
-      of-answer (done z) h = absurd (h .left)
-      of-answer (refused j d) h = ap (λ (n : ℕ). Folded.Refused n c) (h .left .0) ∙ ap (λ (n : ℕ). Folded.Refused j n) (h .left .1)
-
-      go : (first : ℕ) (p : Node) → Own-left y at first p (Folded.Refused i c) y₁ → Folded.Refused i c ≡ node-refusal first p number place
-      go first (leaf l) h = of-answer (fold-leaf first l) h
-      go first (over o s) h = of-answer (fold-over first o) h
-      go first (join outer j a b) h = of-answer (fold-join first j) h
+      go : (a : Answer (List ℕ)) → Leaves (λ w. w) y at a (Folded.Refused i c) y₁ → Folded.Refused i c ≡ first-refusal a number place
+      go (done w) h = absurd (h .left)
+      go (refused j d) h = ap (λ (n : ℕ). Folded.Refused n c) (h .left .0) ∙ ap (λ (n : ℕ). Folded.Refused j n) (h .left .1)
 
 -- Whatever it is, it is a refusal.
 pub record Refusal (r : Folded) : Type 0 where
@@ -238,28 +224,20 @@ pub record Refusal (r : Folded) : Type 0 where
   pub place : ℕ
   pub is : r ≡ Folded.Refused number place
 
-refusal : (first : ℕ) (p : Node) (number place : ℕ) → Refusal (node-refusal first p number place)
-refusal first p number place = go p
-  where
-    of-answer : {A : Type 0} (a : Answer A) → Refusal (first-refusal a number place)
-    of-answer (done y) = record { number = number; place = place; is = refl }
-    of-answer (refused i c) = record { number = i; place = c; is = refl }
-
-    go : (p : Node) → Refusal (node-refusal first p number place)
-    go (leaf l) = of-answer (fold-leaf first l)
-    go (over o n) = of-answer (fold-over first o)
-    go (join outer j l r) = of-answer (fold-join first j)
+refusal : (a : Answer (List ℕ)) (number place : ℕ) → Refusal (first-refusal a number place)
+refusal (done w) number place = record { number = number; place = place; is = refl }
+refusal (refused i c) number place = record { number = i; place = c; is = refl }
 
 pub refuses-some : {text x : List ℕ} {lo hi m number place : ℕ} {r : Folded} → OwnAt text x lo hi m → Refuses text x lo hi m number place r → Refusal r
 refuses-some {number = number} {place} t w =
-    let f = refusal (t .first) (t .p) number place in
+    let f = refusal (fold-own (t .first) (t .p)) number place in
     record { number = f .number; place = f .place; is = w .is (t .first) (t .p) (t .numbered) (t .here) ∙ f .is }
 
 -- The own parts' refusal, or that of what is folded after them.
-refused-after : {A B : Type 0} {g : B → List ℕ} {d : List ℕ} {at number place : ℕ} {d′ : List ℕ} {r : Folded} (a : Answer A) (k : A → Answer B)
-    → ((y : A) → Leaves g d at (k y) (Folded.Refused number place) d′) → r ≡ first-refusal a number place → Leaves g d at (a >>= k) r d′
-refused-after (done y) k h e = said-as (sym e) (h y)
-refused-after (refused i p) k h e = said-as (sym e) (record { left = (refl, refl) })
+refused-after : {A B : Type 0} {g : B → List ℕ} {d : List ℕ} {at number place : ℕ} {d′ : List ℕ} {r : Folded} (a : Answer A) (own : A → List ℕ) (k : A → Answer B)
+    → ((y : A) → Leaves g d at (k y) (Folded.Refused number place) d′) → r ≡ first-refusal (a >>= λ y. done (own y)) number place → Leaves g d at (a >>= k) r d′
+refused-after (done y) own k h e = said-as (sym e) (h y)
+refused-after (refused i p) own k h e = said-as (sym e) (record { left = (refl, refl) })
 
 -- ---- fold_node
 
@@ -349,7 +327,7 @@ module _ {text x : List ℕ} {lo hi m mid : ℕ} (h : lo < hi) (own : OwnStart x
         go first k (leaf l) v f = absurd (said-as e (g₂ .leaves first none k (earlier-here own last (leaf l) v f)) .left)
         go first k (over o s) v f = absurd (said-as e (g₂ .leaves first none k (earlier-here own last (over o s) v f)) .left)
         go first k (join outer c a b) v f =
-            refused-after (fold-join (first + (node-size a + node-size b)) c)
+            refused-after (fold-join (first + (node-size a + node-size b)) c) join-own
             (λ k. ConstantFolding first a >>= λ l. ConstantFolding (first + node-size a) b >>= λ r. done (join outer k l r))
             (λ d. refused-on (ConstantFolding first a) (λ l. ConstantFolding (first + node-size a) b >>= λ r. done (join outer d l r))
             (node-left first a (said-as e (g₂ .leaves first (some a) k (earlier-here own last (join outer c a b) v f)))))
@@ -366,12 +344,12 @@ module _ {text x : List ℕ} {lo hi m mid : ℕ} (h : lo < hi) (own : OwnStart x
           go : (first : ℕ) → lo ≡ 6 * first → (p : Node) → NodeHere x lo hi p → Node-fits text p → Leaves node-words y at (ConstantFolding first p) r y′
           go first k (leaf l) v f = absurd (said-as z (g₃ .leaves first none (omega (arith, mid-is own last (leaf l) v)) (last-here own last (leaf l) v f)) .left)
           go first k (over o s) v f =
-              refused-after (fold-over (first + node-size s) o) (λ p. ConstantFolding first s >>= λ t. done (over p t))
+              refused-after (fold-over (first + node-size s) o) over-own (λ p. ConstantFolding first s >>= λ t. done (over p t))
               (λ d. refused-on (ConstantFolding first s) (λ t. done (over d t))
               (node-left first s (said-as z (g₃ .leaves first (some s) (over-mid own last first k o s v) (last-here own last (over o s) v f)))))
               (w .is (first + node-size s) (over o s) (over-number own first k o s v) (own-here (over o s) v f))
           go first k (join outer c a b) v f =
-              refused-after (fold-join (first + (node-size a + node-size b)) c)
+              refused-after (fold-join (first + (node-size a + node-size b)) c) join-own
               (λ k. ConstantFolding first a >>= λ l. ConstantFolding (first + node-size a) b >>= λ r. done (join outer k l r))
               (λ d. done-on (ConstantFolding first a) (λ l. ConstantFolding (first + node-size a) b >>= λ r. done (join outer d l r)) (join-earlier first k outer c a b v f)
               (λ l _ _. refused-on (ConstantFolding (first + node-size a) b) (λ r. done (join outer d l r))

@@ -9,7 +9,7 @@ use Rattle.sql.specs.Answer.{Answer, done, refused, _>>=_}
 use Rattle.sql.specs.Optimizer.{fold-leaf, fold-over, fold-join, ConstantFolding}
 use Rattle.sheet_laws.specs.Fits.{All, Optional}
 use Rattle.cells.specs.Cells.{Part}
-use Rattle.words.specs.Words.{node-words, source-words}
+use Rattle.words.specs.Words.{node-words, source-words, leaf-own, over-own, join-own}
 use Rattle.fold_operator.specs.declared.Folded.{Folded}
 use Rattle.fold_operator.specs.declared.Folded.the-variants as Folded
 use Rattle.fold_parts.specs.Leaves.{Leaves, Up-to}
@@ -78,12 +78,22 @@ abbrev pub first-refusal : {A : Type 0} → Answer A → ℕ → ℕ → Folded
 first-refusal (done y) number place = Folded.Refused number place
 first-refusal (refused i p) number place = Folded.Refused i p
 
--- The refusal of a node where a source's is behind that of its own parts. The first cell of these has the number `first`.
-abbrev pub node-refusal : ℕ → Node → ℕ → ℕ → Folded
-node-refusal first (leaf l) number place = first-refusal (fold-leaf first l) number place
-node-refusal first (over o n) number place = first-refusal (fold-over first o) number place
-node-refusal first (join outer j l r) number place = first-refusal (fold-join first j) number place
+-- What a node's own parts fold to, in words. The first of their cells has the number `first`.
+abbrev pub fold-own : ℕ → Node → Answer (List ℕ)
+fold-own first (leaf l) = do
+  m ← fold-leaf first l
+  done (leaf-own m)
+fold-own first (over o n) = do
+  p ← fold-over first o
+  done (over-own p)
+fold-own first (join outer j l r) = do
+  k ← fold-join first j
+  done (join-own k)
 
--- So is whatever node stands there refused, of which a source is refused with this number and place.
+-- The refusal of a node where a source's is behind that of its own parts.
+abbrev pub node-refusal : ℕ → Node → ℕ → ℕ → Folded
+node-refusal first p number place = first-refusal (fold-own first p) number place
+
+-- r is the refusal of whatever node stands there, where a source of it is refused with this number and place.
 pub record Refuses (text x : List ℕ) (lo hi m number place : ℕ) (r : Folded) : Type 0 where
   pub is : (first : ℕ) (p : Node) → m ≡ 6 * first → OwnHere text x lo hi p → r ≡ node-refusal first p number place

@@ -17,12 +17,12 @@ use Rattle.words.specs.Words.{cell, root, operand-words}
 use Rattle.words.specs.Place.{NodeHere, NodeAt}
 use Rattle.words.proofs.Expressions.{shape}
 use Rattle.words.proofs.Nodes.{node-tag, node-long, own-part}
-use Rattle.words.proofs.Tags.{over-tag, tag-of, tagged, by-leaf, by-scan, by-nothing, over-filter, over-limit, over-projection}
+use Rattle.words.proofs.Tags.{over-tag, tagged, by-leaf, by-scan, by-nothing, over-filter, over-limit, over-projection}
 use Rattle.words.proofs.Sizes.{sized-long}
 use Rattle.nodes.specs.Own.{OwnStart, SourceCount}
 use Rattle.nodes.proofs.Widths.{tag-here, a-here}
 use Rattle.remove_useless.specs.RemoveUseless.{ItemsAt, PassesThrough}
-use Rattle.remove_useless.proofs.Nodes.{items-at}
+use Rattle.remove_useless.proofs.Nodes.{tag-is, items-at}
 use Rattle.is_empty.specs.IsEmpty.{IsEmpty}
 use Rattle.is_empty.proofs.Nodes.{list-empty}
 use Rattle.idle.specs.Idle.{over-idle, idle, IsIdle, OverIdle}
@@ -40,9 +40,6 @@ tag-there s hi e z = sym (ap (λ (k : Cell). k .tag) e) ∙ z
 
 module _ {s : List ℕ} {lo hi : ℕ} where
   -- ---- no source
-
-  tag-is : {n : ℕ} (p : Node) → NodeHere s lo hi p → tag-at s hi ≡ n → tag-of p ≡ n
-  tag-is p u z = sym (node-tag p u ∙ tagged p) ∙ z
 
   pub scan-idle : tag-at s hi ≡ 62 → IsIdle s lo hi (eqb (hi - lo) 6)
   scan-idle z p u = by-scan (λ p. NodeHere s lo hi p → eqb (hi - lo) 6 ≡ idle p) go p (tag-is p u z) u

@@ -29,7 +29,7 @@ limits = (refl, refl)
 below : idle (over (other (offset 2)) (over (other (limit 0)) plain)) ≡ false
 below = refl
 
--- Each of the three has a predicate, or may have one.
+-- Each of the three may have a predicate, whether it has one or not.
 predicates : (idle (leaf (scan 0 none (some computed))) ≡ false)
     × ((idle (over (filter computed) plain) ≡ false) × (idle (join false (nested-loop none) plain plain) ≡ false))
 predicates = (refl, (refl, refl))

@@ -1,5 +1,5 @@
 -- Plans that pass 5 (ShortCircuit) leaves as they are, as far as a look at each node tells. It is coarse: no columns are counted, and a Filter, a Scan with a
--- filter and a join are taken for nodes that may change.
+-- filter, a join and whatever stands over a Nothing are taken for nodes that may change.
 use Prim.Native.Nat.{ℕ, zero, suc}
 use mathlib.Core.Bool.{Bool, true, false, not, _&&_}
 use mathlib.Core.Path.{_≡_}

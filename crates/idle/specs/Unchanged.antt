@@ -1,13 +1,13 @@
 -- ShortCircuit leaves a plan on which it is idle as it is.
 use Prim.Native.Nat.{ℕ, zero, suc, _+_, _≤_}
 use native.Mathlib.Omega.{arith}
-use mathlib.Core.Bool.{Bool, true, false, not, _&&_, cond}
+use mathlib.Core.Bool.{Bool, true, false, _&&_, cond}
 use mathlib.Core.Path.{_≡_, refl, sym, ap, _∙_}
 use mathlib.Core.List.{[], _∷_}
 use mathlib.Core.Option.{none, some}
 use lib.Dec.{eqb}
 use lib.ListN.{length}
-use borrow.Author.Tests.{le-leb}
+use borrow.Author.Tests.{le-leb, not-true}
 use Rattle.sql.specs.Schema.{Schema}
 use Rattle.sql.specs.Plan.{Leaf, scan, lookup, nothing, values, limit, offset, order, projection, remap, aggregate, Over, filter, other, Node, leaf, over, join, over-size, node-size, columns}
 use Rattle.sql.specs.Answer.{Answer, done, _>>=_}
@@ -19,10 +19,6 @@ use Rattle.idle.specs.Idle.{leaf-idle, over-idle, idle}
 
 clash : {A : Type 0} → _≡_ {A = Bool} false true → A
 clash e = absurd (let z : _≡_ {A = ℕ} 0 1 = cc in omega arith)
-
-not-true : (b : Bool) → not b ≡ true → b ≡ false
-not-true true e = sym e
-not-true false e = refl
 
 no-right : (a b : Bool) → b ≡ false → a && b ≡ false
 no-right true b e = e

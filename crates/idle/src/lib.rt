@@ -1,6 +1,6 @@
 // Whether pass 5 (ShortCircuit) has nothing to do on a plan, as far as a look at its nodes tells, from the top down. The pass copies the plan, counts columns and asks
-// for a third buffer; a look at the nodes writes nothing, and ends at the first one that may change. It is a coarse one: a Filter, a Scan with a filter and a join
-// are always taken for nodes that may change. The plans that it is asked of have no predicate (crate predicate_free).
+// for a third buffer; a look at the nodes writes nothing, and ends at the first one that may change. It is a coarse one: a Filter, a Scan with a filter, a join and
+// a Nothing with what stands over it are always taken for nodes that may change. The plans that it is asked of have no predicate (crate predicate_free).
 ghost use Rattle.words.specs.Place.{NodeAt};
 ghost use Rattle.nodes.specs.Own.{OwnStart, SourceCount};
 ghost use Rattle.idle.specs.Idle.{IsIdle, OverIdle};

@@ -24,6 +24,7 @@ use Rattle.nodes.specs.Own.{OwnStart, SourceCount}
 use Rattle.nodes.proofs.Widths.{a-here, b-here}
 use Rattle.labels.specs.Labels.{ExpressionEnds}
 use Rattle.remove_useless.specs.RemoveUseless.{OptionalAt}
+use Rattle.remove_useless.proofs.Nodes.{tag-is}
 use Rattle.is_empty.specs.IsEmpty.{NeverTrue, OptionalNever, SourceNothing, IsEmpty}
 
 -- a node's tag tells whether it is a Nothing
@@ -67,9 +68,6 @@ empty-predicate (nested-loop q) = refl
 empty-predicate (hash a b) = refl
 
 module _ {s : List ℕ} {lo hi : ℕ} where
-  tag-is : {n : ℕ} (p : Node) → NodeHere s lo hi p → tag-at s hi ≡ n → tag-of p ≡ n
-  tag-is p u z = sym (node-tag p u ∙ tagged p) ∙ z
-
   -- ---- no source
 
   pub scan-predicate : tag-at s hi ≡ 62 → NodeAt s lo hi → OptionalAt s lo (hi - 6)

@@ -38,7 +38,7 @@ kept : (q : Option Expression) → is-always (optional-verdict q) ≡ false → 
 kept q e = ap (λ (b : Bool). cond b none q) e
 
 module _ {y : List ℕ} {lo hi : ℕ} where
-  tag-is : {n : ℕ} (p : Node) → NodeHere y lo hi p → tag-at y hi ≡ n → tag-of p ≡ n
+  pub tag-is : {n : ℕ} (p : Node) → NodeHere y lo hi p → tag-at y hi ≡ n → tag-of p ≡ n
   tag-is p u z = sym (node-tag p u ∙ tagged p) ∙ z
 
   -- ---- a Scan
