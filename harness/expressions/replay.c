@@ -15,19 +15,20 @@ struct folded {
     size_t at;
 };
 
-size_t expression_into_nnf(const size_t *s, size_t n, size_t lo, size_t hi, size_t *d, size_t m, size_t at);
-size_t expression_distribute(const size_t *s, size_t n, size_t lo, size_t hi, size_t *d, size_t m, size_t at);
-struct folded expression_fold(const uint8_t *text, size_t t, const size_t *s, size_t n, size_t lo, size_t hi, size_t *d, size_t m, size_t at, size_t first);
-size_t expression_for_left(const size_t *s, size_t n, size_t lo, size_t hi, size_t *d, size_t m, size_t from, size_t at, size_t width);
-size_t expression_for_right(const size_t *s, size_t n, size_t lo, size_t hi, size_t *d, size_t m, size_t from, size_t at, size_t width, size_t by);
-size_t expression_for_both(const size_t *s, size_t n, size_t lo, size_t hi, size_t *d, size_t m, size_t from, size_t at, size_t width);
-size_t expression_push_left(const size_t *s, size_t n, size_t lo, size_t hi, const size_t *g, size_t k, size_t a, size_t b, size_t *d, size_t m, size_t at,
-                            size_t width);
-size_t expression_push_right(const size_t *s, size_t n, size_t lo, size_t hi, const size_t *g, size_t k, size_t a, size_t b, size_t *d, size_t m, size_t at,
-                             size_t width, size_t by);
+size_t expression_into_nnf(const uint32_t *s, size_t n, size_t lo, size_t hi, uint32_t *d, size_t m, size_t at);
+size_t expression_distribute(const uint32_t *s, size_t n, size_t lo, size_t hi, uint32_t *d, size_t m, size_t at);
+struct folded expression_fold(const uint8_t *text, size_t t, const uint32_t *s, size_t n, size_t lo, size_t hi, uint32_t *d, size_t m, size_t at,
+                              size_t first);
+size_t expression_for_left(const uint32_t *s, size_t n, size_t lo, size_t hi, uint32_t *d, size_t m, size_t from, size_t at, size_t width);
+size_t expression_for_right(const uint32_t *s, size_t n, size_t lo, size_t hi, uint32_t *d, size_t m, size_t from, size_t at, size_t width, size_t by);
+size_t expression_for_both(const uint32_t *s, size_t n, size_t lo, size_t hi, uint32_t *d, size_t m, size_t from, size_t at, size_t width);
+size_t expression_push_left(const uint32_t *s, size_t n, size_t lo, size_t hi, const uint32_t *g, size_t k, size_t a, size_t b, uint32_t *d, size_t m,
+                            size_t at, size_t width);
+size_t expression_push_right(const uint32_t *s, size_t n, size_t lo, size_t hi, const uint32_t *g, size_t k, size_t a, size_t b, uint32_t *d, size_t m,
+                             size_t at, size_t width, size_t by);
 
 static FILE *in;
-static size_t s[ROOM], wanted[ROOM], x[ROOM], y[ROOM], g[ROOM], d[ROOM];
+static uint32_t s[ROOM], wanted[ROOM], x[ROOM], y[ROOM], g[ROOM], d[ROOM];
 static long answers, different;
 
 static size_t number(int bytes) {
@@ -44,7 +45,7 @@ static size_t number(int bytes) {
 }
 
 /* The words of n stored cells, with each cell's size. */
-static size_t cells(size_t n, size_t *w) {
+static size_t cells(size_t n, uint32_t *w) {
     static size_t start[CELLS];
     size_t open = 0, at = 0;
     for (size_t i = 0; i < n; i++) {
@@ -56,14 +57,15 @@ static size_t cells(size_t n, size_t *w) {
         open -= operands;
         if (operands == 0)
             start[open] = at;
-        w[at] = tag, w[at + 1] = 0, w[at + 2] = number(4), w[at + 3] = number(4), w[at + 4] = 0, w[at + 5] = at + 6 - start[open];
+        w[at] = (uint32_t)tag, w[at + 1] = 0, w[at + 2] = (uint32_t)number(4), w[at + 3] = (uint32_t)number(4), w[at + 4] = 0;
+        w[at + 5] = (uint32_t)(at + 6 - start[open]);
         at += 6;
         open++;
     }
     return at;
 }
 
-static void compare(const char *name, const size_t *w, size_t end) {
+static void compare(const char *name, const uint32_t *w, size_t end) {
     size_t n = cells(number(2), wanted);
     answers++;
     if (end != n || memcmp(w, wanted, n * sizeof *w) != 0) {

@@ -10,7 +10,7 @@ use lib.ListN.{length, take, drop, getD, set, length-append, length-set}
 use lib.Seq.{getD-append-add, take-suc, take-suc-set, take-at, drop-at}
 use Rattle.cells.specs.declared.Cell.{Cell}
 use Rattle.cells.specs.Cells.{words, sized, cell-at, tag-at, start-at, Part, Sized}
-use Rattle.cells.specs.Room.{Wrote, Seals, Copies}
+use Rattle.cells.specs.Room.{Short, Wrote, Seals, Copies}
 
 -- parts
 module _ {s : List ℕ} {lo hi : ℕ} (u v : List ℕ) (p : Part s lo hi (u ++ v)) where
@@ -67,14 +67,6 @@ module _ {s : List ℕ} {lo hi : ℕ} (b : List ℕ) (k : Cell) (p : Part s lo h
   pub has-size : Sized s hi
   has-size = let (h, j) = cell-in in record { first = omega arith; last = j; long = omega (arith, seam, long-is) }
 
--- writers
-module _ {d : List ℕ} {at : ℕ} {w : List ℕ} {n : ℕ} {d′ : List ℕ} where
-  pub no-room : length d < at + length w → length d < n → Wrote d at w n d′
-  no-room h k = record { fits = λ f. absurd (omega arith); full = λ _. k }
-
-  pub done : at + length w ≤ length d → n ≡ at + length w → take n d′ ≡ take at d ++ w → Wrote d at w n d′
-  done h e t = record { fits = λ _. (e, t); full = λ f. omega arith }
-
 pub lt-or-ge : (a b : ℕ) → (a < b) ⊎ (b ≤ a)
 lt-or-ge a b = go (decLt a b)
   where
@@ -82,32 +74,50 @@ lt-or-ge a b = go (decLt a b)
     go (yes h) = inl h
     go (no h) = inr (omega arith)
 
+-- writers
+module _ {d : List ℕ} {at : ℕ} {w : List ℕ} {n : ℕ} {d′ : List ℕ} where
+  pub no-room : length d < at + length w → length d < n → Wrote d at w n d′
+  no-room h k = record { is = λ f. absurd (omega arith); room = λ _ f. absurd (omega arith) }
+
+  pub done : at + length w ≤ length d → n ≡ at + length w → take n d′ ≡ take at d ++ w → Wrote d at w n d′
+  done h e t = record { is = λ _. (e, t); room = λ _ _. omega arith }
+
+  pub fits : Wrote d at w n d′ → Short d → at + length w ≤ length d → (n ≡ at + length w) × (take n d′ ≡ take at d ++ w)
+  fits a s h = a .is (a .room (omega arith) h)
+
+  pub fits-to : Wrote d at w n d′ → at + length w < 4294967296 → at + length w ≤ length d → (n ≡ at + length w) × (take n d′ ≡ take at d ++ w)
+  fits-to a s h = a .is (a .room s h)
+
+  pub full : Wrote d at w n d′ → length d < at + length w → length d < n
+  full a h = ⊎-elim (λ (z : length d < n). z) (λ (z : n ≤ length d). absurd (let (e, _) = a .is z in omega arith)) (lt-or-ge (length d) n)
+
 -- one piece, and one more after it
 pub then : {d : List ℕ} {at : ℕ} {v w : List ℕ} {m n : ℕ} {d₁ d₂ : List ℕ}
     → length d₁ ≡ length d → Wrote d at v m d₁ → Wrote d₁ m w n d₂ → Wrote d at (v ++ w) n d₂
 then {d} {at} {v} {w} {m} {n} {d₁} {d₂} k a b = record {
-  fits = λ h.
+  is = λ h.
       let l = length-append v w in
-      let (e, p) = a .fits (omega arith) in
-      let (f, q) = b .fits (omega arith) in
+      let (f, q) = b .is (omega arith) in
+      let (e, p) = a .is (omega arith) in
       (omega arith, q ∙ ap (λ (x : List ℕ). x ++ w) p ∙ append-assoc (take at d) v w);
-  full = λ h.
+  room = λ s h.
       let l = length-append v w in
-      ⊎-elim
-      (λ (z : length d < at + length v). let y = a .full z in let x = b .full (omega arith) in omega arith)
-      (λ (z : at + length v ≤ length d). let (e, p) = a .fits z in let x = b .full (omega arith) in omega arith)
-      (lt-or-ge (length d) (at + length v));
+      let y = a .room (omega arith) (omega arith) in
+      let (e, p) = a .is y in
+      let x = b .room (omega arith) (omega arith) in
+      omega arith;
 }
 
+-- what has no room has none when there is more of it
+pub no-more : {d : List ℕ} {at : ℕ} {v w : List ℕ} {n : ℕ} {d₁ d₂ : List ℕ} → length d < n → length v ≤ length w → Wrote d at v n d₁ → Wrote d at w n d₂
+no-more h g a = record { is = λ z. absurd (omega arith); room = λ s z. absurd (let k = a .room (omega arith) (omega arith) in omega arith) }
+
 pub nothing : (d : List ℕ) (at : ℕ) → Wrote d at [] at d
-nothing d at = record { fits = λ h. (omega arith, sym (append-nil (take at d))); full = λ h. omega arith }
+nothing d at = record { is = λ h. (omega arith, sym (append-nil (take at d))); room = λ _ h. omega arith }
 
 -- what was written ends at n or past the end
 pub wrote-up : {d : List ℕ} {at : ℕ} {w : List ℕ} {n : ℕ} {d′ : List ℕ} → Wrote d at w n d′ → n ≤ length d → n ≡ at + length w
-wrote-up {d} {at} {w} {n} a h = ⊎-elim
-    (λ (z : length d < at + length w). absurd (let y = a .full z in omega arith))
-    (λ (z : at + length w ≤ length d). a .fits z .0)
-    (lt-or-ge (length d) (at + length w))
+wrote-up a h = a .is h .0
 
 one-more : (l : List ℕ) (i j a : ℕ) → j ≡ i + 1 → i < length l → take j (set l i a) ≡ take i l ++ (a ∷ [])
 one-more l i j a e h = ap (λ (n : ℕ). take n (set l i a)) (e ∙ add-one i) ∙ take-suc-set l i a h
@@ -130,17 +140,15 @@ put6 d at t f a b c n g =
 
 -- the ways out of put
 module _ (k : Cell) {d : List ℕ} {lo at : ℕ} where
-  pub seals-low : {n : ℕ} {d′ : List ℕ} → at < lo → length d < n → Seals d lo at k n d′
-  seals-low h j d₀ b q w = ⊎-elim
-      (λ (z : length d₀ < lo + length b). no-room (omega (arith, length-append b (words k (length b + 6)))) (omega arith))
-      (λ (z : lo + length b ≤ length d₀). absurd (omega (arith, w .fits z .0)))
-      (lt-or-ge (length d₀) (lo + length b))
-
-  pub seals-full : {n : ℕ} {d′ : List ℕ} → length d < at + 6 → length d < n → Seals d lo at k n d′
-  seals-full h j d₀ b q w = ⊎-elim
-      (λ (z : length d₀ < lo + length b). no-room (omega (arith, length-append b (words k (length b + 6)))) (omega arith))
-      (λ (z : lo + length b ≤ length d₀). no-room (omega (arith, w .fits z .0, length-append b (words k (length b + 6)))) (omega arith))
-      (lt-or-ge (length d₀) (lo + length b))
+  -- past the end, since the words below are less than at, the cell doesn't fit, or its size doesn't
+  pub seals-not : {n : ℕ} {d′ : List ℕ} → (at < lo) ⊎ ((length d < at + 6) ⊎ (4294967289 < at - lo)) → length d < n → Seals d lo at k n d′
+  seals-not {n} h j d₀ b q w = record {
+    is = λ f. absurd (omega arith);
+    room = λ s f.
+        let l = length-append b (words k (length b + 6)) in
+        let (e, _) = fits-to w (omega arith) (omega arith) in
+        absurd (⊎-elim (λ (z : at < lo). omega arith) (⊎-elim (λ (z : length d < at + 6). omega arith) (λ (z : 4294967289 < at - lo). omega arith)) h);
+  }
 
   pub seals : {d′ : List ℕ} → lo ≤ at → at + 6 ≤ length d → take (at + 6) d′ ≡ take at d ++ words k (at - lo + 6) → Seals d lo at k (at + 6) d′
   seals {d′} h j e d₀ b q w =

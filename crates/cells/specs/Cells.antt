@@ -6,20 +6,24 @@ use mathlib.Core.List.{List, [], _∷_, _++_}
 use lib.ListN.{length, getD}
 use Rattle.cells.specs.declared.Cell.{Cell}
 
+-- the words of one cell
+abbrev pub cell-words : ℕ
+cell-words = 6
+
 abbrev pub words : Cell → ℕ → List ℕ
 words k n = k .tag ∷ k .flag ∷ k .a ∷ k .b ∷ k .c ∷ n ∷ []
 
 -- the words of the children, and the cell over them
 abbrev pub sized : List ℕ → Cell → List ℕ
-sized children k = children ++ words k (length children + 6)
+sized children k = children ++ words k (length children + cell-words)
 
 -- the cell whose words end before word hi, its tag, and where its subtree starts
 abbrev pub cell-at : List ℕ → ℕ → Cell
 cell-at s hi =
-    record { tag = getD s (hi - 6) 0; flag = getD s (hi - 5) 0; a = getD s (hi - 4) 0; b = getD s (hi - 3) 0; c = getD s (hi - 2) 0 }
+    record { tag = getD s (hi - cell-words) 0; flag = getD s (hi - 5) 0; a = getD s (hi - 4) 0; b = getD s (hi - 3) 0; c = getD s (hi - 2) 0 }
 
 abbrev pub tag-at : List ℕ → ℕ → ℕ
-tag-at s hi = getD s (hi - 6) 0
+tag-at s hi = getD s (hi - cell-words) 0
 
 abbrev pub start-at : List ℕ → ℕ → ℕ
 start-at s hi = hi - getD s (hi - 1) 0
@@ -34,6 +38,6 @@ pub record Part (s : List ℕ) (lo hi : ℕ) (w : List ℕ) : Type 0 where
 
 -- Some subtree ends before word hi.
 pub record Sized (s : List ℕ) (hi : ℕ) : Type 0 where
-  pub first : 6 ≤ hi
+  pub first : cell-words ≤ hi
   pub last : hi ≤ length s
   pub long : getD s (hi - 1) 0 ≤ hi

@@ -6,10 +6,20 @@ use lib.ListN.{length, take}
 use Rattle.cells.specs.declared.Cell.{Cell}
 use Rattle.cells.specs.Cells.{Part, sized}
 
--- w is appended to the first `at` words of d, which makes n words; or there is no room for it, and n is past the end.
+-- Sizes of subtrees in d fit a word of 32 bits.
+abbrev pub Short : List ℕ → Type 0
+Short d = length d < 4294967296
+
+-- The most words of a slice that a pass works in, 65,535 cells: so few that columns and words are counted without overflow, and that the number of a lookup's
+-- constants fits a word beside its column.
+abbrev pub most-words : ℕ
+most-words = 393210
+
+-- w is appended to the first `at` words of d, which makes n words; or n is past the end. Where there is room for w, and it ends before word 2^32, n is not past the
+-- end.
 pub record Wrote (d : List ℕ) (at : ℕ) (w : List ℕ) (n : ℕ) (d′ : List ℕ) : Type 0 where
-  pub fits : at + length w ≤ length d → (n ≡ at + length w) × (take n d′ ≡ take at d ++ w)
-  pub full : length d < at + length w → length d < n
+  pub is : n ≤ length d → (n ≡ at + length w) × (take n d′ ≡ take at d ++ w)
+  pub room : at + length w < 4294967296 → at + length w ≤ length d → n ≤ length d
 
 -- The cell k is put over whatever was written from lo up to `at`.
 abbrev pub Seals : List ℕ → ℕ → ℕ → Cell → ℕ → List ℕ → Type 0

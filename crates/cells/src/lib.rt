@@ -3,51 +3,84 @@ ghost use mathlib.Core.Path.{_≡_};
 ghost use mathlib.Core.List.{List, [], _∷_, _++_};
 ghost use Prim.Native.Nat.{ℕ, _+_, _-_, _≤_, _<_};
 ghost use lib.ListN.{length, take, drop};
-ghost use Rattle.cells.specs.Cells.{cell-at, start-at, tag-at, Part, Sized};
+ghost use Rattle.cells.specs.Cells.{cell-words, cell-at, start-at, tag-at, Part, Sized};
 ghost use Rattle.cells.specs.Room.{Wrote, Seals, Copies};
 
 pub struct Cell {
-    pub tag: usize,
-    pub flag: usize,
-    pub a: usize,
-    pub b: usize,
-    pub c: usize,
+    pub tag: u32,
+    pub flag: u32,
+    pub a: u32,
+    pub b: u32,
+    pub c: u32,
 }
+
+// The words of a cell, and which of them is what: the tag stands first, then its flag, its numbers a, b and c, and its size, which is the number of words
+// of the whole subtree that it ends.
+pub const CELL_WORDS: usize = 6;
+
+pub const FLAG: usize = 1;
+
+pub const A: usize = 2;
+
+pub const B: usize = 3;
+
+pub const C: usize = 4;
+
+pub const SIZE: usize = 5;
+
+// The same, counted back from the cell's end.
+const FLAG_BACK: usize = CELL_WORDS - FLAG;
+
+const A_BACK: usize = CELL_WORDS - A;
+
+const B_BACK: usize = CELL_WORDS - B;
+
+const C_BACK: usize = CELL_WORDS - C;
 
 // A position past the end of every slice.
 pub const FULL: usize = 18446744073709551615;
 
+// The most words that a cell can stand over, so that their number with its own fits a word.
+const LONGEST: usize = 4294967289;
+
 // The cell whose words end before hi, without the size.
-pub fn cell_at(s: &[usize], hi: usize) -> Cell
-    requires { ⌜ (6 ≤ hi) × (hi ≤ length (now s)) ⌝ }
+pub fn cell_at(s: &[u32], hi: usize) -> Cell
+    requires { ⌜ (cell-words ≤ hi) × (hi ≤ length (now s)) ⌝ }
     ensures { λ r. ⌜ r ≡ cell-at (now (s .entry)) hi ⌝ }
 {
     Cell {
-        tag: s[hi - 6],
-        flag: s[hi - 5],
-        a: s[hi - 4],
-        b: s[hi - 3],
-        c: s[hi - 2],
+        tag: s[hi - CELL_WORDS],
+        flag: s[hi - FLAG_BACK],
+        a: s[hi - A_BACK],
+        b: s[hi - B_BACK],
+        c: s[hi - C_BACK],
     }
 }
 
-pub fn tag_at(s: &[usize], hi: usize) -> usize
-    requires { ⌜ (6 ≤ hi) × (hi ≤ length (now s)) ⌝ }
+pub fn tag_at(s: &[u32], hi: usize) -> u32
+    requires { ⌜ (cell-words ≤ hi) × (hi ≤ length (now s)) ⌝ }
     ensures { λ r. ⌜ r ≡ tag-at (now (s .entry)) hi ⌝ }
 {
-    s[hi - 6]
+    s[hi - CELL_WORDS]
+}
+
+// A word as a number of words.
+pub fn wide(x: u32) -> usize
+    ensures { λ r. ⌜ r ≡ x ⌝ }
+{
+    x as usize
 }
 
 // Where the subtree that ends before hi starts.
-pub fn start(s: &[usize], hi: usize) -> usize
+pub fn start(s: &[u32], hi: usize) -> usize
     requires { ⌜ Sized (now s) hi ⌝ }
     ensures { λ r. ⌜ r ≡ start-at (now (s .entry)) hi ⌝ }
 {
-    hi - s[hi - 1]
+    hi - wide(s[hi - 1])
 }
 
 // The cell k over the words of d from lo up to at.
-pub fn put(d: &mut [usize], lo: usize, at: usize, k: Cell) -> usize
+pub fn put(d: &mut [u32], lo: usize, at: usize, k: Cell) -> usize
     ensures { λ r. ⌜ Seals (now (d .entry)) lo at k r (now (d .exit)) ⌝ }
 {
     if at < lo {
@@ -56,21 +89,24 @@ pub fn put(d: &mut [usize], lo: usize, at: usize, k: Cell) -> usize
     if d.len() < at {
         return FULL;
     }
-    if d.len() - at < 6 {
+    if d.len() - at < CELL_WORDS {
+        return FULL;
+    }
+    if LONGEST < at - lo {
         return FULL;
     }
     d[at] = k.tag;
-    d[at + 1] = k.flag;
-    d[at + 2] = k.a;
-    d[at + 3] = k.b;
-    d[at + 4] = k.c;
-    d[at + 5] = at - lo + 6;
-    at + 6
+    d[at + FLAG] = k.flag;
+    d[at + A] = k.a;
+    d[at + B] = k.b;
+    d[at + C] = k.c;
+    d[at + SIZE] = (at - lo + CELL_WORDS) as u32;
+    at + CELL_WORDS
 }
 
 // All of s after the first `at` words of d.
-pub fn copy_all(s: &[usize], d: &mut [usize], at: usize) -> usize
-    ensures { λ r. ⌜ Wrote (now (d .entry)) at (now (s .entry)) r (now (d .exit)) ⌝ }
+pub fn copy_all(s: &[u32], d: &mut [u32], at: usize) -> usize
+    ensures { λ r. ⌜ Wrote (now (d .entry)) at (now (s .entry)) r (now (d .exit)) × (at + length (now (s .entry)) ≤ length (now (d .entry)) → r ≤ length (now (d .entry))) ⌝ }
 {
     if d.len() < at {
         return FULL;
@@ -87,7 +123,7 @@ pub fn copy_all(s: &[usize], d: &mut [usize], at: usize) -> usize
 }
 
 // The words of s from lo up to hi after the first `at` words of d.
-pub fn copy(s: &[usize], lo: usize, hi: usize, d: &mut [usize], at: usize) -> usize
+pub fn copy(s: &[u32], lo: usize, hi: usize, d: &mut [u32], at: usize) -> usize
     requires { ⌜ (lo ≤ hi) × (hi ≤ length (now s)) ⌝ }
     ensures { λ r. ⌜ Copies (now (s .entry)) lo hi (now (d .entry)) at r (now (d .exit)) ⌝ }
 {

@@ -56,7 +56,7 @@ module _ {Kept : Node → Node → Type 0} (fit : Inherited Kept) where
           }
 
       below-shares : {room rest : ℕ} → Shares x lo tail room rest → Shares x lo (t - end) room (rest + sizes os)
-      below-shares s = record { all = s .all; outside = omega (arith, back-is, behind-long os p, s .outside) }
+      below-shares s = record { all = s .all; short = s .short; outside = omega (arith, back-is, behind-long os p, s .outside) }
 
       has-room : {room rest : ℕ} → Shares x lo tail room rest → rest + node-size (chain os p) ≤ room
       has-room s = omega (arith, total h, h .inside, s .all, s .outside, words-long (chain os p))

@@ -9,7 +9,8 @@ use lib.Seq.{take-at, length-take-le}
 use Rattle.sql.specs.Plan.{Other, Node}
 use Rattle.cells.specs.Cells.{Part}
 use Rattle.cells.specs.Room.{Wrote, Copies}
-use Rattle.cells.proofs.Laws.{then, no-room, done, lt-or-ge, wrote-up}
+use Rattle.cells.proofs.Laws as cells
+use Rattle.cells.proofs.Laws.{full, then, no-room, done, lt-or-ge, wrote-up}
 use Rattle.words.specs.Words.{node-words}
 use Rattle.words.specs.Place.{NodeHere}
 use Rattle.words.proofs.Nodes.{node-size-at, node-start}
@@ -38,7 +39,7 @@ pub copy-up : {s : List ℕ} {lo hi : ℕ} {d : List ℕ} {at n : ℕ} {d′ : L
 copy-up {s} {lo} {hi} c h k z = omega (arith, wrote-up (c (take (hi - lo) (drop lo s)) (part-of s lo hi h k)) z)
 
 copy-full : {s : List ℕ} {lo hi : ℕ} {d : List ℕ} {at n : ℕ} {d′ : List ℕ} → Copies s lo hi d at n d′ → lo ≤ hi → hi ≤ length s → length d < at → length d < n
-copy-full {s} {lo} {hi} c h k z = c (take (hi - lo) (drop lo s)) (part-of s lo hi h k) .full (omega arith)
+copy-full {s} {lo} {hi} c h k z = full (c (take (hi - lo) (drop lo s)) (part-of s lo hi h k)) (omega arith)
 
 -- the chain's words in the slice that is read
 behind-part : {x : List ℕ} {low end hi : ℕ} (os : List Other) (p : Node) → NodeHere x low hi (chain os p) → NodeHere x low end p → Part x end hi (behind os p)
@@ -73,15 +74,23 @@ module _ {x : List ℕ} {end hi : ℕ} {y : List ℕ} {lo at n : ℕ} {y₁ : Li
       written : OverNode x end hi y lo at n y₁
       written low os p q u v y₀ i w =
           let a = then i w (c (behind os p) (behind-part os p u v)) in
-          no-room
-          (⊎-elim (λ (k : length y₀ < lo + length (node-words q ++ behind os p)). long k)
-          (λ (k : lo + length (node-words q ++ behind os p) ≤ length y₀). absurd (omega (arith, a .fits k .0)))
-          (lt-or-ge (length y₀) (lo + length (node-words q ++ behind os p))))
-          (omega arith)
+          cells.no-more (omega arith) long a
         where
-          long : length y₀ < lo + length (node-words q ++ behind os p) → length y₀ < lo + length (node-words (chain os q))
-          long k =
+          long : length (node-words q ++ behind os p) ≤ length (node-words (chain os q))
+          long =
               omega (arith, length-append (node-words q) (behind os p), length-append (node-words q) (behind os q), ap length (chain-words os q), behind-long os p, behind-long os q)
+
+  -- a size would not fit a word
+  pub follows-long : end ≤ hi → hi ≤ length x → n ≤ length y₁ → 4294967295 < n → {r : ℕ} → length y < r → Follows x end hi y lo at r y₁
+  follows-long b h z o {r} k = record { over-node = written; full = λ l. k }
+    where
+      written : OverNode x end hi y lo at r y₁
+      written low os p q u v y₀ i w =
+          let a = wrote-up (then i w (c (behind os p) (behind-part os p u v))) (omega arith) in
+          record {
+            is = λ f. absurd (omega arith);
+            room = λ s f. absurd (omega (arith, length-append (node-words q) (behind os p), length-append (node-words q) (behind os q), ap length (chain-words os q), behind-long os p, behind-long os q));
+          }
 
   -- the chain's last size is right as it stands
   pub follows-same : end ≤ hi → hi ≤ length x → n ≤ length y₁ → getD x (hi - 1) 0 ≡ n - lo → Follows x end hi y lo at n y₁
@@ -105,7 +114,7 @@ module _ {x : List ℕ} {end hi : ℕ} {y : List ℕ} {lo at n : ℕ} {y₁ : Li
           let all = node-words q ++ behind os p in
           let e = wrote-up a (omega arith) in
           let here = wrote-up w (omega (arith, wrote-up (c (behind os p) (behind-part os p u v)) (omega arith))) in
-          let (e′, f) = a .fits (omega arith) in
+          let (e′, f) = a .is (omega arith) in
           let l = length-append (node-words q) (behind os p) in
           let l′ = length-append (node-words q) (behind os q) in
           let m = ap length (chain-words os q) in

@@ -5,7 +5,7 @@ use mathlib.Core.Path.{_≡_}
 use mathlib.Core.List.{List, [], _∷_, _++_}
 use lib.ListN.{length}
 use Rattle.sql.specs.Plan.{Other, filter, other, Node, leaf, over, join, over-size}
-use Rattle.cells.specs.Cells.{words}
+use Rattle.cells.specs.Cells.{cell-words, words}
 use Rattle.cells.specs.Room.{Wrote}
 use Rattle.words.specs.Words.{cell, over-own, over-cell, node-words}
 use Rattle.words.specs.Place.{NodeHere}
@@ -23,7 +23,7 @@ sizes (o ∷ os) = sizes os + over-size (other o)
 
 -- their words, which stand behind those of the node below
 abbrev pub behind-one : Other → Node → List ℕ
-behind-one o p = over-own (other o) ++ words (cell (over-cell (other o))) (length (node-words p ++ over-own (other o)) + 6)
+behind-one o p = over-own (other o) ++ words (cell (over-cell (other o))) (length (node-words p ++ over-own (other o)) + cell-words)
 
 abbrev pub behind : List Other → Node → List ℕ
 behind [] p = []
@@ -73,7 +73,7 @@ is-bare (join outer j l r) = false
 -- From `end` up to hi stand the cells of bare nodes, each over the one before. All these nodes start at lo, and so does the node below them.
 pub data Bare (s : List ℕ) (lo hi : ℕ) : ℕ → Type 0 where
   no-more : {end : ℕ} → end ≡ hi → Bare s lo hi end
-  one-more : {end : ℕ} → SourceCount s lo (end + 6) 1 → OwnStart s lo (end + 6) end → Bare s lo hi (end + 6) → Bare s lo hi end
+  one-more : {end : ℕ} → SourceCount s lo (end + cell-words) 1 → OwnStart s lo (end + cell-words) end → Bare s lo hi (end + cell-words) → Bare s lo hi end
 
 -- The node that ends before `end` stands below them, and is not bare.
 pub record GoesBelow (s : List ℕ) (lo hi end : ℕ) : Type 0 where

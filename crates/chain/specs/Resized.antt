@@ -5,10 +5,12 @@ use mathlib.Core.Path.{_≡_}
 use mathlib.Core.List.{List, [], _∷_, _++_}
 use lib.ListN.{length}
 use lib.Dec.{leb}
+use Rattle.sheet.specs.Tags
+use Rattle.cells.specs.Cells.{cell-words}
 
 -- the size of a cell with this tag: the new one if it is a node's
 unfoldable pub new-size : ℕ → ℕ → ℕ → ℕ
-new-size tag new old = cond (leb 50 tag) new old
+new-size tag new old = cond (leb Tags.nodes tag) new old
 
 -- The words of cells with new sizes, where n words of their node stand before the first.
 unfoldable pub resized : ℕ → List ℕ → List ℕ
@@ -18,7 +20,7 @@ resized n (t ∷ f ∷ []) = t ∷ f ∷ []
 resized n (t ∷ f ∷ a ∷ []) = t ∷ f ∷ a ∷ []
 resized n (t ∷ f ∷ a ∷ b ∷ []) = t ∷ f ∷ a ∷ b ∷ []
 resized n (t ∷ f ∷ a ∷ b ∷ c ∷ []) = t ∷ f ∷ a ∷ b ∷ c ∷ []
-resized n (t ∷ f ∷ a ∷ b ∷ c ∷ size ∷ ws) = t ∷ f ∷ a ∷ b ∷ c ∷ new-size t (n + 6) size ∷ resized (n + 6) ws
+resized n (t ∷ f ∷ a ∷ b ∷ c ∷ size ∷ ws) = t ∷ f ∷ a ∷ b ∷ c ∷ new-size t (n + cell-words) size ∷ resized (n + cell-words) ws
 
 -- The words of x from `from` up to `to` have new sizes in x′.
 abbrev pub Resizes : List ℕ → ℕ → ℕ → ℕ → List ℕ → Type 0

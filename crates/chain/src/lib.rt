@@ -2,18 +2,18 @@
 // a pass goes down through it in a loop, works on the node below it, and seals the chain's cells over what that node has become in a second loop. A pass that works on
 // each node's own parts goes through those nodes alone that have none: they are one cell each, so the way back is known too.
 ghost use mathlib.Core.Path.{_≡_};
-ghost use Prim.Native.Nat.{_+_, _≤_};
+ghost use Prim.Native.Nat.{_<_, _+_, _≤_};
 ghost use lib.ListN.{length};
 ghost use Rattle.words.specs.Place.{NodeAt};
 ghost use Rattle.chain.specs.Chain.{IsOther, GoesDown, GoesBelow, Follows};
 ghost use Rattle.chain.specs.Resized.{new-size, Reseals};
 
 // Whether the node from lo to hi has one source and is no Filter.
-fn is_other(s: &[usize], lo: usize, hi: usize) -> bool
+fn is_other(s: &[u32], lo: usize, hi: usize) -> bool
     requires { ⌜ NodeAt (now s) lo hi ⌝ }
     ensures { λ r. ⌜ IsOther (now (s .entry)) lo hi r ⌝ }
 {
-    if cells::tag_at(s, hi) == 51 {
+    if cells::tag_at(s, hi) == tags::FILTER {
         return false;
     }
     if nodes::source_count(s, lo, hi) == 1 {
@@ -29,7 +29,7 @@ pub struct Below {
 }
 
 // The node below the first n nodes of the chain that ends before hi, or below all of it if there are fewer. They all start at lo.
-pub fn descend(s: &[usize], n: usize, lo: usize, hi: usize) -> Below
+pub fn descend(s: &[u32], n: usize, lo: usize, hi: usize) -> Below
     requires { ⌜ NodeAt (now s) lo hi ⌝ }
     ensures { λ r. ⌜ GoesDown (now (s .entry)) n lo hi (r .left) (r .end) ⌝ }
 {
@@ -47,7 +47,7 @@ pub fn descend(s: &[usize], n: usize, lo: usize, hi: usize) -> Below
 }
 
 // Where the node ends that stands below all bare nodes of the chain that ends before hi. They all start at lo.
-pub fn descend_bare(s: &[usize], lo: usize, hi: usize) -> usize
+pub fn descend_bare(s: &[u32], lo: usize, hi: usize) -> usize
     requires { ⌜ NodeAt (now s) lo hi ⌝ }
     ensures { λ r. ⌜ GoesBelow (now (s .entry)) lo hi r ⌝ }
 {
@@ -59,15 +59,15 @@ pub fn descend_bare(s: &[usize], lo: usize, hi: usize) -> usize
         if nodes::own_trees(s, lo, end) != 0 {
             return end;
         }
-        end -= 6;
+        end -= cells::CELL_WORDS;
     }
 }
 
 // The size in a cell of a chain: the cells of nodes, whose tags are from 50 up, get the new one, those of their parts keep theirs.
-fn size(tag: usize, new: usize, old: usize) -> usize
+fn size(tag: u32, new: u32, old: u32) -> u32
     ensures { λ r. ⌜ r ≡ new-size tag new old ⌝ }
 {
-    if 50 <= tag {
+    if tags::NODES <= tag {
         return new;
     }
     old
@@ -75,15 +75,19 @@ fn size(tag: usize, new: usize, old: usize) -> usize
 
 // The plan stands in the first t words of x, and all but the last `tail` of the words behind `from` are those of a chain: its cells say how long its nodes
 // are, which start at lo.
-pub fn reseal(x: &mut [usize], t: usize, lo: usize, from: usize, tail: usize) -> usize
-    requires { ⌜ (lo ≤ from) × ((from + tail ≤ t) × (t ≤ length (now x))) ⌝ }
+pub fn reseal(x: &mut [u32], t: usize, lo: usize, from: usize, tail: usize) -> usize
+    requires { ⌜ (lo ≤ from) × ((from + tail ≤ t) × ((t ≤ length (now x)) × (t < 4294967296))) ⌝ }
     ensures { λ r. ⌜ Reseals (now (x .entry)) t lo from tail r (now (x .exit)) ⌝ }
 {
     let to = t - tail;
     let mut at = from;
-    while 6 <= to - at {
-        x[at + 5] = size(x[at], at + 6 - lo, x[at + 5]);
-        at += 6;
+    while cells::CELL_WORDS <= to - at {
+        x[at + cells::SIZE] = size(
+            x[at],
+            (at + cells::CELL_WORDS - lo) as u32,
+            x[at + cells::SIZE],
+        );
+        at += cells::CELL_WORDS;
     }
     t
 }
@@ -91,7 +95,7 @@ pub fn reseal(x: &mut [usize], t: usize, lo: usize, from: usize, tail: usize) ->
 // The words of a chain, read in x from `end` up to hi, behind the node that was written to y from lo up to at: the chain over that node. The last of
 // them is the length of the chain with the node that it stood over. Where that is the length now too, the two nodes are equally long, and the sizes in the
 // chain's cells are right already.
-pub fn follow(x: &[usize], end: usize, hi: usize, y: &mut [usize], lo: usize, at: usize) -> usize
+pub fn follow(x: &[u32], end: usize, hi: usize, y: &mut [u32], lo: usize, at: usize) -> usize
     requires { ⌜ (end ≤ hi) × ((hi ≤ length (now x)) × (lo ≤ at)) ⌝ }
     ensures { λ r. ⌜ Follows (now (x .entry)) end hi (now (y .entry)) lo at r (now (y .exit)) ⌝ }
 {
@@ -102,7 +106,10 @@ pub fn follow(x: &[usize], end: usize, hi: usize, y: &mut [usize], lo: usize, at
     if y.len() < n {
         return n;
     }
-    if x[hi - 1] == n - lo {
+    if 4294967295 < n {
+        return cells::FULL;
+    }
+    if x[hi - 1] == (n - lo) as u32 {
         return n;
     }
     reseal(y, n, lo, at, 0)

@@ -10,26 +10,26 @@ ghost use Rattle.words.specs.Place.{ExpressionAt, Maps};
 ghost use Rattle.cnf.specs.Cnf.{MapsTwo, spread, spread-right};
 
 // distribute of the expression from lo to hi, which is its words as they are if it holds no Or.
-pub fn distribute(s: &[usize], lo: usize, hi: usize, d: &mut [usize], at: usize) -> usize
+pub fn distribute(s: &[u32], lo: usize, hi: usize, d: &mut [u32], at: usize) -> usize
     requires { ⌜ ExpressionAt (now s) lo hi ⌝ }
     ensures { λ r. ⌜ Maps Expression.distribute (now (s .entry)) lo hi (now (d .entry)) at r (now (d .exit)) ⌝ }
 {
-    if nnf::contains_tag(s, lo, hi, 11) {
+    if nnf::contains_tag(s, lo, hi, tags::OR) {
         return distribute_expression(s, lo, hi, d, at);
     }
     cells::copy(s, lo, hi, d, at)
 }
 
 // distribute of the expression from lo to hi, cell by cell.
-fn distribute_expression(s: &[usize], lo: usize, hi: usize, d: &mut [usize], at: usize) -> usize
+fn distribute_expression(s: &[u32], lo: usize, hi: usize, d: &mut [u32], at: usize) -> usize
     requires { ⌜ ExpressionAt (now s) lo hi ⌝ }
     ensures { λ r. ⌜ Maps Expression.distribute (now (s .entry)) lo hi (now (d .entry)) at r (now (d .exit)) ⌝ }
 {
     if d.len() < at {
         return at;
     }
-    if cells::tag_at(s, hi) == 11 {
-        let k = hi - 6;
+    if cells::tag_at(s, hi) == tags::OR {
+        let k = hi - cells::CELL_WORDS;
         let mid = cells::start(s, k);
         return or_both(s, lo, mid, mid, k, d, at);
     }
@@ -37,16 +37,16 @@ fn distribute_expression(s: &[usize], lo: usize, hi: usize, d: &mut [usize], at:
 }
 
 // The expression from lo to hi with distribute of its operands.
-fn distribute_operands(s: &[usize], lo: usize, hi: usize, d: &mut [usize], at: usize) -> usize
+fn distribute_operands(s: &[u32], lo: usize, hi: usize, d: &mut [u32], at: usize) -> usize
     requires { ⌜ ExpressionAt (now s) lo hi ⌝ }
     ensures { λ r. ⌜ Maps (map-operands Expression.distribute) (now (s .entry)) lo hi (now (d .entry)) at r (now (d .exit)) ⌝ }
 {
     let c = cells::cell_at(s, hi);
-    if c.tag < 10 {
+    if c.tag < tags::BINARY {
         return cells::put(d, at, at, c);
     }
-    let k = hi - 6;
-    if 30 <= c.tag {
+    let k = hi - cells::CELL_WORDS;
+    if tags::UNARY <= c.tag {
         let m = distribute_expression(s, lo, k, d, at);
         return cells::put(d, at, m, c);
     }
@@ -57,7 +57,7 @@ fn distribute_operands(s: &[usize], lo: usize, hi: usize, d: &mut [usize], at: u
 }
 
 // Or of the expressions from a to x and from b to z, spread over the Ands at the top of both.
-fn or_both(s: &[usize], a: usize, x: usize, b: usize, z: usize, d: &mut [usize], at: usize) -> usize
+fn or_both(s: &[u32], a: usize, x: usize, b: usize, z: usize, d: &mut [u32], at: usize) -> usize
     requires { ⌜ ExpressionAt (now s) a x ⌝ }
     requires { ⌜ ExpressionAt (now s) b z ⌝ }
     ensures { λ r. ⌜ MapsTwo spread (now (s .entry)) a x b z (now (d .entry)) at r (now (d .exit)) ⌝ }
@@ -65,8 +65,8 @@ fn or_both(s: &[usize], a: usize, x: usize, b: usize, z: usize, d: &mut [usize],
     if d.len() < at {
         return at;
     }
-    if cells::tag_at(s, x) == 10 {
-        let k = x - 6;
+    if cells::tag_at(s, x) == tags::AND {
+        let k = x - cells::CELL_WORDS;
         let mid = cells::start(s, k);
         let m = or_both(s, a, mid, b, z, d, at);
         let j = or_both(s, mid, k, b, z, d, m);
@@ -75,7 +75,7 @@ fn or_both(s: &[usize], a: usize, x: usize, b: usize, z: usize, d: &mut [usize],
             at,
             j,
             cells::Cell {
-                tag: 10,
+                tag: tags::AND,
                 flag: 0,
                 a: 0,
                 b: 0,
@@ -87,15 +87,7 @@ fn or_both(s: &[usize], a: usize, x: usize, b: usize, z: usize, d: &mut [usize],
 }
 
 // The same where the left one is no And.
-fn or_right(
-    s: &[usize],
-    a: usize,
-    x: usize,
-    b: usize,
-    z: usize,
-    d: &mut [usize],
-    at: usize,
-) -> usize
+fn or_right(s: &[u32], a: usize, x: usize, b: usize, z: usize, d: &mut [u32], at: usize) -> usize
     requires { ⌜ ExpressionAt (now s) a x ⌝ }
     requires { ⌜ ExpressionAt (now s) b z ⌝ }
     ensures { λ r. ⌜ MapsTwo spread-right (now (s .entry)) a x b z (now (d .entry)) at r (now (d .exit)) ⌝ }
@@ -103,8 +95,8 @@ fn or_right(
     if d.len() < at {
         return at;
     }
-    if cells::tag_at(s, z) == 10 {
-        let k = z - 6;
+    if cells::tag_at(s, z) == tags::AND {
+        let k = z - cells::CELL_WORDS;
         let mid = cells::start(s, k);
         let m = or_right(s, a, x, b, mid, d, at);
         let j = or_right(s, a, x, mid, k, d, m);
@@ -113,7 +105,7 @@ fn or_right(
             at,
             j,
             cells::Cell {
-                tag: 10,
+                tag: tags::AND,
                 flag: 0,
                 a: 0,
                 b: 0,
@@ -128,7 +120,7 @@ fn or_right(
         at,
         j,
         cells::Cell {
-            tag: 11,
+            tag: tags::OR,
             flag: 0,
             a: 0,
             b: 0,

@@ -15,21 +15,21 @@ fn label_cell(l: labels::Label) -> cells::Cell
 {
     match l {
         labels::Label::Unlabelled => cells::Cell {
-            tag: 40,
+            tag: tags::LABEL,
             flag: 0,
             a: 0,
             b: 0,
             c: 0,
         },
         labels::Label::Unqualified(name) => cells::Cell {
-            tag: 40,
+            tag: tags::LABEL,
             flag: 1,
             a: name,
             b: 0,
             c: 0,
         },
         labels::Label::Qualified(table, name) => cells::Cell {
-            tag: 40,
+            tag: tags::LABEL,
             flag: 2,
             a: table,
             b: name,
@@ -39,7 +39,7 @@ fn label_cell(l: labels::Label) -> cells::Cell
 }
 
 // A Label after the first `at` words of d.
-fn put_label(d: &mut [usize], at: usize, l: labels::Label) -> usize
+fn put_label(d: &mut [u32], at: usize, l: labels::Label) -> usize
     ensures { λ r. ⌜ Wrote (now (d .entry)) at (label-words (label l)) r (now (d .exit)) ⌝ }
 {
     let k = label_cell(l);
@@ -49,13 +49,13 @@ fn put_label(d: &mut [usize], at: usize, l: labels::Label) -> usize
 // The labels of the node from lo to hi, column by column. An Aggregate, a Projection or a Remap says no more labels than it has parts (a Remap at most
 // 256), and looking for one passes the parts and the nodes below: no more than n² short steps in a plan of n cells.
 fn each_label(
-    s: &[usize],
+    s: &[u32],
     lo: usize,
     hi: usize,
-    d: &mut [usize],
+    d: &mut [u32],
     at: usize,
     widths: &[usize],
-    names: &[usize],
+    names: &[u32],
     columns: &[u8],
 ) -> usize
     requires { ⌜ ColumnsAt (now widths) (now s) lo hi ⌝ }
@@ -75,21 +75,21 @@ fn each_label(
 
 // The labels of a node without sources. Those of a Nothing stand there already.
 fn leaf_labels(
-    s: &[usize],
+    s: &[u32],
     lo: usize,
     hi: usize,
-    d: &mut [usize],
+    d: &mut [u32],
     at: usize,
     widths: &[usize],
-    names: &[usize],
+    names: &[u32],
     columns: &[u8],
 ) -> usize
     requires { ⌜ ColumnsAt (now widths) (now s) lo hi ⌝ }
     requires { ⌜ NamesAt (now widths) (now names) (now columns) ⌝ }
     ensures { λ r. ⌜ WritesLabels (now (widths .entry)) (now (names .entry)) (now (columns .entry)) (now (s .entry)) lo hi (now (d .entry)) at r (now (d .exit)) ⌝ }
 {
-    if cells::tag_at(s, hi) == 57 {
-        return cells::copy(s, lo, hi - 6, d, at);
+    if cells::tag_at(s, hi) == tags::NOTHING {
+        return cells::copy(s, lo, hi - cells::CELL_WORDS, d, at);
     }
     each_label(s, lo, hi, d, at, widths, names, columns)
 }
@@ -97,13 +97,13 @@ fn leaf_labels(
 // The labels of all columns of the node from lo to hi, after the first `at` words of d. A node whose columns are those of its sources gives way to
 // these, the left one first, so that each leaf below is met once.
 pub fn write_labels(
-    s: &[usize],
+    s: &[u32],
     lo: usize,
     hi: usize,
-    d: &mut [usize],
+    d: &mut [u32],
     at: usize,
     widths: &[usize],
-    names: &[usize],
+    names: &[u32],
     columns: &[u8],
 ) -> usize
     requires { ⌜ ColumnsAt (now widths) (now s) lo hi ⌝ }

@@ -13,6 +13,7 @@ use Rattle.column_lookup.specs.declared.Lookup.{Lookup}
 use Rattle.column_lookup.specs.declared.Lookup.the-variants as Lookup
 use Rattle.column_lookup.specs.declared.ColumnPair.{ColumnPair}
 use Rattle.column_lookup.specs.declared.ColumnPair.the-variants as ColumnPair
+use Rattle.sheet.specs.Tags
 
 abbrev pub found : Lookup → Option ℕ
 found (Lookup.Column c) = some c
@@ -32,7 +33,7 @@ SetsEqual s lo hi r = (e : Expression) → ExpressionHere s lo hi e → pair r �
 -- ---- what the code's helpers answer of cells: a Column's tag is 6, and constants' tags are below
 
 abbrev pub column-in : Cell → Lookup
-column-in k = cond (eqb (k .tag) 6) (Lookup.Column (k .a)) Lookup.None
+column-in k = cond (eqb (k .tag) Tags.column) (Lookup.Column (k .a)) Lookup.None
 
 abbrev pub equal-cells : Cell → Cell → Lookup
-equal-cells l r = cond (ltb (l .tag) 6) (column-in r) (cond (eqb (l .tag) 6) (cond (ltb (r .tag) 6) (Lookup.Column (l .a)) Lookup.None) Lookup.None)
+equal-cells l r = cond (ltb (l .tag) Tags.column) (column-in r) (cond (eqb (l .tag) Tags.column) (cond (ltb (r .tag) Tags.column) (Lookup.Column (l .a)) Lookup.None) Lookup.None)

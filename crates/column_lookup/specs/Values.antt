@@ -10,6 +10,7 @@ use Rattle.cells.specs.Cells.{sized}
 use Rattle.cells.specs.Room.{Wrote}
 use Rattle.words.specs.Words.{all-words, constant-words}
 use Rattle.words.specs.Place.{ExpressionHere}
+use Rattle.sheet.specs.Tags
 
 -- The constants of the expression from lo up to hi are appended to the first `at` words of d, or have no room.
 abbrev pub Gathers : List ℕ → ℕ → ℕ → List ℕ → ℕ → ℕ → List ℕ → Type 0
@@ -31,4 +32,4 @@ value-words k = cond (is-defined k) (sized [] k) []
 
 -- of Is Null and of Is NaN
 abbrev pub is-words : ℕ → List ℕ
-is-words t = cond (eqb t 31) (constant-words null) (cond (eqb t 32) (constant-words (datum (float the-nan))) [])
+is-words t = cond (eqb t Tags.is-null) (constant-words null) (cond (eqb t Tags.is-nan) (constant-words (datum (float the-nan))) [])

@@ -11,7 +11,7 @@ ghost use Rattle.column_lookup.specs.Values.{is-number, is-defined, valu
 
 // The column that an expression looks up, if it is a lookup.
 pub enum Lookup {
-    Column(usize),
+    Column(u32),
     None,
 }
 
@@ -25,7 +25,7 @@ pub enum ColumnPair {
 fn is_column(k: cells::Cell) -> Lookup
     ensures { λ r. ⌜ r ≡ column-in k ⌝ }
 {
-    if k.tag == 6 {
+    if k.tag == tags::COLUMN {
         return Lookup::Column(k.a);
     }
     Lookup::None
@@ -35,11 +35,11 @@ fn is_column(k: cells::Cell) -> Lookup
 fn is_equal_lookup(l: cells::Cell, r: cells::Cell) -> Lookup
     ensures { λ q. ⌜ q ≡ equal-cells l r ⌝ }
 {
-    if l.tag < 6 {
+    if l.tag < tags::COLUMN {
         return is_column(r);
     }
-    if l.tag == 6 {
-        if r.tag < 6 {
+    if l.tag == tags::COLUMN {
+        if r.tag < tags::COLUMN {
             return Lookup::Column(l.a);
         }
     }
@@ -63,33 +63,33 @@ fn same_column(l: Lookup, r: Lookup) -> Lookup
 }
 
 // The column that the expression from lo to hi looks up: Equal of a column and a constant, Is Null or Is NaN of a column, or an Or of lookups of one column.
-pub fn is_column_lookup(s: &[usize], lo: usize, hi: usize) -> Lookup
+pub fn is_column_lookup(s: &[u32], lo: usize, hi: usize) -> Lookup
     requires { ⌜ ExpressionAt (now s) lo hi ⌝ }
     ensures { λ r. ⌜ LooksUp (now (s .entry)) lo hi r ⌝ }
 {
     let t = cells::tag_at(s, hi);
-    let end = hi - 6;
-    if t == 11 {
+    let end = hi - cells::CELL_WORDS;
+    if t == tags::OR {
         let mid = cells::start(s, end);
         let l = is_column_lookup(s, lo, mid);
         let r = is_column_lookup(s, mid, end);
         return same_column(l, r);
     }
-    if t == 12 {
+    if t == tags::EQUAL {
         let mid = cells::start(s, end);
         return is_equal_lookup(cells::cell_at(s, mid), cells::cell_at(s, end));
     }
-    if t < 31 {
+    if t < tags::IS_NULL {
         return Lookup::None;
     }
-    if 32 < t {
+    if tags::IS_NAN < t {
         return Lookup::None;
     }
     is_column(cells::cell_at(s, end))
 }
 
 // Whether a Float is a number, from the halves of its pattern: without the sign it is at most infinity's.
-fn is_number(low: usize, high: usize) -> bool
+fn is_number(low: u32, high: u32) -> bool
     ensures { λ r. ⌜ r ≡ is-number low high ⌝ }
 {
     let h = high % 2147483648;
@@ -106,20 +106,20 @@ fn is_number(low: usize, high: usize) -> bool
 fn is_defined(k: cells::Cell) -> bool
     ensures { λ r. ⌜ r ≡ is-defined k ⌝ }
 {
-    if k.tag < 2 {
+    if k.tag < tags::BOOLEAN {
         return false;
     }
-    if 5 < k.tag {
+    if tags::STRING < k.tag {
         return false;
     }
-    if k.tag == 4 {
+    if k.tag == tags::FLOAT {
         return is_number(k.a, k.b);
     }
     true
 }
 
 // The value of one of Equal's operands: a constant's, unless it is Null or NaN.
-fn equal_value(d: &mut [usize], at: usize, k: cells::Cell) -> usize
+fn equal_value(d: &mut [u32], at: usize, k: cells::Cell) -> usize
     ensures { λ r. ⌜ Wrote (now (d .entry)) at (value-words k) r (now (d .exit)) ⌝ }
 {
     if is_defined(k) {
@@ -129,16 +129,16 @@ fn equal_value(d: &mut [usize], at: usize, k: cells::Cell) -> usize
 }
 
 // The value of Is Null, which has tag 31, and of Is NaN, 32.
-fn is_value(d: &mut [usize], at: usize, t: usize) -> usize
+fn is_value(d: &mut [u32], at: usize, t: u32) -> usize
     ensures { λ r. ⌜ Wrote (now (d .entry)) at (is-words t) r (now (d .exit)) ⌝ }
 {
-    if t == 31 {
+    if t == tags::IS_NULL {
         return cells::put(
             d,
             at,
             at,
             cells::Cell {
-                tag: 1,
+                tag: tags::NULL,
                 flag: 0,
                 a: 0,
                 b: 0,
@@ -146,13 +146,13 @@ fn is_value(d: &mut [usize], at: usize, t: usize) -> usize
             },
         );
     }
-    if t == 32 {
+    if t == tags::IS_NAN {
         return cells::put(
             d,
             at,
             at,
             cells::Cell {
-                tag: 4,
+                tag: tags::FLOAT,
                 flag: 0,
                 a: 0,
                 b: 2146959360,
@@ -164,21 +164,21 @@ fn is_value(d: &mut [usize], at: usize, t: usize) -> usize
 }
 
 // The constants that the expression from lo to hi, a lookup, looks its column up for.
-pub fn into_column_values(s: &[usize], lo: usize, hi: usize, d: &mut [usize], at: usize) -> usize
+pub fn into_column_values(s: &[u32], lo: usize, hi: usize, d: &mut [u32], at: usize) -> usize
     requires { ⌜ ExpressionAt (now s) lo hi ⌝ }
     ensures { λ r. ⌜ Gathers (now (s .entry)) lo hi (now (d .entry)) at r (now (d .exit)) ⌝ }
 {
     let t = cells::tag_at(s, hi);
-    if t < 10 {
+    if t < tags::BINARY {
         return at;
     }
-    let end = hi - 6;
-    if t < 12 {
+    let end = hi - cells::CELL_WORDS;
+    if t < tags::EQUAL {
         let mid = cells::start(s, end);
         let m = into_column_values(s, lo, mid, d, at);
         return into_column_values(s, mid, end, d, m);
     }
-    if t == 12 {
+    if t == tags::EQUAL {
         let mid = cells::start(s, end);
         let m = equal_value(d, at, cells::cell_at(s, mid));
         return equal_value(d, m, cells::cell_at(s, end));
@@ -209,12 +209,12 @@ fn ordered(l: Lookup, r: Lookup) -> ColumnPair
 }
 
 // The two columns that the expression from lo to hi sets equal.
-pub fn equijoin(s: &[usize], lo: usize, hi: usize) -> ColumnPair
+pub fn equijoin(s: &[u32], lo: usize, hi: usize) -> ColumnPair
     requires { ⌜ ExpressionAt (now s) lo hi ⌝ }
     ensures { λ r. ⌜ SetsEqual (now (s .entry)) lo hi r ⌝ }
 {
-    if cells::tag_at(s, hi) == 12 {
-        let end = hi - 6;
+    if cells::tag_at(s, hi) == tags::EQUAL {
+        let end = hi - cells::CELL_WORDS;
         let mid = cells::start(s, end);
         let l = is_column(cells::cell_at(s, mid));
         let r = is_column(cells::cell_at(s, end));

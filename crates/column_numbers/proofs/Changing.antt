@@ -11,7 +11,7 @@ use Rattle.cells.specs.Cells.{words, Part}
 use Rattle.cells.proofs.Laws.{part-word}
 use Rattle.column_numbers.specs.declared.Change.{Change}
 use Rattle.column_numbers.specs.Columns.{changed, Room, changed-cell, changed-sized, EachCell}
-use Rattle.column_numbers.specs.Flat.{cell-words, flat}
+use Rattle.column_numbers.specs.Flat.{with-size, flat}
 use Rattle.column_numbers.proofs.Flat.{no-cell, cell-room}
 
 -- The cells from i up to n are left, and the words before them are done.
@@ -41,7 +41,7 @@ cell-done {k} done c rest c′ new long left same room is =
       rest = rest;
       is = is ∙ simp append-assoc;
       long = omega (arith, length-append done (words c′ (c .1)));
-      left = omega (arith, length-append (cell-words c) (flat rest));
+      left = omega (arith, length-append (with-size c) (flat rest));
       same =
           append-assoc done (words c′ (c .1)) (flat (map (changed-sized k) rest))
           ∙ ap (λ (x : Cell). done ++ (words x (c .1) ++ flat (map (changed-sized k) rest))) new

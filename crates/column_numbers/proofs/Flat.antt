@@ -10,7 +10,7 @@ use Rattle.cells.specs.declared.Cell.{Cell}
 use Rattle.cells.specs.Cells.{cell-at, Part}
 use Rattle.cells.proofs.Laws.{part-right, part-word, part-in}
 use Rattle.words.specs.Words.{cell, expression-words}
-use Rattle.column_numbers.specs.Flat.{cell-words, flat, cells-before}
+use Rattle.column_numbers.specs.Flat.{with-size, flat, cells-before}
 
 before-words : (e : Expression) (ks : List (Cell × ℕ)) → flat (cells-before e ks) ≡ expression-words e ++ flat ks
 unfolding expression-words
@@ -31,7 +31,7 @@ module _ {s : List ℕ} {i hi : ℕ} (P : List (Cell × ℕ) → Type 0) where
   pub next-cell : i < hi → ((k : Cell × ℕ) (ks : List (Cell × ℕ)) → cell-at s (i + 6) ≡ k .0 → Part s (i + 6) hi (flat ks) → P (k ∷ ks))
       → (ks : List (Cell × ℕ)) → Part s i hi (flat ks) → P ks
   next-cell h f [] p = absurd (omega (arith, p .high))
-  next-cell h f (k ∷ ks) p = f k ks first (part-right (cell-words k) (flat ks) p)
+  next-cell h f (k ∷ ks) p = f k ks first (part-right (with-size k) (flat ks) p)
     where
       first : cell-at s (i + 6) ≡ k .0
       first =
@@ -39,7 +39,7 @@ module _ {s : List ℕ} {i hi : ℕ} (P : List (Cell × ℕ) → Type 0) where
 
   pub no-cell : hi ≤ i → P [] → (ks : List (Cell × ℕ)) → Part s i hi (flat ks) → P ks
   no-cell h f [] p = f
-  no-cell h f (k ∷ ks) p = absurd (omega (arith, p .high, length-append (cell-words k) (flat ks)))
+  no-cell h f (k ∷ ks) p = absurd (omega (arith, p .high, length-append (with-size k) (flat ks)))
 
 pub cell-room : {s : List ℕ} {i hi : ℕ} → i < hi → (ks : List (Cell × ℕ)) → Part s i hi (flat ks) → (i + 6 ≤ hi) × (hi ≤ length s)
 cell-room {s} {i} {hi} h ks p = next-cell (λ ks. (i + 6 ≤ hi) × (hi ≤ length s)) h (λ k ks e q. part-in q) ks p

@@ -12,7 +12,7 @@ use Rattle.sheet.specs.Content.{Content, constant-cell, column-cell, unary-cell
 use Rattle.cells.specs.declared.Cell.{Cell}
 use Rattle.cells.specs.Cells.{Part}
 use Rattle.cells.specs.Room.{Copies}
-use Rattle.cells.proofs.Laws.{no-room, done, lt-or-ge, wrote-up}
+use Rattle.cells.proofs.Laws.{no-more, done, wrote-up}
 use Rattle.words.specs.Words.{cell, expression-words}
 use Rattle.words.specs.Place.{ExpressionHere, ExpressionAt, Maps}
 use Rattle.words.proofs.Expressions.{tag, constant-tag, unary-range, binary-range}
@@ -45,8 +45,8 @@ module _ {s : List ℕ} {lo hi : ℕ} where
   pub replaced : (from to : ℕ) → ExpressionAt s lo hi → Changeable (Replace from to) s lo hi
   replaced from to t = record { e = t .e; here = t .here; room = each-column {P = Room (Replace from to)} (λ c. tt) (t .e) }
 
-  pub up : (n : ℕ) → n < 4294967296 → SmallAt s lo hi → Changeable (Up n) s lo hi
-  up n h t = record { e = t .e; here = t .here; room = each-so {P = λ c. c < 4294967296} {Q = Room (Up n)} (λ c k. omega arith) (t .e) (t .small) }
+  pub up : (n : ℕ) → SmallAt n s lo hi → Changeable (Up n) s lo hi
+  up n t = record { e = t .e; here = t .here; room = t .small }
 
 pub some-there : {k : Change} {s : List ℕ} {lo hi : ℕ} → Changeable k s lo hi → ExpressionAt s lo hi
 some-there t = record { e = t .e; here = t .here }
@@ -109,7 +109,7 @@ module _ {s : List ℕ} {lo hi : ℕ} {d : List ℕ} {at n : ℕ} {d₁ : List �
   copy-here z e u =
       let w = expression-words e in
       let up = wrote-up (c w (u .part)) (omega arith) in
-      let f = c w (u .part) .fits (omega arith) .1 in
+      let f = c w (u .part) .is (omega arith) .1 in
       record {
         before = take at d;
         after = drop n d₁;
@@ -126,10 +126,7 @@ module _ {s : List ℕ} {lo hi : ℕ} {d : List ℕ} {at n : ℕ} {d₁ : List �
   change-full k z e u =
       let w = expression-words e in
       let l = long-kept (changed k) e in
-      no-room
-      (⊎-elim (λ (h : length d < at + length w). omega arith) (λ (h : at + length w ≤ length d). absurd (omega (arith, c w (u .part) .fits h .0)))
-      (lt-or-ge (length d) (at + length w)))
-      (omega arith)
+      no-more (omega arith) (omega arith) (c w (u .part))
 
   pub change-done : (k : Change) → n ≤ length d₁ → {r : ℕ} {d₂ : List ℕ} → r ≡ n → Rewrites k d₁ at n d₂ → Maps (map-columns (changed k)) s lo hi d at r d₂
   change-done k z {r} {d₂} q g e u =

@@ -13,6 +13,7 @@ use Rattle.column_numbers.specs.declared.SourceColumn.the-variants.{Left
 use Rattle.column_numbers.specs.declared.Change.{Change}
 use Rattle.column_numbers.specs.declared.Change.the-variants.{Down, Up, Replace}
 use Rattle.column_numbers.specs.Flat.{flat}
+use Rattle.sheet.specs.Tags
 
 -- Column c of a joined row, in its own source, if the left source has n columns.
 abbrev pub source-of : ℕ → ℕ → SourceColumn
@@ -27,12 +28,12 @@ changed (Replace from to) c = cond (eqb c from) to c
 -- The new number fits a word.
 abbrev pub Room : Change → ℕ → Type 0
 Room (Down n) c = Unit
-Room (Up n) c = n + c < 18446744073709551616
+Room (Up n) c = n + c < 4294967296
 Room (Replace from to) c = Unit
 
 -- a Column's cell has tag 6 and its number in a
 abbrev pub changed-cell : Change → Cell → Cell
-changed-cell k c = cond (eqb (c .tag) 6) (record { tag = c .tag; flag = c .flag; a = changed k (c .a); b = c .b; c = c .c }) c
+changed-cell k c = cond (eqb (c .tag) Tags.column) (record { tag = c .tag; flag = c .flag; a = changed k (c .a); b = c .b; c = c .c }) c
 
 -- the cell with its size, which stays
 abbrev pub changed-sized : Change → Cell × ℕ → Cell × ℕ
@@ -41,7 +42,7 @@ changed-sized k c = (changed-cell k (c .0), c .1)
 -- The columns among these cells can be rewritten.
 abbrev pub EachCell : Change → List (Cell × ℕ) → Type 0
 EachCell k [] = Unit
-EachCell k (c ∷ cs) = (c .0 .tag ≡ 6 → Room k (c .0 .a)) × EachCell k cs
+EachCell k (c ∷ cs) = (c .0 .tag ≡ Tags.column → Room k (c .0 .a)) × EachCell k cs
 
 -- Some such cells stand in d from word at up to n.
 pub record CellsAt (k : Change) (d : List ℕ) (at n : ℕ) : Type 0 where
@@ -66,8 +67,8 @@ pub record Changeable (k : Change) (s : List ℕ) (lo hi : ℕ) : Type 0 where
   pub here : ExpressionHere s lo hi e
   pub room : EachColumn (Room k) e
 
--- Some expression stands there, whose columns are below 2^32, as those of a sheet are.
-pub record SmallAt (s : List ℕ) (lo hi : ℕ) : Type 0 where
+-- Some expression stands there, whose columns fit a word after they are moved up by n.
+pub record SmallAt (n : ℕ) (s : List ℕ) (lo hi : ℕ) : Type 0 where
   pub e : Expression
   pub here : ExpressionHere s lo hi e
-  pub small : EachColumn (λ c. c < 4294967296) e
+  pub small : EachColumn (λ c. n + c < 4294967296) e

@@ -5,20 +5,20 @@ use lib.ListN.{length}
 use Rattle.sql.specs.Expression.{Expression, constant, column, unary, binary}
 use Rattle.sheet.specs.Content.{constant-cell, column-cell, unary-cell, binary-cell}
 use Rattle.cells.specs.declared.Cell.{Cell}
-use Rattle.cells.specs.Cells.{words}
+use Rattle.cells.specs.Cells.{cell-words, words}
 use Rattle.words.specs.Words.{cell, all-words, expression-words}
 
-abbrev pub cell-words : Cell × ℕ → List ℕ
-cell-words k = words (k .0) (k .1)
+abbrev pub with-size : Cell × ℕ → List ℕ
+with-size k = words (k .0) (k .1)
 
 -- the words of cells
 abbrev pub flat : List (Cell × ℕ) → List ℕ
-flat ks = all-words cell-words ks
+flat ks = all-words with-size ks
 
 -- an expression's cells, and others behind them
 abbrev pub cells-before : Expression → List (Cell × ℕ) → List (Cell × ℕ)
-cells-before (constant v) ks = (cell (constant-cell v), 6) ∷ ks
-cells-before (column i) ks = (cell (column-cell i), 6) ∷ ks
-cells-before (unary o x) ks = cells-before x ((cell (unary-cell o), length (expression-words x) + 6) ∷ ks)
+cells-before (constant v) ks = (cell (constant-cell v), cell-words) ∷ ks
+cells-before (column i) ks = (cell (column-cell i), cell-words) ∷ ks
+cells-before (unary o x) ks = cells-before x ((cell (unary-cell o), length (expression-words x) + cell-words) ∷ ks)
 cells-before (binary o l r) ks =
-    cells-before l (cells-before r ((cell (binary-cell o), length (expression-words l ++ expression-words r) + 6) ∷ ks))
+    cells-before l (cells-before r ((cell (binary-cell o), length (expression-words l ++ expression-words r) + cell-words) ∷ ks))

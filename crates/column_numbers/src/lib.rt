@@ -9,13 +9,13 @@ ghost use Rattle.column_numbers.specs.Columns.{source-of, changed, Room,
 ghost use Rattle.column_numbers.specs.References.{column-refers, together, RefersTo};
 
 // A column of a join's left source.
-pub struct LeftColumn(pub usize);
+pub struct LeftColumn(pub u32);
 
 // A column of a join's right source.
-pub struct RightColumn(pub usize);
+pub struct RightColumn(pub u32);
 
 // A column of a join's row: the left source's columns, and behind them the right source's.
-pub struct JoinedColumn(pub usize);
+pub struct JoinedColumn(pub u32);
 
 // A column of one of a join's sources.
 pub enum SourceColumn {
@@ -34,10 +34,10 @@ impl LeftColumn {
 impl RightColumn {
     // The left source has n columns.
     pub fn joined(self, n: usize) -> JoinedColumn
-        requires { ⌜ n + self .0 < 18446744073709551616 ⌝ }
+        requires { ⌜ n + self .0 < 4294967296 ⌝ }
         ensures { λ r. ⌜ r .0 ≡ n + self .0 ⌝ }
     {
-        JoinedColumn(n + self.0)
+        JoinedColumn((n + self.0 as usize) as u32)
     }
 }
 
@@ -46,20 +46,22 @@ impl JoinedColumn {
     pub fn right(self, n: usize) -> RightColumn
         ensures { λ r. ⌜ r .0 ≡ self .0 - n ⌝ }
     {
-        if self.0 < n {
+        let c = self.0 as usize;
+        if c < n {
             return RightColumn(0);
         }
-        RightColumn(self.0 - n)
+        RightColumn((c - n) as u32)
     }
 
     // The source's column that it is, if the left source has n columns.
     pub fn source(self, n: usize) -> SourceColumn
         ensures { λ r. ⌜ r ≡ source-of (self .0) n ⌝ }
     {
-        if self.0 < n {
+        let c = self.0 as usize;
+        if c < n {
             return SourceColumn::Left(LeftColumn(self.0));
         }
-        SourceColumn::Right(RightColumn(self.0 - n))
+        SourceColumn::Right(RightColumn((c - n) as u32))
     }
 }
 
@@ -70,10 +72,10 @@ pub enum Change {
     // From the right source's row to the joined row.
     Up(usize),
     // From the one column to the other.
-    Replace(usize, usize),
+    Replace(u32, u32),
 }
 
-fn changed(k: Change, c: usize) -> usize
+fn changed(k: Change, c: u32) -> u32
     requires { ⌜ Room k c ⌝ }
     ensures { λ r. ⌜ r ≡ changed k c ⌝ }
 {
@@ -96,29 +98,22 @@ fn changed(k: Change, c: usize) -> usize
 }
 
 // The columns among the cells of d from `at` up to n, rewritten where they stand: no cell changes its size.
-fn change_columns(d: &mut [usize], at: usize, n: usize, k: Change) -> usize
+fn change_columns(d: &mut [u32], at: usize, n: usize, k: Change) -> usize
     requires { ⌜ CellsAt k (now d) at n ⌝ }
     ensures { λ r. ⌜ (r ≡ n) × Rewrites k (now (d .entry)) at n (now (d .exit)) ⌝ }
 {
     let mut i = at;
     while i < n {
-        if d[i] == 6 {
-            d[i + 2] = changed(k, d[i + 2]);
+        if d[i] == tags::COLUMN {
+            d[i + cells::A] = changed(k, d[i + cells::A]);
         }
-        i += 6;
+        i += cells::CELL_WORDS;
     }
     n
 }
 
 // The expression from lo to hi with its columns rewritten.
-pub fn map_columns(
-    s: &[usize],
-    lo: usize,
-    hi: usize,
-    d: &mut [usize],
-    at: usize,
-    k: Change,
-) -> usize
+pub fn map_columns(s: &[u32], lo: usize, hi: usize, d: &mut [u32], at: usize, k: Change) -> usize
     requires { ⌜ Changeable k (now s) lo hi ⌝ }
     ensures { λ r. ⌜ Maps (map-columns (changed k)) (now (s .entry)) lo hi (now (d .entry)) at r (now (d .exit)) ⌝ }
 {
@@ -131,10 +126,10 @@ pub fn map_columns(
 
 // shift_column by −n: from the joined row to the right source's row.
 pub fn shift_column_down(
-    s: &[usize],
+    s: &[u32],
     lo: usize,
     hi: usize,
-    d: &mut [usize],
+    d: &mut [u32],
     at: usize,
     n: usize,
 ) -> usize
@@ -145,29 +140,21 @@ pub fn shift_column_down(
 }
 
 // shift_column by n: from the right source's row to the joined row.
-pub fn shift_column_up(
-    s: &[usize],
-    lo: usize,
-    hi: usize,
-    d: &mut [usize],
-    at: usize,
-    n: usize,
-) -> usize
-    requires { ⌜ SmallAt (now s) lo hi ⌝ }
-    requires { ⌜ n < 4294967296 ⌝ }
+pub fn shift_column_up(s: &[u32], lo: usize, hi: usize, d: &mut [u32], at: usize, n: usize) -> usize
+    requires { ⌜ SmallAt n (now s) lo hi ⌝ }
     ensures { λ r. ⌜ Maps (shift-column-up n) (now (s .entry)) lo hi (now (d .entry)) at r (now (d .exit)) ⌝ }
 {
     map_columns(s, lo, hi, d, at, Change::Up(n))
 }
 
 pub fn replace_column(
-    s: &[usize],
+    s: &[u32],
     lo: usize,
     hi: usize,
-    d: &mut [usize],
+    d: &mut [u32],
     at: usize,
-    from: usize,
-    to: usize,
+    from: u32,
+    to: u32,
 ) -> usize
     requires { ⌜ ExpressionAt (now s) lo hi ⌝ }
     ensures { λ r. ⌜ Maps (replace-column from to) (now (s .entry)) lo hi (now (d .entry)) at r (now (d .exit)) ⌝ }
@@ -184,10 +171,10 @@ pub enum References {
 }
 
 // What a column refers to, where the left source has n columns.
-fn column_refers(c: usize, n: usize) -> References
+fn column_refers(c: u32, n: usize) -> References
     ensures { λ r. ⌜ r ≡ column-refers n c ⌝ }
 {
-    if c < n {
+    if (c as usize) < n {
         return References::Left;
     }
     References::Right
@@ -216,16 +203,16 @@ fn together(a: References, b: References) -> References
 }
 
 // ref_left and ref_right of the expression from lo to hi, where the left source has n columns.
-pub fn refers(s: &[usize], lo: usize, hi: usize, n: usize) -> References
+pub fn refers(s: &[u32], lo: usize, hi: usize, n: usize) -> References
     requires { ⌜ ExpressionAt (now s) lo hi ⌝ }
     ensures { λ r. ⌜ RefersTo n (now (s .entry)) lo hi r ⌝ }
 {
     let mut r = References::Neither;
     let mut i = lo;
     while i < hi {
-        i += 6;
+        i += cells::CELL_WORDS;
         let c = cells::cell_at(s, i);
-        if c.tag == 6 {
+        if c.tag == tags::COLUMN {
             // The column stands first: it is on one side, so only two cases of `together` are left.
             r = together(column_refers(c.a, n), r);
         }

@@ -9,7 +9,7 @@ use lib.Seq.{length-take-le}
 use Rattle.sql.specs.Expression.{Expression, and, shift-column-down, and-vec}
 use Rattle.cells.specs.Cells.{words, Part}
 use Rattle.cells.specs.Room.{Wrote, Seals, Copies}
-use Rattle.cells.proofs.Laws.{then, nothing, wrote-up}
+use Rattle.cells.proofs.Laws.{then, nothing, wrote-up, no-more}
 use Rattle.words.specs.Words.{cell, root, expression-words, operand-words, optional-words}
 use Rattle.words.specs.Place.{Maps}
 use Rattle.words.proofs.Expressions.{shape}
@@ -26,15 +26,11 @@ and-then-grows none x = omega arith
 and-then-grows (some a) x =
     omega (arith, length-append (expression-words a ++ expression-words x) (words (cell (root (and a x))) (length (expression-words a ++ expression-words x) + 6)), length-append (expression-words a) (expression-words x))
 
--- what has no room has none when there is more of it
-full-grows : {d₀ : List ℕ} {from at : ℕ} {v x d d′ : List ℕ} → length d₀ < at → length v ≤ length x → Wrote d₀ from v at d → Wrote d₀ from x at d′
-full-grows h g f = record { fits = λ z. absurd (let (a, b) = f .fits (omega arith) in omega arith); full = λ z. h }
-
 -- ---- one more conjunct
 
 module _ {d : List ℕ} {from at m : ℕ} where
   pub join-full : length d < at → Joins d from at m at d
-  join-full h d₀ d₁ acc x l k v w = full-grows (omega arith) (and-then-grows acc x) v
+  join-full h d₀ d₁ acc x l k v w = no-more (omega arith) (and-then-grows acc x) v
 
   module _ (fits : at ≤ length d) where
     pub join-first : at ≡ from → Joins d from at m m d
@@ -76,7 +72,7 @@ copied-down {d} {at} {n} {d′} k h f e u = subst (λ (j : ℕ). Wrote d at (exp
 pub written-part : {d : List ℕ} {at : ℕ} {w : List ℕ} {n : ℕ} {d′ : List ℕ} → Wrote d at w n d′ → n ≤ length d → Part d′ at n w
 written-part {d} {at} {w} {n} {d′} f h =
     let e = wrote-up f h in
-    let (_, t) = f .fits (omega arith) in
+    let (_, t) = f .is h in
     record {
       before = take at d;
       after = drop n d′;

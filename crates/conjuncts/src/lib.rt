@@ -16,7 +16,7 @@ pub enum Destination {
 }
 
 // The expression from lo to hi with its columns `shift` lower.
-fn move_down(s: &[usize], lo: usize, hi: usize, d: &mut [usize], at: usize, shift: usize) -> usize
+fn move_down(s: &[u32], lo: usize, hi: usize, d: &mut [u32], at: usize, shift: usize) -> usize
     requires { ⌜ ExpressionAt (now s) lo hi ⌝ }
     ensures { λ r. ⌜ Maps (shift-column-down shift) (now (s .entry)) lo hi (now (d .entry)) at r (now (d .exit)) ⌝ }
 {
@@ -27,7 +27,7 @@ fn move_down(s: &[usize], lo: usize, hi: usize, d: &mut [usize], at: usize, shif
 }
 
 // The And of the conjuncts that stand in d from `from` up to at and the expression from at up to m; that expression alone if no conjunct stands before it.
-pub fn and_over(d: &mut [usize], from: usize, at: usize, m: usize) -> usize
+pub fn and_over(d: &mut [u32], from: usize, at: usize, m: usize) -> usize
     ensures { λ r. ⌜ Joins (now (d .entry)) from at m r (now (d .exit)) ⌝ }
 {
     if d.len() < at {
@@ -41,7 +41,7 @@ pub fn and_over(d: &mut [usize], from: usize, at: usize, m: usize) -> usize
         from,
         m,
         cells::Cell {
-            tag: 10,
+            tag: tags::AND,
             flag: 0,
             a: 0,
             b: 0,
@@ -52,10 +52,10 @@ pub fn and_over(d: &mut [usize], from: usize, at: usize, m: usize) -> usize
 
 // The expression from lo to hi, with its columns `shift` lower, as one more conjunct.
 pub fn append(
-    s: &[usize],
+    s: &[u32],
     lo: usize,
     hi: usize,
-    d: &mut [usize],
+    d: &mut [u32],
     from: usize,
     at: usize,
     shift: usize,
@@ -95,10 +95,10 @@ fn goes(to: Destination, r: column_numbers::References) -> bool
 
 // The conjuncts of the expression from lo to hi that go there, with their columns `shift` lower. The left source has n columns.
 fn gather(
-    s: &[usize],
+    s: &[u32],
     lo: usize,
     hi: usize,
-    d: &mut [usize],
+    d: &mut [u32],
     from: usize,
     at: usize,
     to: Destination,
@@ -108,8 +108,8 @@ fn gather(
     requires { ⌜ ExpressionAt (now s) lo hi ⌝ }
     ensures { λ r. ⌜ Walks (chosen to n shift) (now (s .entry)) lo hi (now (d .entry)) from at r (now (d .exit)) ⌝ }
 {
-    if cells::tag_at(s, hi) == 10 {
-        let end = hi - 6;
+    if cells::tag_at(s, hi) == tags::AND {
+        let end = hi - cells::CELL_WORDS;
         let mid = cells::start(s, end);
         let m = gather(s, lo, mid, d, from, at, to, n, shift);
         return gather(s, mid, end, d, from, m, to, n, shift);
@@ -122,10 +122,10 @@ fn gather(
 
 // The conjuncts of the expression from lo to hi for the left source.
 pub fn for_left(
-    s: &[usize],
+    s: &[u32],
     lo: usize,
     hi: usize,
-    d: &mut [usize],
+    d: &mut [u32],
     from: usize,
     at: usize,
     n: usize,
@@ -138,10 +138,10 @@ pub fn for_left(
 
 // Those for the right source, with their columns `shift` lower: n, to push them, or 0.
 pub fn for_right(
-    s: &[usize],
+    s: &[u32],
     lo: usize,
     hi: usize,
-    d: &mut [usize],
+    d: &mut [u32],
     from: usize,
     at: usize,
     n: usize,
@@ -155,10 +155,10 @@ pub fn for_right(
 
 // Those that stay with the join.
 pub fn for_both(
-    s: &[usize],
+    s: &[u32],
     lo: usize,
     hi: usize,
-    d: &mut [usize],
+    d: &mut [u32],
     from: usize,
     at: usize,
     n: usize,

@@ -9,6 +9,7 @@ use Rattle.sql.specs.Plan.{limit, offset, order, projection, remap, aggregate, 
 use Rattle.sql.specs.Answer.{Answer, done, refused, _>>=_}
 use Rattle.sql.specs.Optimizer.{fold-over, ConstantFolding}
 use Rattle.sheet.specs.Content.{item-cell, key-cell}
+use Rattle.cells.specs.Room.{Short}
 use Rattle.words.specs.Words.{cell, all-words, expression-words, item-words, key-words, over-own, node-words}
 use Rattle.words.specs.Place.{NodeHere}
 use Rattle.words.proofs.Nodes.{node-in}
@@ -93,7 +94,7 @@ module _ {text x : List ℕ} {lo hi end : ℕ} (b : Bare x lo hi end) (h : lo < 
     within = up-to-as (sym q) (record { ends = tt });
   }
 
-  module _ {y : List ℕ} {at u : ℕ} {y₁ : List ℕ} (room : at + (hi - lo) ≤ length y) (long : length y₁ ≡ length y)
+  module _ {y : List ℕ} {at u : ℕ} {y₁ : List ℕ} (room : (at + (hi - lo) ≤ length y) × Short y) (long : length y₁ ≡ length y)
       (g : FoldsSource text x lo end y at (Folded.Done u) y₁) {v : ℕ} {y₂ : List ℕ} (c : Follows x end hi y₁ at u v y₂) where
     -- the chain over what the node below folds to
     followed : (os : List Other) (p q : Node) → NodeHere x lo hi (chain os p) → NodeHere x lo end p → Appended y at (node-words q) u y₁
@@ -103,7 +104,7 @@ module _ {text x : List ℕ} {lo hi end : ℕ} (b : Bare x lo hi end) (h : lo < 
         let l = chain-long os q in
         let i = node-in p w in
         let k = g .within .ends in
-        let d = appended (c .over-node lo os p q v w y long (wrote a (omega (arith, a .ends)))) (omega (arith, a .ends)) in
+        let d = appended (c .over-node lo os p q v w y long (wrote a (omega (arith, room .0, a .ends)))) (room .1) (omega (arith, room .0, a .ends)) in
         (d, omega (arith, d .ends, a .ends))
 
     ended : (os : List Other) (p : Node) → NodeHere x lo hi (chain os p) → NodeHere x lo end p → (a : Answer Node) → Leaves node-words y at a (Folded.Done u) y₁ → v ≤ at + (hi - lo)

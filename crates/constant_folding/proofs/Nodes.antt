@@ -15,7 +15,7 @@ use Rattle.sheet_laws.specs.Counts.{size-positive}
 use Rattle.sound.specs.Answers.{answer-is}
 use Rattle.cells.specs.declared.Cell.{Cell}
 use Rattle.cells.specs.Cells.{sized, cell-at, start-at, Part, Sized}
-use Rattle.cells.specs.Room.{Wrote, Seals, Copies}
+use Rattle.cells.specs.Room.{Short, Wrote, Seals, Copies}
 use Rattle.cells.proofs.Laws.{part-left, part-right, part-in}
 use Rattle.words.specs.Words.{cell, all-words, expression-words, row-words, node-words, leaf-own, over-own, join-own, leaf-cell, over-cell, join-cell, source-words, own-words, node-cell}
 use Rattle.words.specs.Place.{NodeHere, NodeAt}
@@ -268,16 +268,16 @@ module _ {text x : List ℕ} {lo hi : ℕ} where
   pub source-in : lo < hi → SourceAt text x lo hi → (lo ≤ hi) × (hi ≤ length x)
   source-in h t = by-node (λ o. (lo ≤ hi) × (hi ≤ length x)) (λ p u f. (omega arith, node-in p u .1)) h (t .source) (t .here)
 
-  pub source-single : {y : List ℕ} {at r : ℕ} {y₁ : List ℕ} → hi - lo ≡ 6 → at + (hi - lo) ≤ length y → SourceAt text x lo hi → Copies x lo hi y at r y₁
+  pub source-single : {y : List ℕ} {at r : ℕ} {y₁ : List ℕ} → hi - lo ≡ 6 → (at + (hi - lo) ≤ length y) × Short y → SourceAt text x lo hi → Copies x lo hi y at r y₁
       → FoldsSource text x lo hi y at (Folded.Done r) y₁
-  source-single {y} {at} {r} {y₁} h room t c = record {
+  source-single {y} {at} {r} {y₁} h (room, few) t c = record {
     leaves = λ first source k u. by-node (λ o. Leaves words-of y at (fold-source first o) (Folded.Done r) y₁)
         (λ p v f. made-into (ConstantFolding first p) some (λ q. refl) (answer-as (sym (node-alone first p v h)) (record { left = copied p v }))) (omega arith) source u;
     within = record { ends = by-node (λ o. r ≤ at + (hi - lo)) (λ p v f. omega (arith, copied p v .ends, v .part .high)) (omega arith) (t .source) (t .here) };
   }
     where
       copied : (p : Node) → NodeHere x lo hi p → Appended y at (node-words p) r y₁
-      copied p v = appended (c (node-words p) (v .part)) (omega (arith, v .part .high))
+      copied p v = appended (c (node-words p) (v .part)) few (omega (arith, v .part .high))
 
 -- the answer without its `some`
 pub node-left : {y : List ℕ} {at : ℕ} {r : Folded} {y′ : List ℕ} (first : ℕ) (p : Node) → Leaves words-of y at (fold-source first (some p)) r y′ → Leaves node-words y at (ConstantFolding first p) r y′
@@ -384,7 +384,7 @@ module _ {text x : List ℕ} {lo hi m mid : ℕ} (h : lo < hi) (own : OwnStart x
           join-own-left first e outer c a b u f =
               said-as qe (g .leaves (first + (node-size a + node-size b)) (join outer c a b) (join-number own first e outer c a b u) (own-here (join outer c a b) u f))
 
-          module _ (t : SourceAt text x lo hi) (room : at + (hi - lo) ≤ length y) (long : length y₃ ≡ length y) {k : Cell} (ke : k ≡ cell-at x hi) {r : ℕ} {y₄ : List ℕ} (c : Seals y₃ at n k r y₄) where
+          module _ (t : SourceAt text x lo hi) (room : (at + (hi - lo) ≤ length y) × Short y) (long : length y₃ ≡ length y) {k : Cell} (ke : k ≡ cell-at x hi) {r : ℕ} {y₄ : List ℕ} (c : Seals y₃ at n k r y₄) where
             closed-room : (v w o : List ℕ) → Appended y at v e y₁ → Appended y₁ e w i y₂ → Appended y₂ i o n y₃ → at + length (sized ((v ++ w) ++ o) (cell-at x hi)) ≤ at + (hi - lo)
             closed-room v w o a b d =
                 let (j₁, (j₂, j₃)) = own-in own h t in
@@ -396,7 +396,7 @@ module _ {text x : List ℕ} {lo hi m mid : ℕ} (h : lo < hi) (own : OwnStart x
                 let j = closed-room v w o a b d in
                 let l = appended-then (appended-then a b) d in
                 appended (subst (λ (k : Cell). Wrote y at (sized ((v ++ w) ++ o) k) r y₄) ke
-                (c y ((v ++ w) ++ o) long (wrote l (omega (arith, sized-long ((v ++ w) ++ o) (cell-at x hi)))))) (omega arith)
+                (c y ((v ++ w) ++ o) long (wrote l (omega (arith, room .0, sized-long ((v ++ w) ++ o) (cell-at x hi)))))) (room .1) (omega (arith, room .0))
 
             node-done : (first : ℕ) → lo ≡ 6 * first → (p : Node) → NodeHere x lo hi p → Node-fits text p → Leaves node-words y at (ConstantFolding first p) (Folded.Done r) y₄
             node-done first k (leaf l) v f =

@@ -9,7 +9,7 @@ use Rattle.sql.specs.Expression.{Expression, constant}
 use Rattle.sql.specs.Plan.{Node, filter, over, nested-loop, join}
 use Rattle.sql.specs.Answer.{refused}
 use Rattle.sql.specs.Optimizer.{ConstantFolding}
-use Rattle.sql.specs.Worked.{one-row, number, plus}
+use Rattle.sql.specs.Samples.{one-row, number, plus}
 use Rattle.fold_operator.specs.declared.Folded.the-variants as Folded
 use Rattle.constant_folding.specs.Nodes.{node-refusal}
 

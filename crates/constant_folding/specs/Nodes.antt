@@ -8,7 +8,7 @@ use Rattle.sql.specs.Plan.{Node, leaf, over, join}
 use Rattle.sql.specs.Answer.{Answer, done, refused, _>>=_}
 use Rattle.sql.specs.Optimizer.{fold-leaf, fold-over, fold-join, ConstantFolding}
 use Rattle.sheet_laws.specs.Fits.{All, Optional}
-use Rattle.cells.specs.Cells.{Part}
+use Rattle.cells.specs.Cells.{cell-words, Part}
 use Rattle.words.specs.Words.{node-words, source-words, leaf-own, over-own, join-own}
 use Rattle.fold_operator.specs.declared.Folded.{Folded}
 use Rattle.fold_operator.specs.declared.Folded.the-variants as Folded
@@ -65,12 +65,12 @@ pub record SourceAt (text x : List ℕ) (lo hi : ℕ) : Type 0 where
   pub source : Option Node
   pub here : SourceHere text x lo hi source
   pub first : ℕ
-  pub numbered : lo ≡ 6 * first
+  pub numbered : lo ≡ cell-words * first
   pub short : length text < 65536
 
 -- The answer of folding it; what is done is not longer than it is.
 pub record FoldsSource (text x : List ℕ) (lo hi : ℕ) (y : List ℕ) (at : ℕ) (r : Folded) (y′ : List ℕ) : Type 0 where
-  pub leaves : (first : ℕ) (source : Option Node) → lo ≡ 6 * first → SourceHere text x lo hi source → Leaves words-of y at (fold-source first source) r y′
+  pub leaves : (first : ℕ) (source : Option Node) → lo ≡ cell-words * first → SourceHere text x lo hi source → Leaves words-of y at (fold-source first source) r y′
   pub within : Up-to (at + (hi - lo)) r
 
 -- An answer's refusal, and if it is done, the refusal behind it, with this number and place.
@@ -96,4 +96,4 @@ node-refusal first p number place = first-refusal (fold-own first p) number plac
 
 -- r is the refusal of whatever node stands there, where a source of it is refused with this number and place.
 pub record Refuses (text x : List ℕ) (lo hi m number place : ℕ) (r : Folded) : Type 0 where
-  pub is : (first : ℕ) (p : Node) → m ≡ 6 * first → OwnHere text x lo hi p → r ≡ node-refusal first p number place
+  pub is : (first : ℕ) (p : Node) → m ≡ cell-words * first → OwnHere text x lo hi p → r ≡ node-refusal first p number place

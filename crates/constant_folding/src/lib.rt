@@ -5,12 +5,13 @@ use fold_operator::Folded;
 ghost use Prim.Native.Nat.{ℕ, _+_, _-_, _≤_, _<_};
 ghost use mathlib.Core.Path.{_≡_};
 ghost use lib.ListN.{length};
+ghost use Rattle.cells.specs.Room.{Short};
 ghost use Rattle.fold_parts.specs.Own.{OwnAt};
 ghost use Rattle.constant_folding.specs.Nodes.{SourcesAt, LastStart, Refuses, SourceAt, FoldsSource};
 ghost use Rattle.constant_folding.specs.Plans.{PlanAt, FoldsPlan};
 
 // Where the last source starts of a node whose sources stand from lo to m; lo if it has none.
-fn last_source(x: &[usize], lo: usize, m: usize) -> usize
+fn last_source(x: &[u32], lo: usize, m: usize) -> usize
     requires { ⌜ SourcesAt (now x) lo m ⌝ }
     ensures { λ r. ⌜ LastStart (now (x .entry)) lo m r ⌝ }
 {
@@ -24,17 +25,17 @@ fn last_source(x: &[usize], lo: usize, m: usize) -> usize
 // from m on; what they fold to is written to y, where nothing is needed any more.
 fn refuse(
     text: &[u8],
-    x: &[usize],
+    x: &[u32],
     lo: usize,
     hi: usize,
     m: usize,
-    y: &mut [usize],
+    y: &mut [u32],
     at: usize,
     number: u32,
     place: usize,
 ) -> Folded
     requires { ⌜ OwnAt (now text) (now x) lo hi m ⌝ }
-    requires { ⌜ at + (hi - m) ≤ length (now y) ⌝ }
+    requires { ⌜ (at + (hi - m) ≤ length (now y)) × Short (now y) ⌝ }
     ensures { λ r. ⌜ Refuses (now (text .entry)) (now (x .entry)) lo hi m number place r ⌝ }
 {
     match fold_parts::fold_own(text, x, lo, hi, y, at, m) {
@@ -45,9 +46,9 @@ fn refuse(
 
 // The node from lo to hi. What is written is never longer than the node, so that there is always room. A chain of nodes without parts, which fold to
 // themselves, is gone through without a frame for each (crate chain).
-fn fold_node(text: &[u8], x: &[usize], lo: usize, hi: usize, y: &mut [usize], at: usize) -> Folded
+fn fold_node(text: &[u8], x: &[u32], lo: usize, hi: usize, y: &mut [u32], at: usize) -> Folded
     requires { ⌜ SourceAt (now text) (now x) lo hi × (lo < hi) ⌝ }
-    requires { ⌜ at + (hi - lo) ≤ length (now y) ⌝ }
+    requires { ⌜ (at + (hi - lo) ≤ length (now y)) × Short (now y) ⌝ }
     ensures { λ r. ⌜ FoldsSource (now (text .entry)) (now (x .entry)) lo hi (now (y .entry)) at r (now (y .exit)) ⌝ }
 {
     let end = chain::descend_bare(x, lo, hi);
@@ -70,24 +71,24 @@ fn fold_node(text: &[u8], x: &[usize], lo: usize, hi: usize, y: &mut [usize], at
 
 // The node from lo to hi; nothing, if there is none. Most nodes have one source or none, and what isn't there needs no call of fold_node (LLVM puts this
 // function into its caller). A node of one cell, as a Scan without a filter, folds to itself, and needs none either.
-fn fold_source(text: &[u8], x: &[usize], lo: usize, hi: usize, y: &mut [usize], at: usize) -> Folded
+fn fold_source(text: &[u8], x: &[u32], lo: usize, hi: usize, y: &mut [u32], at: usize) -> Folded
     requires { ⌜ SourceAt (now text) (now x) lo hi ⌝ }
-    requires { ⌜ at + (hi - lo) ≤ length (now y) ⌝ }
+    requires { ⌜ (at + (hi - lo) ≤ length (now y)) × Short (now y) ⌝ }
     ensures { λ r. ⌜ FoldsSource (now (text .entry)) (now (x .entry)) lo hi (now (y .entry)) at r (now (y .exit)) ⌝ }
 {
     if hi <= lo {
         return Folded::Done(at);
     }
-    if hi - lo == 6 {
+    if hi - lo == cells::CELL_WORDS {
         return Folded::Done(cells::copy(x, lo, hi, y, at));
     }
     fold_node(text, x, lo, hi, y, at)
 }
 
 // The plan in the first t words of x.
-pub fn constant_folding(text: &[u8], x: &[usize], t: usize, y: &mut [usize]) -> Folded
+pub fn constant_folding(text: &[u8], x: &[u32], t: usize, y: &mut [u32]) -> Folded
     requires { ⌜ PlanAt (now text) (now x) t ⌝ }
-    requires { ⌜ t ≤ length (now y) ⌝ }
+    requires { ⌜ (t ≤ length (now y)) × Short (now y) ⌝ }
     ensures { λ r. ⌜ FoldsPlan (now (text .entry)) (now (x .entry)) t r (now (y .exit)) ⌝ }
 {
     fold_node(text, x, 0, t, y, 0)

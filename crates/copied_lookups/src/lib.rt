@@ -22,24 +22,24 @@ pub enum Place {
 }
 
 // Whether a cell is that of Column c.
-fn is_column(k: cells::Cell, c: usize) -> bool
+fn is_column(k: cells::Cell, c: u32) -> bool
     ensures { λ q. ⌜ q ≡ is-number c (found (column-in k)) ⌝ }
 {
-    if k.tag == 6 {
+    if k.tag == tags::COLUMN {
         return k.a == c;
     }
     false
 }
 
 // Whether Equal of operands with these cells is a lookup of column c.
-fn is_equal_lookup(l: cells::Cell, r: cells::Cell, c: usize) -> bool
+fn is_equal_lookup(l: cells::Cell, r: cells::Cell, c: u32) -> bool
     ensures { λ q. ⌜ q ≡ is-number c (found (equal-cells l r)) ⌝ }
 {
-    if l.tag < 6 {
+    if l.tag < tags::COLUMN {
         return is_column(r, c);
     }
-    if l.tag == 6 {
-        if r.tag < 6 {
+    if l.tag == tags::COLUMN {
+        if r.tag < tags::COLUMN {
             return l.a == c;
         }
     }
@@ -47,7 +47,7 @@ fn is_equal_lookup(l: cells::Cell, r: cells::Cell, c: usize) -> bool
 }
 
 // Whether the Or from lo to hi is a lookup of column c.
-fn is_or_lookup(s: &[usize], lo: usize, hi: usize, c: usize) -> bool
+fn is_or_lookup(s: &[u32], lo: usize, hi: usize, c: u32) -> bool
     requires { ⌜ ExpressionAt (now s) lo hi ⌝ }
     ensures { λ r. ⌜ IsLookupOf c (now (s .entry)) lo hi r ⌝ }
 {
@@ -59,35 +59,35 @@ fn is_or_lookup(s: &[usize], lo: usize, hi: usize, c: usize) -> bool
 }
 
 // Whether the expression from lo to hi is a lookup of column c. For each equijoin all lookups may be asked, so that only an Or is left to a call.
-fn is_lookup_of(s: &[usize], lo: usize, hi: usize, c: usize) -> bool
+fn is_lookup_of(s: &[u32], lo: usize, hi: usize, c: u32) -> bool
     requires { ⌜ ExpressionAt (now s) lo hi ⌝ }
     ensures { λ r. ⌜ IsLookupOf c (now (s .entry)) lo hi r ⌝ }
 {
     let t = cells::tag_at(s, hi);
-    if t == 11 {
+    if t == tags::OR {
         return is_or_lookup(s, lo, hi, c);
     }
-    let end = hi - 6;
-    if t == 12 {
+    let end = hi - cells::CELL_WORDS;
+    if t == tags::EQUAL {
         let mid = cells::start(s, end);
         return is_equal_lookup(cells::cell_at(s, mid), cells::cell_at(s, end), c);
     }
-    if t < 31 {
+    if t < tags::IS_NULL {
         return false;
     }
-    if 32 < t {
+    if tags::IS_NAN < t {
         return false;
     }
     is_column(cells::cell_at(s, end), c)
 }
 
 // Where the last lookup of column c among the conjuncts of the expression from lo to hi ends, or 0.
-fn last_end(s: &[usize], lo: usize, hi: usize, c: usize) -> usize
+fn last_end(s: &[u32], lo: usize, hi: usize, c: u32) -> usize
     requires { ⌜ ExpressionAt (now s) lo hi ⌝ }
     ensures { λ r. ⌜ FindsLast c (now (s .entry)) lo hi (ending (now (s .entry)) r) ⌝ }
 {
-    if cells::tag_at(s, hi) == 10 {
-        let end = hi - 6;
+    if cells::tag_at(s, hi) == tags::AND {
+        let end = hi - cells::CELL_WORDS;
         let mid = cells::start(s, end);
         let later = last_end(s, mid, end, c);
         if later != 0 {
@@ -102,11 +102,11 @@ fn last_end(s: &[usize], lo: usize, hi: usize, c: usize) -> usize
 }
 
 // The same for one conjunct, which is no And as a rule; then there is no call.
-fn conjunct_end(s: &[usize], lo: usize, hi: usize, c: usize) -> usize
+fn conjunct_end(s: &[u32], lo: usize, hi: usize, c: u32) -> usize
     requires { ⌜ ExpressionAt (now s) lo hi ⌝ }
     ensures { λ r. ⌜ FindsLast c (now (s .entry)) lo hi (ending (now (s .entry)) r) ⌝ }
 {
-    if cells::tag_at(s, hi) == 10 {
+    if cells::tag_at(s, hi) == tags::AND {
         return last_end(s, lo, hi, c);
     }
     if is_lookup_of(s, lo, hi, c) {
@@ -116,14 +116,14 @@ fn conjunct_end(s: &[usize], lo: usize, hi: usize, c: usize) -> usize
 }
 
 // The same, from the last conjunct to the first: those that and_vec joined stand to the left.
-fn last_joined_end(s: &[usize], lo: usize, hi: usize, c: usize) -> usize
+fn last_joined_end(s: &[u32], lo: usize, hi: usize, c: u32) -> usize
     requires { ⌜ ExpressionAt (now s) lo hi ⌝ }
     ensures { λ r. ⌜ FindsLast c (now (s .entry)) lo hi (ending (now (s .entry)) r) ⌝ }
 {
     let mut at = hi;
     let mut tag = cells::tag_at(s, hi);
-    while tag == 10 {
-        let end = at - 6;
+    while tag == tags::AND {
+        let end = at - cells::CELL_WORDS;
         let mid = cells::start(s, end);
         let later = conjunct_end(s, mid, end, c);
         if later != 0 {
@@ -139,7 +139,7 @@ fn last_joined_end(s: &[usize], lo: usize, hi: usize, c: usize) -> usize
 }
 
 // The last lookup of column c among the conjuncts of the expression from lo to hi.
-pub fn last_lookup(s: &[usize], lo: usize, hi: usize, c: usize) -> Place
+pub fn last_lookup(s: &[u32], lo: usize, hi: usize, c: u32) -> Place
     requires { ⌜ ExpressionAt (now s) lo hi ⌝ }
     ensures { λ r. ⌜ FindsLast c (now (s .entry)) lo hi r ⌝ }
 {
@@ -152,14 +152,14 @@ pub fn last_lookup(s: &[usize], lo: usize, hi: usize, c: usize) -> Place
 
 // The last lookup of a column among the conjuncts that stand in s from lo up to hi, copied to another column, as one more conjunct.
 fn copy_last(
-    s: &[usize],
+    s: &[u32],
     lo: usize,
     hi: usize,
-    d: &mut [usize],
+    d: &mut [u32],
     from: usize,
     at: usize,
-    column: usize,
-    to: usize,
+    column: u32,
+    to: u32,
 ) -> usize
     requires { ⌜ OptionalAt (now s) lo hi ⌝ }
     ensures { λ r. ⌜ CopiesLast column to (now (s .entry)) lo hi (now (d .entry)) from at r (now (d .exit)) ⌝ }
@@ -178,10 +178,10 @@ fn copy_last(
 // What the equijoin of columns l and r copies into a source, if it stays with the join: it has a column of each source. The right source's columns are written
 // `shift` lower.
 fn copy_pair(
-    s: &[usize],
+    s: &[u32],
     lo: usize,
     hi: usize,
-    d: &mut [usize],
+    d: &mut [u32],
     from: usize,
     at: usize,
     l: column_numbers::JoinedColumn,
@@ -193,10 +193,10 @@ fn copy_pair(
     requires { ⌜ OptionalAt (now s) lo hi ⌝ }
     ensures { λ q. ⌜ CopiesPair into n shift (l .0) (r .0) (now (s .entry)) lo hi (now (d .entry)) from at q (now (d .exit)) ⌝ }
 {
-    if n <= l.0 {
+    if n <= l.0 as usize {
         return at;
     }
-    if r.0 < n {
+    if (r.0 as usize) < n {
         return at;
     }
     match into {
@@ -210,13 +210,13 @@ fn copy_pair(
 
 // What the conjunct from lo to hi copies into a source. The conjuncts of the other source stand in g from a up to b.
 fn copy_conjunct(
-    s: &[usize],
+    s: &[u32],
     lo: usize,
     hi: usize,
-    g: &[usize],
+    g: &[u32],
     a: usize,
     b: usize,
-    d: &mut [usize],
+    d: &mut [u32],
     from: usize,
     at: usize,
     into: Source,
@@ -236,13 +236,13 @@ fn copy_conjunct(
 
 // What the conjuncts of the expression from lo to hi copy into a source.
 fn copy_each(
-    s: &[usize],
+    s: &[u32],
     lo: usize,
     hi: usize,
-    g: &[usize],
+    g: &[u32],
     a: usize,
     b: usize,
-    d: &mut [usize],
+    d: &mut [u32],
     from: usize,
     at: usize,
     into: Source,
@@ -253,8 +253,8 @@ fn copy_each(
     requires { ⌜ OptionalAt (now g) a b ⌝ }
     ensures { λ r. ⌜ CopiesEach into n shift (now (s .entry)) lo hi (now (g .entry)) a b (now (d .entry)) from at r (now (d .exit)) ⌝ }
 {
-    if cells::tag_at(s, hi) == 10 {
-        let end = hi - 6;
+    if cells::tag_at(s, hi) == tags::AND {
+        let end = hi - cells::CELL_WORDS;
         let mid = cells::start(s, end);
         let m = copy_each(s, lo, mid, g, a, b, d, from, at, into, n, shift);
         return copy_each(s, mid, end, g, a, b, d, from, m, into, n, shift);
@@ -264,13 +264,13 @@ fn copy_each(
 
 // What of the predicate from lo to hi is pushed into the left source, which has n columns. The conjuncts for the right source stand in g from a up to b.
 pub fn push_left(
-    s: &[usize],
+    s: &[u32],
     lo: usize,
     hi: usize,
-    g: &[usize],
+    g: &[u32],
     a: usize,
     b: usize,
-    d: &mut [usize],
+    d: &mut [u32],
     at: usize,
     n: usize,
 ) -> usize
@@ -284,13 +284,13 @@ pub fn push_left(
 
 // What is pushed into the right source, with its columns `shift` lower: n, to push it, or 0. The conjuncts for the left source stand in g from a up to b.
 pub fn push_right(
-    s: &[usize],
+    s: &[u32],
     lo: usize,
     hi: usize,
-    g: &[usize],
+    g: &[u32],
     a: usize,
     b: usize,
-    d: &mut [usize],
+    d: &mut [u32],
     at: usize,
     n: usize,
     shift: usize,

@@ -141,13 +141,6 @@ next {c} {cs} {x} {at} {v} h b = go (take at x) refl b
           rest = subst (λ (l : List ℕ). Builds cs (l ++ sized b (in-words c)) v) (sym z) p;
         }
 
--- what was written past the end needed more room
-past : {d : List ℕ} {at : ℕ} {w : List ℕ} {n : ℕ} {d′ : List ℕ} → Wrote d at w n d′ → length d < n → length d < at + length w
-past {d} {at} {w} {n} a h = ⊎-elim
-    (λ (z : length d < at + length w). z)
-    (λ (z : at + length w ≤ length d). absurd (omega (arith, a .fits z .0)))
-    (lt-or-ge (length d) (at + length w))
-
 -- two plans of one sheet
 one-plan : (s : List ℕ) {m n : Node} → plan s ≡ done m → plan s ≡ done n → m ≡ n
 one-plan s p q = cc
@@ -169,6 +162,9 @@ module _ {s x : List ℕ} {at i : ℕ} (g : Going s x at i) {p : Parts} (l : Lai
           last = record { lo = next-cell .lo; w = next-cell .w; trees = next-cell .last; part = next-cell .part };
           a-small = holds .a-small;
           b-small = holds .b-small;
+          c-small = holds .c-small;
+          tag-small = holds .tag-small;
+          flag-small = holds .flag-small;
         }
 
     module _ {r : ℕ} {x′ : List ℕ} (put : Put x at k r x′) where
@@ -179,7 +175,7 @@ module _ {s x : List ℕ} {at i : ℕ} (g : Going s x at i) {p : Parts} (l : Lai
       unfolding rest
       going-on e f =
           let y = wrote-up wrote (omega arith) in
-          let z = wrote .fits (omega arith) .1 in
+          let z = wrote .is (omega arith) .1 in
           record {
             node = g .node;
             is = g .is;
@@ -190,12 +186,11 @@ module _ {s x : List ℕ} {at i : ℕ} (g : Going s x at i) {p : Parts} (l : Lai
 
       pub going-full : {x₀ : List ℕ} {n : ℕ} {d : List ℕ} → length x ≡ length x₀ → length x′ ≡ length x → length x′ < r → length x < n → Decodes s x₀ n d
       going-full {x₀} e f j q node is =
-          let a = past wrote (omega arith) in
           let b = builds-grow (next-cell .rest) in
           let c = length-append (take (next-cell .lo) x) (sized (next-cell .w) (as-words k)) in
           let d = length-take-le (next-cell .lo) x (omega (arith, part-in (next-cell .part))) in
           let m = ap (λ (n : Node). length (node-words n)) (one-plan s (g .is) is) in
-          cells.no-room (omega arith) (omega arith)
+          record { is = λ z. absurd (omega arith); room = λ z v. absurd (omega (arith, wrote .room (omega arith) (omega arith))) }
 
   pub going-done : (p .cells .count ≤ i) → {x₀ : List ℕ} → length x ≡ length x₀ → Decodes s x₀ at x
   going-done h {x₀} e node is =

@@ -16,6 +16,7 @@ use Rattle.cells.specs.Cells.{sized, Part}
 use Rattle.cells.specs.Room.{Wrote}
 use Rattle.words.specs.Words.{node-words}
 use Rattle.nodes.specs.Trees.{Trees, TreesAt}
+use Rattle.sheet.specs.Tags
 
 -- A sheet that is accepted: it stands for some plan.
 pub record Acceptable (s : List ℕ) : Type 0 where
@@ -41,10 +42,11 @@ node-trees k =
 -- Constants and Columns have none, operators two (10 to 16) and one (30 to 34).
 unfoldable pub trees : Sheet.Cell → ℕ
 trees k =
-    cond (ltb (k .tag) 10) 0
-    (cond (ltb (k .tag) 30) 2
-    (cond (ltb (k .tag) 40) 1
-    (cond (ltb (k .tag) 46) (getD (part-trees (k .a)) (k .tag - 40) 0) (cond (ltb (k .tag) 50) 0 (getD (node-trees k) (k .tag - 50) 0)))))
+    cond (ltb (k .tag) Tags.binary) 0
+    (cond (ltb (k .tag) Tags.unary) 2
+    (cond (ltb (k .tag) Tags.parts) 1
+    (cond (ltb (k .tag) Tags.parts-end) (getD (part-trees (k .a)) (k .tag - Tags.parts) 0)
+    (cond (ltb (k .tag) Tags.nodes) 0 (getD (node-trees k) (k .tag - Tags.nodes) 0)))))
 
 -- a sheet's cell as one of the working form
 abbrev pub as-words : Cell → cells.Cell
@@ -55,6 +57,9 @@ pub record Last (x : List ℕ) (at : ℕ) (k : Cell) : Type 0 where
   pub last : TreesAt x (trees (as-cell k)) at
   pub a-small : k .a < 4294967296
   pub b-small : k .b < 4294967296
+  pub c-small : k .c < 4294967296
+  pub tag-small : k .tag < 256
+  pub flag-small : k .flag < 256
 
 -- The cell is put over them.
 abbrev pub Put : (x : List ℕ) (at : ℕ) → Cell → ℕ → List ℕ → Type 0

@@ -12,41 +12,41 @@ fn trees_of(k: layout::Cell) -> usize
     requires { ⌜ (k .a < 4294967296) × (k .b < 4294967296) ⌝ }
     ensures { λ r. ⌜ r ≡ trees (as-cell k) ⌝ }
 {
-    if k.tag < 10 {
+    if k.tag < tags::BINARY {
         return 0;
     }
-    if k.tag < 30 {
+    if k.tag < tags::UNARY {
         return 2;
     }
-    if k.tag < 40 {
+    if k.tag < tags::PARTS {
         return 1;
     }
-    if k.tag < 46 {
+    if k.tag < tags::PARTS_END {
         return trees_of_part(k.tag, k.a);
     }
-    if k.tag < 50 {
+    if k.tag < tags::NODES {
         return 0;
     }
-    if k.tag < 57 {
+    if k.tag < tags::NOTHING {
         return trees_to_56(k);
     }
-    if k.tag < 64 {
+    if k.tag < tags::NODES_END {
         return trees_from_57(k);
     }
     0
 }
 
 // 40 Label, 41 Item, 42 Key, 43 Target, 44 Agg, 45 Row.
-fn trees_of_part(tag: usize, a: usize) -> usize
+fn trees_of_part(tag: u32, a: usize) -> usize
     requires { ⌜ (40 ≤ tag) × (tag < 46) ⌝ }
     ensures { λ r. ⌜ r ≡ getD (part-trees a) (tag - 40) 0 ⌝ }
 {
     match tag {
-        40 => 0,
-        41 => 1,
-        42 => 1,
-        43 => 0,
-        44 => 1,
+        tags::LABEL => 0,
+        tags::ITEM => 1,
+        tags::KEY => 1,
+        tags::TARGET => 0,
+        tags::AGG => 1,
         _ => a,
     }
 }
@@ -58,12 +58,12 @@ fn trees_to_56(k: layout::Cell) -> usize
 {
     let tag = k.tag;
     match tag {
-        50 => 1 + k.a + k.b,
-        51 => 2,
-        52 => 2,
-        53 => k.c / 65536,
-        54 => k.c,
-        55 => 1,
+        tags::AGGREGATE => 1 + k.a + k.b,
+        tags::FILTER => 2,
+        tags::HASH_JOIN => 2,
+        tags::INDEX_LOOKUP => k.c / 65536,
+        tags::KEY_LOOKUP => k.c,
+        tags::LIMIT => 1,
         _ => 2 + k.flag % 2,
     }
 }
@@ -75,53 +75,53 @@ fn trees_from_57(k: layout::Cell) -> usize
 {
     let tag = k.tag;
     match tag {
-        57 => k.a,
-        58 => 1,
-        59 => 1 + k.a,
-        60 => 1 + k.a,
-        61 => 1 + k.a,
-        62 => k.flag % 2,
+        tags::NOTHING => k.a,
+        tags::OFFSET => 1,
+        tags::ORDER => 1 + k.a,
+        tags::PROJECTION => 1 + k.a,
+        tags::REMAP => 1 + k.a,
+        tags::SCAN => k.flag % 2,
         _ => k.a,
     }
 }
 
 // Where the trees start that the cell k asks for, the last ones before `at`. Most cells are leaves or operators, for which a loop takes longer than the
 // steps that they need.
-fn start_of(x: &[usize], at: usize, k: layout::Cell) -> usize
+fn start_of(x: &[u32], at: usize, k: layout::Cell) -> usize
     requires { ⌜ Last (now x) at k ⌝ }
     ensures { λ r. ⌜ r ≡ trees-start (now (x .entry)) (trees (as-cell k)) at ⌝ }
 {
-    if k.tag < 10 {
+    if k.tag < tags::BINARY {
         return at;
     }
-    if k.tag < 30 {
+    if k.tag < tags::UNARY {
         let mid = cells::start(x, at);
         return cells::start(x, mid);
     }
-    if k.tag < 40 {
+    if k.tag < tags::PARTS {
         return cells::start(x, at);
     }
     nodes::trees_start(x, trees_of(k), at)
 }
 
 // The cell k over the trees that it asks for, which are the last ones before `at`.
-fn put_over(x: &mut [usize], at: usize, k: layout::Cell) -> usize
+fn put_over(x: &mut [u32], at: usize, k: layout::Cell) -> usize
     requires { ⌜ Last (now x) at k ⌝ }
     ensures { λ r. ⌜ Put (now (x .entry)) at k r (now (x .exit)) ⌝ }
 {
     let lo = start_of(x, at, k);
     let cell = cells::Cell {
         tag: k.tag,
-        flag: k.flag,
-        a: k.a,
-        b: k.b,
-        c: k.c,
+        flag: k.flag as u32,
+        a: k.a as u32,
+        b: k.b as u32,
+        c: k.c as u32,
     };
     cells::put(x, lo, at, cell)
 }
 
 // The plan that the sheet s stands for, in words from the start of x. Each tree is stepped over once, by the cell over it.
-pub fn decode(s: &[u8], x: &mut [usize]) -> usize
+pub fn decode(s: &[u8], x: &mut [u32]) -> usize
     requires { ⌜ Acceptable (now s) ⌝ }
     ensures { λ r. ⌜ Decodes (now (s .entry)) (now (x .entry)) r (now (x .exit)) ⌝ }
 {

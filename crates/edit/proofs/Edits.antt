@@ -81,36 +81,41 @@ module _ {Kept : Node → Node → Type 0} {x : List ℕ} {t lo tail : ℕ} (g :
   held-in = standing-in held-standing
 
 -- ---- replace
+
+-- what a copy to the first words of d leaves
+abbrev Copied : (d w : List ℕ) → ℕ → List ℕ → Type 0
+Copied d w n d′ = Wrote d 0 w n d′ × (0 + length w ≤ length d → n ≤ length d)
+
 module _ (x : List ℕ) {y : List ℕ} {n t from tail : ℕ} (inside : t ≤ length x) where
   -- what was written doesn't fit into the scratch
   pub replace-long : length y < n → Replaces x y n t from tail n x
   replace-long z pre old post e a b y₀ w l₀ l f =
-      record { fits = λ i. absurd (omega (arith, length-append w post, f .fits (omega (arith, length-append w post)) .0)); full = λ i. omega arith }
+      record { is = λ i. absurd (omega arith); room = λ s i. absurd (omega (arith, f .room (omega (arith, length-append w post)) (omega (arith, length-append w post)))) }
 
   -- no room for what was written
   pub replace-full : {r : ℕ} → from + tail ≤ t → n ≤ length y → length x - from - tail < n → length x < r → Replaces x y n t from tail r x
   replace-full h k z j pre old post e a b y₀ w l₀ l f =
-      record { fits = λ i. absurd (omega (arith, length-append w post, wrote-up f (omega arith))); full = λ i. j }
+      record { is = λ i. absurd (omega arith); room = λ s i. absurd (omega (arith, length-append w post, wrote-up f (omega arith))) }
 
   -- as many words as before, q of them: d′ is what came of the words from `from` up to t − tail
-  pub replace-same : {m q : ℕ} {d′ : List ℕ} → n ≤ length y → n ≡ q → q ≡ t - tail - from → Wrote (take q (drop from x)) 0 (take n y) m d′
+  pub replace-same : {m q : ℕ} {d′ : List ℕ} → n ≤ length y → n ≡ q → q ≡ t - tail - from → Copied (take q (drop from x)) (take n y) m d′
       → length d′ ≡ length (take q (drop from x)) → Replaces x y n t from tail t (take from x ++ (d′ ++ drop q (drop from x)))
   replace-same {m} {q} {d′} h k k′ c j pre old post e a b y₀ w l₀ l f =
       let s = span x inside pre old post e a b in
       let g = wrote-up f (omega arith) in
-      let (g′, v) = f .fits (omega arith) in
+      let (g′, v) = f .is (omega arith) in
       let o : take q (drop from x) ≡ old = rw k′ (part-is (old-part x inside pre old post e a b)) in
       let lo = ap length o in
       let ly = length-take-le n y h in
-      let (c₀, c₁) = c .fits (omega arith) in
+      let (c₀, c₁) = c .0 .is (c .1 (omega arith)) in
       let d : d′ ≡ w = sym (take-all m d′ (omega arith)) ∙ c₁ ∙ v in
       let back : drop q (drop from x) ≡ post ++ drop t x = behind-is x inside pre old post e a b q (omega arith) in
       let front = pre ++ (w ++ post) in
       let lf = length-append pre (w ++ post) in
       let all : take from x ++ (d′ ++ drop q (drop from x)) ≡ front ++ drop t x = rw (d, back, pre-is x inside pre old post e a b) (simp append-assoc) in
       record {
-        fits = λ i. (omega (arith, length-append w post), ap (take t) all ∙ take-at front (drop t x) t (omega (arith, length-append w post)));
-        full = λ i. absurd (omega (arith, ap length all, length-append front (drop t x)));
+        is = λ i. (omega (arith, length-append w post), ap (take t) all ∙ take-at front (drop t x) t (omega (arith, length-append w post)));
+        room = λ s i. omega (arith, ap length all, length-append front (drop t x), length-append w post);
       }
 
 new-count : (from n tail : ℕ) → (n ≡ from + n - from) × (from + n - from ≡ from + n + tail - tail - from)
@@ -119,7 +124,7 @@ new-count from n tail = (omega arith, omega arith)
 -- not as many as before: x₁ is x after the words behind were moved, so that there are as many words as take their place, whatever they are
 module _ (x : List ℕ) {y : List ℕ} {n t from tail : ℕ} (inside : t ≤ length x) where
   pub replace-moved : {m : ℕ} {x₁ d′ : List ℕ} → from + tail ≤ t → n ≤ length y → n ≤ length x - from - tail → x₁ ≡ moved x (t - tail) t (from + n)
-      → Wrote (take (from + n - from) (drop from x₁)) 0 (take n y) m d′ → length d′ ≡ length (take (from + n - from) (drop from x₁))
+      → Copied (take (from + n - from) (drop from x₁)) (take n y) m d′ → length d′ ≡ length (take (from + n - from) (drop from x₁))
       → Replaces x y n t from tail (from + n + tail) (take from x₁ ++ (d′ ++ drop (from + n - from) (drop from x₁)))
   replace-moved {x₁ = x₁} h k z e₁ c j pre old post e a b y₀ w l₀ l f =
       let to = from + n in
@@ -172,9 +177,7 @@ replaced-up x {y} {n} {t} {from} {tail} {r} {x′} (a, b) k k′ f h =
     let g =
     f pre old post (sym (take-append-drop from z) ∙ ap (λ (l : List ℕ). pre ++ l) (sym (take-append-drop q (drop from z)))) lp (omega arith) y (s .w) refl k (s .wrote) in
     let l = length-append (s .w) post in
-    ⊎-elim (λ (i : length x′ < length pre + length (s .w ++ post)). absurd (omega (arith, g .full i, s .long)))
-    (λ (i : length pre + length (s .w ++ post) ≤ length x′). omega (arith, g .fits i .0, s .long))
-    (lt-or-ge (length x′) (length pre + length (s .w ++ post)))
+    omega (arith, g .is h .0, s .long)
 
 -- ---- reseal: the last word of a cell is set
 opened : (pre b post : List ℕ) (k : Cell) (i : ℕ)
@@ -201,7 +204,11 @@ re-sealed x t lo tail h₁ h₂ pre b post k n e a c =
     ∙ sym (opened pre b post k (length b + 6))
 
 pub resealed : (x : List ℕ) (t lo tail : ℕ) → lo + 6 + tail ≤ t → t ≤ length x → Reseals x t lo tail t (set x (t - tail - 1) (t - tail - lo))
-resealed x t lo tail h₁ h₂ = record { same = refl; seal = re-sealed x t lo tail h₁ h₂ }
+resealed x t lo tail h₁ h₂ = record { same = λ _. refl; room = λ _. refl; seal = λ _. re-sealed x t lo tail h₁ h₂ }
+
+-- the size doesn't fit a word
+pub not-resealed : (x : List ℕ) (t lo tail : ℕ) {r : ℕ} {x′ : List ℕ} → t ≤ length x → 4294967295 < t - tail - lo → length x < r → Reseals x t lo tail r x′
+not-resealed x t lo tail h₁ h₂ h₃ = record { same = λ h. absurd (omega arith); room = λ s. absurd (omega arith); seal = λ h. absurd (omega arith) }
 
 -- ---- replace_own
 
@@ -221,7 +228,7 @@ module _ (x : List ℕ) (t : ℕ) {y : List ℕ} {n lo own tail u : ℕ} {x₁ :
   own-full z pre sources old post e a b c y₀ w i l g =
       let p = own-placed pre sources old post e a b c y₀ (sized w i) l g in
       let q = same-long pre sources post w i in
-      record { fits = λ h. absurd (omega (arith, p .fits (omega arith) .0)); full = λ h. z }
+      record { is = λ h. absurd (omega arith); room = λ s h. absurd (omega (arith, p .room s (omega arith))) }
 
   -- the cell stands behind the sources
   pub own-room : (own + tail ≤ t) × (t ≤ length x) → (lo ≤ own) × (n ≤ length y → 6 ≤ n) → u ≤ length x₁ → (lo + 6 + tail ≤ u) × (u ≤ length x₁)
@@ -232,13 +239,17 @@ module _ (x : List ℕ) (t : ℕ) {y : List ℕ} {n lo own tail u : ℕ} {x₁ :
       let p = own-placed pre sources old post e a b c y₀ (sized w i) l g in
       let q = same-long pre sources post w i in
       record {
-        fits = λ h. let (m, v) = p .fits (omega arith) in
-            (omega (arith, s .same), ap (λ (m : ℕ). take m x₂) (s .same) ∙ s .seal pre (sources ++ w) post i (length w + 6) (v ∙ simp append-assoc) a c);
-        full = λ h. absurd (omega (arith, p .full (omega arith)));
+        is = λ h. let (m, v) = p .is z in
+            let j : r ≤ length x₁ = omega arith in
+            (omega (arith, s .same j), ap (λ (m : ℕ). take m x₂) (s .same j) ∙ s .seal j pre (sources ++ w) post i (length w + 6) (v ∙ simp append-assoc) a c);
+        room = λ q h. omega (arith, s .room (omega arith));
       }
 
 pub shares-next : {x x₁ : List ℕ} {lo tail room rest : ℕ} → length x₁ ≡ length x → Shares x lo tail room rest → Shares x₁ lo tail room rest
-shares-next e s = record { all = e ∙ s .all; outside = s .outside }
+shares-next e s = record { all = e ∙ s .all; short = omega (arith, s .short); outside = s .outside }
+
+placed-full : {x′ : List ℕ} {r : ℕ} {pre post w : List ℕ} → Placed x′ r pre post w → length x′ < length pre + length (w ++ post) → length x′ < r
+placed-full {x′} {r} f h = ⊎-elim (λ (z : length x′ < r). z) (λ (z : r ≤ length x′). absurd (omega (arith, f .is z .0))) (lt-or-ge (length x′) r)
 
 -- ---- answers
 module _ {Fit : Node → Type 0} where
@@ -258,9 +269,9 @@ module _ {Fit : Node → Type 0} where
       let l = length-append (node-words q) post in
       let w = words-long q in
       ⊎-elim
-      (λ (z : room < rest + node-size q). rw (lt-leb _ _ z) (left-refused (f .full (omega (arith, s .all, s .outside)))))
+      (λ (z : room < rest + node-size q). rw (lt-leb _ _ z) (left-refused (placed-full f (omega (arith, s .all, s .outside)))))
       (λ (z : rest + node-size q ≤ room).
-      let (u, v) = f .fits (omega (arith, s .all, s .outside)) in
+      let (u, v) = f .is (f .room (omega (arith, s .short)) (omega (arith, s .all, s .outside))) in
       rw (le-leb _ _ z) (record { is = (omega (arith, s .all, s .outside), (v, k)) }))
       (lt-or-ge room (rest + node-size q))
 

@@ -10,6 +10,7 @@ use Rattle.sql.specs.Schema.{Schema}
 use Rattle.sql.specs.Plan.{Over, Join, Node, leaf, over, join, over-size, join-size, node-size}
 use Rattle.sql.specs.Answer.{Answer, done, refused, _>>=_}
 use Rattle.sql.specs.Room.{each-source}
+use Rattle.cells.specs.Room.{Short}
 use Rattle.cells.specs.declared.Cell.{Cell}
 use Rattle.cells.specs.Cells.{words, sized, start-at, Sized}
 use Rattle.words.specs.Words.{cell, over-own, over-cell, join-own, join-cell, node-words, source-words, source-count}
@@ -82,16 +83,16 @@ first {pre = pre} {post = post} h n b e q =
     }
 
 -- a node that is resealed
-sealed-left : {Fit : Node → Type 0} {x₂ x₃ : List ℕ} {v lo tail r : ℕ} → Reseals x₂ v lo tail r x₃ → length x₃ ≡ length x₂ → v ≤ length x₂
+sealed-left : {Fit : Node → Type 0} {x₂ x₃ : List ℕ} {v lo tail r : ℕ} → Reseals x₂ v lo tail r x₃ → Short x₂ → length x₃ ≡ length x₂ → v ≤ length x₂
     → (pre b post : List ℕ) (k : Cell) (n : ℕ) (q : Node) → node-words q ≡ sized b k → Fit q → take v x₂ ≡ pre ++ ((b ++ words k n) ++ post)
     → length pre ≡ lo → length post ≡ tail → Left Fit x₃ r pre post (done q)
-sealed-left {x₃ = x₃} c k₃ z pre b post k n q e g w i j =
+sealed-left {x₃ = x₃} c short k₃ z pre b post k n q e g w i j =
     left-done q g
     (record {
-      whole = ap (λ (m : ℕ). take m x₃) (c .same) ∙ c .seal pre b post k n w i j ∙ ap (λ (f : List ℕ). pre ++ (f ++ post)) (sym e);
+      whole = ap (λ (m : ℕ). take m x₃) (c .room short) ∙ c .seal (omega (arith, c .room short)) pre b post k n w i j ∙ ap (λ (f : List ℕ). pre ++ (f ++ post)) (sym e);
       low = i;
       high = j;
-      inside = omega (arith, c .same);
+      inside = omega (arith, c .room short);
     })
 
 -- ---- one source, which ends at m
@@ -111,7 +112,7 @@ module _ {Kept : Node → Node → Type 0} (fit : Inherited Kept) {x : List ℕ}
     source-holds = first h n (behind o n) (over-words o n) after-is
 
     source-shares : {room rest : ℕ} → Shares x lo tail room rest → Shares x lo (t - m) room (rest + over-size o)
-    source-shares s = record { all = s .all; outside = omega (arith, after-is, behind-long o n, s .outside) }
+    source-shares s = record { all = s .all; short = s .short; outside = omega (arith, after-is, behind-long o n, s .outside) }
 
   pub source-held : Held Kept x t lo tail → Held Kept x t lo (t - m)
   source-held d =
@@ -147,13 +148,13 @@ module _ {Kept : Node → Node → Type 0} (fit : Inherited Kept) {x : List ℕ}
         (λ q i w. omega (arith, length-take-le u x₁ z, ap length w, length-append (d .pre) (node-words q ++ (behind o n ++ d .post)), length-append (node-words q) (behind o n ++ d .post), length-append (behind o n) (d .post), behind-long o n, over-long o, h .low, h .high)))
         (d .p) (d .fit) (d .holds)
 
-    pub source-go : u ≤ length x₁ → {r : ℕ} {x₂ : List ℕ} → length x₂ ≡ length x₁ → Reseals x₁ u lo tail r x₂
+    pub source-go : length x₁ ≡ length x → u ≤ length x₁ → {r : ℕ} {x₂ : List ℕ} → length x₂ ≡ length x₁ → Reseals x₁ u lo tail r x₂
         → Edit Kept (λ room. each-source room schema (F room)) x t lo tail r x₂
     unfolding node-words behind
-    source-go z {r} {x₂} k₂ seal room rest s pre post p k h =
+    source-go k₁ z {r} {x₂} k₂ seal room rest s pre post p k h =
         when-over (λ p. Left (Kept p) x₂ r pre post (each-source room schema (F room) rest p))
         (λ o n k h. left-go (F room (rest + over-size o) n) (λ q. done (over o q)) (went s o n k h) z
-        (λ q i w. sealed-left seal k₂ z pre (node-words q ++ over-own o) post (cell (over-cell o)) (length (node-words n ++ over-own o) + 6) (over o q) refl
+        (λ q i w. sealed-left seal (omega (arith, s .short)) k₂ z pre (node-words q ++ over-own o) post (cell (over-cell o)) (length (node-words n ++ over-own o) + 6) (over o q) refl
         (fit .with-source o n q k i) (w ∙ simp append-assoc) (h .low) (h .high)))
         p k h
 
@@ -191,7 +192,7 @@ module _ {Kept : Node → Node → Type 0} (fit : Inherited Kept) {x : List ℕ}
       left-holds = first h l (node-words r ++ join-end outer j l r) (join-words outer j l r) back-is
 
       left-shares : {room rest : ℕ} → Shares x lo tail room rest → Shares x lo (t - mid) room (rest + (node-size r + join-size j))
-      left-shares s = record { all = s .all; outside = omega (arith, back-is, back-long outer j l r, s .outside) }
+      left-shares s = record { all = s .all; short = s .short; outside = omega (arith, back-is, back-long outer j l r, s .outside) }
 
     pub mid-below : Held Kept x t lo tail → mid ≤ t
     mid-below d = when-join (λ p. mid ≤ t) (λ outer j l r k h. omega (arith, mid-is outer j l r h, total h, node-long (join outer j l r) (holds-here h), own (join outer j l r) (holds-here h), length-append (node-words l) (node-words r))) (d .p) (d .fit) (d .holds)
@@ -252,6 +253,7 @@ module _ {Kept : Node → Node → Type 0} (fit : Inherited Kept) {x : List ℕ}
           right-shares s =
               record {
                 all = k₁ ∙ s .all;
+                short = omega (arith, k₁, s .short);
                 outside = omega (arith, start-is, end-is outer j l r h, end-long outer j l r, words-long q, s .outside);
               }
 
@@ -305,13 +307,13 @@ module _ {Kept : Node → Node → Type 0} (fit : Inherited Kept) {x : List ℕ}
                 (λ outer j l r k h q i w. left-with (lo + 6 + tail ≤ v) (F (d .room) (d .rest + (node-size q + join-size j)) r) (went-right (d .shares) outer j l r k h q w) y
                 (λ n i w. omega (arith, length-take-le v x₂ y, ap length w, length-append (d .pre ++ node-words q) (node-words n ++ (join-end outer j l r ++ d .post)), length-append (d .pre) (node-words q), length-append (node-words n) (join-end outer j l r ++ d .post), length-append (join-end outer j l r) (d .post), end-long outer j l r, join-long j, h .low, h .high)))
 
-            pub both-go : {e : ℕ} {x₃ : List ℕ} → length x₃ ≡ length x₂ → Reseals x₂ v lo tail e x₃
+            pub both-go : length x₂ ≡ length x₁ → {e : ℕ} {x₃ : List ℕ} → length x₃ ≡ length x₂ → Reseals x₂ v lo tail e x₃
                 → Edit Kept (λ room. each-source room schema (F room)) x t lo tail e x₃
             unfolding node-words join-end then-right
-            both-go {e} {x₃} k₃ seal room rest s pre post p k h =
+            both-go k₂ {e} {x₃} k₃ seal room rest s pre post p k h =
                 when-join (λ p. Left (Kept p) x₃ e pre post (each-source room schema (F room) rest p))
                 (λ outer j l r k h. left-go (F room (rest + (node-size r + join-size j)) l) (then-right F room rest outer j r) (went-left s outer j l r k h) z
                 (λ q i w. left-go (F room (rest + (node-size q + join-size j)) r) (λ n. done (join outer j q n)) (went-right s outer j l r k h q w) y
-                (λ n i′ w′. sealed-left seal k₃ y pre (node-words q ++ (node-words n ++ join-own j)) post (cell (join-cell outer j)) (length (node-words l ++ (node-words r ++ join-own j)) + 6)
+                (λ n i′ w′. sealed-left seal (omega (arith, s .short)) k₃ y pre (node-words q ++ (node-words n ++ join-own j)) post (cell (join-cell outer j)) (length (node-words l ++ (node-words r ++ join-own j)) + 6)
                 (join outer j q n) refl (fit .with-sources outer j l r q n k i i′) (w′ ∙ simp append-assoc) (h .low) (h .high))))
                 p k h

@@ -10,8 +10,8 @@ use lib.Seq.{paste}
 use Rattle.sql.specs.Plan.{Over, Join, Node, over, join}
 use Rattle.sql.specs.Answer.{Answer, done, refused}
 use Rattle.cells.specs.declared.Cell.{Cell}
-use Rattle.cells.specs.Cells.{words, sized}
-use Rattle.cells.specs.Room.{Wrote}
+use Rattle.cells.specs.Cells.{cell-words, words, sized}
+use Rattle.cells.specs.Room.{Short, Wrote}
 use Rattle.words.specs.Words.{node-words}
 
 -- The node p stands there, between the words `pre` and `post`.
@@ -30,8 +30,9 @@ pub record Standing (x : List ℕ) (t lo tail : ℕ) : Type 0 where
 
 -- x has room for `room` cells, and `rest` cells of the plan lie outside the node.
 pub record Shares (x : List ℕ) (lo tail room rest : ℕ) : Type 0 where
-  pub all : length x ≡ 6 * room
-  pub outside : lo + tail ≡ 6 * rest
+  pub all : length x ≡ cell-words * room
+  pub short : Short x
+  pub outside : lo + tail ≡ cell-words * rest
 
 -- What a function that edits asks for. `Kept p q` says that q is fit to take the place of p, such as that its numbers fit their fields and that it has
 -- as many columns; `Kept p p` says that p is fit to be worked on. Each pass says what it needs there.
@@ -75,8 +76,8 @@ pub record Inherited (Kept : Node → Node → Type 0) : Type 0 where
 
 -- The words w stand between `pre` and `post`, or there is no room for them.
 pub record Placed (x′ : List ℕ) (r : ℕ) (pre post w : List ℕ) : Type 0 where
-  pub fits : length pre + length (w ++ post) ≤ length x′ → (r ≡ length pre + length (w ++ post)) × (take r x′ ≡ pre ++ (w ++ post))
-  pub full : length x′ < length pre + length (w ++ post) → length x′ < r
+  pub is : r ≤ length x′ → (r ≡ length pre + length (w ++ post)) × (take r x′ ≡ pre ++ (w ++ post))
+  pub room : Short x′ → length pre + length (w ++ post) ≤ length x′ → r ≤ length x′
 
 -- x after its words from `end` up to t were copied to word `to` and those behind it. All other words are as before.
 abbrev pub moved : List ℕ → ℕ → ℕ → ℕ → List ℕ
@@ -90,8 +91,9 @@ Replaces x y n t from tail r x′ =
 
 -- The last cell of the node says how long the node is now.
 pub record Reseals (x : List ℕ) (t lo tail r : ℕ) (x′ : List ℕ) : Type 0 where
-  pub same : r ≡ t
-  pub seal : (pre b post : List ℕ) (k : Cell) (n : ℕ) → take t x ≡ pre ++ ((b ++ words k n) ++ post) → length pre ≡ lo → length post ≡ tail
+  pub same : r ≤ length x → r ≡ t
+  pub room : Short x → r ≡ t
+  pub seal : r ≤ length x → (pre b post : List ℕ) (k : Cell) (n : ℕ) → take t x ≡ pre ++ ((b ++ words k n) ++ post) → length pre ≡ lo → length post ≡ tail
       → take t x′ ≡ pre ++ (sized b k ++ post)
 
 -- Whatever was written into the scratch y, a cell over some words, takes the place of the node's own words and its cell. The cell is then over the words of

@@ -3,9 +3,10 @@ ghost use mathlib.Core.Path.{_≡_};
 ghost use Prim.Native.Nat.{_+_, _-_, _≤_};
 ghost use lib.ListN.{length};
 ghost use Rattle.edit.specs.Edit.{moved, Replaces, Reseals, ReplacesOwn};
+ghost use Rattle.cells.specs.Cells.{cell-words};
 
 // The words of x from `end` up to t move up, to stand from word `to` on: the last one first, so that none is overwritten before it is moved.
-fn move_up(x: &mut [usize], end: usize, t: usize, to: usize)
+fn move_up(x: &mut [u32], end: usize, t: usize, to: usize)
     requires { ⌜ (end ≤ t) × (t ≤ length (now x)) ⌝ }
     requires { ⌜ (end ≤ to) × (to + (t - end) ≤ length (now x)) ⌝ }
     ensures { λ r. ⌜ now (x .exit) ≡ moved (now (x .entry)) end t to ⌝ }
@@ -18,7 +19,7 @@ fn move_up(x: &mut [usize], end: usize, t: usize, to: usize)
 }
 
 // The words of x from `end` up to t move down, to stand from word `to` on: the first one first.
-fn move_down(x: &mut [usize], end: usize, t: usize, to: usize)
+fn move_down(x: &mut [u32], end: usize, t: usize, to: usize)
     requires { ⌜ (to ≤ end) × ((end ≤ t) × (t ≤ length (now x))) ⌝ }
     ensures { λ r. ⌜ now (x .exit) ≡ moved (now (x .entry)) end t to ⌝ }
 {
@@ -30,7 +31,7 @@ fn move_down(x: &mut [usize], end: usize, t: usize, to: usize)
 }
 
 // The words of x from `end` up to t move, to stand from word `to` on.
-fn move_words(x: &mut [usize], end: usize, t: usize, to: usize)
+fn move_words(x: &mut [u32], end: usize, t: usize, to: usize)
     requires { ⌜ (end ≤ t) × (t ≤ length (now x)) ⌝ }
     requires { ⌜ to + (t - end) ≤ length (now x) ⌝ }
     ensures { λ r. ⌜ now (x .exit) ≡ moved (now (x .entry)) end t to ⌝ }
@@ -44,7 +45,7 @@ fn move_words(x: &mut [usize], end: usize, t: usize, to: usize)
 
 // The first n words of the scratch y take the place of the words of x from `from` up to t - tail. Where they are as many as those were, the words behind
 // them stay where they are; otherwise these are moved within x, once.
-fn replace(x: &mut [usize], y: &mut [usize], n: usize, t: usize, from: usize, tail: usize) -> usize
+fn replace(x: &mut [u32], y: &mut [u32], n: usize, t: usize, from: usize, tail: usize) -> usize
     requires { ⌜ (from + tail ≤ t) × (t ≤ length (now x)) ⌝ }
     ensures { λ r. ⌜ Replaces (now (x .entry)) (now (y .entry)) n t from tail r (now (x .exit)) ⌝ }
 {
@@ -66,20 +67,23 @@ fn replace(x: &mut [usize], y: &mut [usize], n: usize, t: usize, from: usize, ta
 }
 
 // The node's cell says how long the node is, after its sources were edited.
-pub fn reseal(x: &mut [usize], t: usize, lo: usize, tail: usize) -> usize
-    requires { ⌜ (lo + 6 + tail ≤ t) × (t ≤ length (now x)) ⌝ }
+pub fn reseal(x: &mut [u32], t: usize, lo: usize, tail: usize) -> usize
+    requires { ⌜ (lo + cell-words + tail ≤ t) × (t ≤ length (now x)) ⌝ }
     ensures { λ r. ⌜ Reseals (now (x .entry)) t lo tail r (now (x .exit)) ⌝ }
 {
     let hi = t - tail;
-    x[hi - 1] = hi - lo;
+    if 4294967295 < hi - lo {
+        return cells::FULL;
+    }
+    x[hi - 1] = (hi - lo) as u32;
     t
 }
 
 // The first n words of the scratch y, of which the last are a cell, take the place of the own words and the cell of the node from lo up to t - tail: of the
 // words of x from `own` on. The cell then says how long the node is.
 pub fn replace_own(
-    x: &mut [usize],
-    y: &mut [usize],
+    x: &mut [u32],
+    y: &mut [u32],
     n: usize,
     t: usize,
     lo: usize,
@@ -87,7 +91,7 @@ pub fn replace_own(
     tail: usize,
 ) -> usize
     requires { ⌜ (own + tail ≤ t) × (t ≤ length (now x)) ⌝ }
-    requires { ⌜ (lo ≤ own) × (n ≤ length (now y) → 6 ≤ n) ⌝ }
+    requires { ⌜ (lo ≤ own) × (n ≤ length (now y) → cell-words ≤ n) ⌝ }
     requires { ⌜ length (now y) ≡ length (now x) ⌝ }
     ensures { λ r. ⌜ ReplacesOwn (now (x .entry)) (now (y .entry)) n t lo own tail r (now (x .exit)) ⌝ }
 {

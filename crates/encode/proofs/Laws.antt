@@ -251,4 +251,4 @@ first-node {x} {n} m h e =
     }
 
 pub written-node : {x x′ : List ℕ} {n : ℕ} (m : Node) → length x′ ≡ length x → n ≤ length x → Wrote x 0 (node-words m) n x′ → NodeHere x′ 0 n m
-written-node m e h w = let j = wrote-up w h in first-node m (omega arith) (w .fits (omega arith) .1)
+written-node m e h w = let j = wrote-up w h in first-node m (omega arith) (w .is h .1)

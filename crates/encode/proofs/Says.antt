@@ -230,6 +230,22 @@ said-in (one-said k n {w} {ks} x p) =
 pub node-cells : (m : Node) → cells-in (node-words m) ≡ cells m
 node-cells m = said-in (plan-said {Q = Any} m (any m))
 
+-- ---- what holds of what each cell says, by Q, holds of the cells that the words say, by R
+
+module _ {Q : Content → Type 0} (R : Sheet.Cell → Type 0) (f : (k : Content) → Q k → R (cell-of k)) where
+  each-in : {w : List ℕ} {ks : List Sheet.Cell} → Says Q w ks → All R (cells-in w)
+  each-in p = subst (All R) (sym (said-in p)) (all-of R f p)
+
+  pub optional-in : (e : Option Expression) → Optional (Each-expression Q) e → All R (cells-in (optional-words e))
+  optional-in e x = each-in (optional-said e x)
+
+  -- with a cell over it
+  pub optional-under : (k : Content) (e : Option Expression) → Optional (Each-expression Q) e → Q k → All R (cells-in (sized (optional-words e) (cell k)))
+  optional-under k e x y = each-in (over-said k (optional-said e x) y)
+
+  pub node-in : (n : Node) → Each Q n → All R (cells-in (node-words n))
+  node-in n x = each-in (plan-said n x)
+
 -- ---- the flags of a plan that can stand in a sheet
 
 module _ (text : List ℕ) (bytes tables : ℕ) where

@@ -15,6 +15,7 @@ use Rattle.layout.specs.declared.Parts.{Parts}
 use Rattle.cells.specs.declared.Cell.{Cell}
 use Rattle.words.specs.Words.{node-words}
 use Rattle.words.specs.Place.{NodeHere}
+use Rattle.cells.specs.Cells.{cell-words}
 
 -- d with w from byte `at` on
 abbrev pub written : (d : List ℕ) (at : ℕ) (w : List ℕ) → List ℕ
@@ -42,7 +43,7 @@ pub record Small (k : Sheet.Cell) : Type 0 where
 -- The first n words of x are cells that can stand in a sheet, and d has room for them from byte `at` on.
 pub record CellsAt (x : List ℕ) (n : ℕ) (d : List ℕ) (at : ℕ) : Type 0 where
   pub inside : n ≤ length x
-  pub whole : n ≡ 6 * length (cells-in (take n x))
+  pub whole : n ≡ cell-words * length (cells-in (take n x))
   pub small : All Small (cells-in (take n x))
   pub room : at + 16 * length (cells-in (take n x)) ≤ length d
 

@@ -5,6 +5,7 @@ ghost use lib.ListN.{length, take};
 ghost use Rattle.sheet.specs.Bytes.{bytes};
 ghost use Rattle.sheet.specs.Write.{cell-bytes, cells-bytes};
 ghost use Rattle.layout.specs.Layout.{Whole};
+ghost use Rattle.cells.specs.Room.{most-words};
 ghost use Rattle.encode.specs.Encode.{written, as-cell, cells-in, trailer-of, CellsAt, Lengths, Encodable, Encodes};
 
 // The 4 bytes of a number.
@@ -24,23 +25,23 @@ fn put_cell(out: &mut [u8], at: usize, k: cells::Cell) -> usize
     requires { ⌜ (at + 16 ≤ length (now out)) × ((k .tag < 256) × (k .flag < 256)) ⌝ }
     ensures { λ r. ⌜ (r ≡ at + 16) × (now (out .exit) ≡ written (now (out .entry)) at (cell-bytes (as-cell k))) ⌝ }
 {
-    let a = put_word(out, at, k.tag + 256 * k.flag);
-    let b = put_word(out, a, k.a);
-    let c = put_word(out, b, k.b);
-    put_word(out, c, k.c)
+    let a = put_word(out, at, k.tag as usize + 256 * k.flag as usize);
+    let b = put_word(out, a, k.a as usize);
+    let c = put_word(out, b, k.b as usize);
+    put_word(out, c, k.c as usize)
 }
 
 // The cells that the first n words of x say, without their sizes.
-fn put_cells(x: &[usize], n: usize, out: &mut [u8], at: usize) -> usize
+fn put_cells(x: &[u32], n: usize, out: &mut [u8], at: usize) -> usize
     requires { ⌜ CellsAt (now x) n (now out) at ⌝ }
     ensures { λ r. ⌜ (r ≡ at + 16 * length (cells-in (take n (now (x .entry))))) × (now (out .exit) ≡ written (now (out .entry)) at (cells-bytes (cells-in (take n (now (x .entry)))))) ⌝ }
 {
     let mut to = at;
     let mut i: usize = 0;
     while i < n {
-        let k = cells::cell_at(x, i + 6);
+        let k = cells::cell_at(x, i + cells::CELL_WORDS);
         to = put_cell(out, to, k);
-        i += 6;
+        i += cells::CELL_WORDS;
     }
     to
 }
@@ -72,15 +73,15 @@ fn put_trailer(out: &mut [u8], at: usize, p: layout::Parts) -> usize
 
 // How many bytes the sheet has that a plan of n words is written as.
 pub fn encoded_length(s: &[u8], n: usize) -> usize
-    requires { ⌜ Whole (now s) × (n ≤ 16777216) ⌝ }
+    requires { ⌜ Whole (now s) × (n ≤ most-words) ⌝ }
     ensures { λ r. ⌜ Lengths (now (s .entry)) n r ⌝ }
 {
     let p = layout::parts_of(s);
-    p.cells.at + 16 * (n / 6) + 20
+    p.cells.at + 16 * (n / cells::CELL_WORDS) + 20
 }
 
 // The plan in the first n words of x, as a sheet with the text and the records of s. The bytes after it stay.
-pub fn encode(s: &[u8], x: &[usize], n: usize, out: &mut [u8]) -> usize
+pub fn encode(s: &[u8], x: &[u32], n: usize, out: &mut [u8]) -> usize
     requires { ⌜ Encodable (now s) (now x) n (now out) ⌝ }
     ensures { λ r. ⌜ Encodes (now (s .entry)) (now (x .entry)) n (now (out .entry)) r (now (out .exit)) ⌝ }
 {

@@ -22,7 +22,7 @@ pub fn value_of(k: Cell) -> Value
         2 => Value::Boolean(k.a == 1),
         3 => Value::Integer(value::integer_of_bits(joined(k.a, k.b))),
         4 => Value::Float(value::float_of_bits(joined(k.a, k.b))),
-        _ => Value::String(k.a as u32),
+        _ => Value::String(k.a),
     }
 }
 
@@ -45,7 +45,7 @@ pub fn cell_of(v: Value) -> Cell
 }
 
 // The number of 64 bits from its low and its high half.
-fn joined(low: usize, high: usize) -> u64
+fn joined(low: u32, high: u32) -> u64
     requires { ⌜ (low < 4294967296) × (high < 4294967296) ⌝ }
     ensures { λ r. ⌜ r ≡ wide low high ⌝ }
 {
@@ -53,42 +53,42 @@ fn joined(low: usize, high: usize) -> u64
 }
 
 // The cell with this tag and the halves of a number of 64 bits.
-fn constant(tag: usize, bits: u64) -> Cell
+fn constant(tag: u32, bits: u64) -> Cell
     ensures { λ r. ⌜ r ≡ of-halves tag bits ⌝ }
 {
     Cell {
         tag,
         flag: 0,
-        a: (bits % 4294967296) as usize,
-        b: (bits / 4294967296) as usize,
+        a: (bits % 4294967296) as u32,
+        b: (bits / 4294967296) as u32,
         c: 0,
     }
 }
 
 // The operator with tag o, which has one operand.
-pub fn evaluate_unary(o: usize, v: Value) -> Result
+pub fn evaluate_unary(o: u32, v: Value) -> Result
     ensures { λ r. ⌜ EvaluatesUnary o v r ⌝ }
 {
     match o {
-        30 => value::logic::not(v),
-        31 => value::is_null(v),
-        32 => value::is_nan(v),
-        33 => arithmetic::identity(v),
+        tags::NOT => value::logic::not(v),
+        tags::IS_NULL => value::is_null(v),
+        tags::IS_NAN => value::is_nan(v),
+        tags::IDENTITY => arithmetic::identity(v),
         _ => arithmetic::negate(v),
     }
 }
 
 // The operator with tag o, which has two operands. Strings refer to bytes of `text`.
-pub fn evaluate_binary(text: &[u8], o: usize, v: Value, w: Value) -> Result
+pub fn evaluate_binary(text: &[u8], o: u32, v: Value, w: Value) -> Result
     ensures { λ r. ⌜ EvaluatesBinary (now (text .entry)) o v w r ⌝ }
 {
     match o {
-        10 => value::logic::and(v, w),
-        11 => value::logic::or(v, w),
-        12 => comparison::equal(text, v, w),
-        13 => comparison::greater_than(text, v, w),
-        14 => comparison::less_than(text, v, w),
-        15 => arithmetic::checked_add(v, w),
+        tags::AND => value::logic::and(v, w),
+        tags::OR => value::logic::or(v, w),
+        tags::EQUAL => comparison::equal(text, v, w),
+        tags::GREATER_THAN => comparison::greater_than(text, v, w),
+        tags::LESS_THAN => comparison::less_than(text, v, w),
+        tags::ADD => arithmetic::checked_add(v, w),
         _ => arithmetic::checked_div(v, w),
     }
 }

@@ -43,9 +43,9 @@ module _ {widths x : List ℕ} {t lo tail count : ℕ} (n : ℕ) (c : SourceCoun
         source-fits z g =
             Sources.source-room (kept (g .schema) (g .text) (g .tables)) c one own (g .schema) (From n (g .schema)) (a (g .schema) (g .text) (g .tables) (g .given)) z (g .held)
 
-        pub source-done : u ≤ length x₁ → {r : ℕ} {x₂ : List ℕ} → length x₂ ≡ length x₁ → Reseals x₁ u lo tail r x₂ → EachSource n widths x t lo tail r x₂
-        source-done z e seal schema text tables given =
-            Sources.source-go (kept schema text tables) c one own schema (From n schema) (a schema text tables given) z e seal
+        pub source-done : length x₁ ≡ length x → u ≤ length x₁ → {r : ℕ} {x₂ : List ℕ} → length x₂ ≡ length x₁ → Reseals x₁ u lo tail r x₂ → EachSource n widths x t lo tail r x₂
+        source-done k z e seal schema text tables given =
+            Sources.source-go (kept schema text tables) c one own schema (From n schema) (a schema text tables given) k z e seal
 
     -- two sources, of which the left one ends at mid
     module _ (y : count ≡ 0 → ⊥) (z : count ≡ 1 → ⊥) where
@@ -87,6 +87,6 @@ module _ {widths x : List ℕ} {t lo tail count : ℕ} (n : ℕ) (c : SourceCoun
                   Sources.both-room (kept (g .schema) (g .text) (g .tables)) c (two g) own st (g .schema) (From n (g .schema)) (a (g .schema) (g .text) (g .tables) (g .given)) e i
                   (b (g .schema) (g .text) (g .tables) (g .given)) j (g .held)
 
-              pub both-done : v ≤ length x₂ → {r : ℕ} {x₃ : List ℕ} → length x₃ ≡ length x₂ → Reseals x₂ v lo tail r x₃ → EachSource n widths x t lo tail r x₃
-              both-done j k seal schema text tables given =
-                  Sources.both-go (kept schema text tables) c (two g) own st schema (From n schema) (a schema text tables given) e i (b schema text tables given) j k seal
+              pub both-done : length x₂ ≡ length x₁ → v ≤ length x₂ → {r : ℕ} {x₃ : List ℕ} → length x₃ ≡ length x₂ → Reseals x₂ v lo tail r x₃ → EachSource n widths x t lo tail r x₃
+              both-done l j k seal schema text tables given =
+                  Sources.both-go (kept schema text tables) c (two g) own st schema (From n schema) (a schema text tables given) e i (b schema text tables given) j l k seal

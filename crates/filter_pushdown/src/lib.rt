@@ -7,10 +7,10 @@ ghost use Rattle.push_filters.specs.Buffers.{Buffers};
 
 // The sources of the node, left before right.
 fn each_source(
-    x: &mut [usize],
-    y: &mut [usize],
-    z: &mut [usize],
-    w: &mut [usize],
+    x: &mut [u32],
+    y: &mut [u32],
+    z: &mut [u32],
+    w: &mut [u32],
     n: usize,
     t: usize,
     lo: usize,
@@ -47,10 +47,10 @@ fn each_source(
 
 // push_filters_from of a source of a node. A source of one cell, as a Scan without a filter, is left as it is, and needs no call.
 fn push_source(
-    x: &mut [usize],
-    y: &mut [usize],
-    z: &mut [usize],
-    w: &mut [usize],
+    x: &mut [u32],
+    y: &mut [u32],
+    z: &mut [u32],
+    w: &mut [u32],
     n: usize,
     t: usize,
     lo: usize,
@@ -61,7 +61,7 @@ fn push_source(
     requires { ⌜ Buffers (now x) (now y) (now z) (now w) ⌝ }
     ensures { λ r. ⌜ Passes (λ room schema. Room.push-filters-from room schema n) (now (widths .entry)) (now (x .entry)) t lo tail r (now (x .exit)) ⌝ }
 {
-    if t - tail - lo == 6 {
+    if t - tail - lo == cells::CELL_WORDS {
         return t;
     }
     push_filters_from(x, y, z, w, n, t, lo, tail, widths)
@@ -70,10 +70,10 @@ fn push_source(
 // A node, then the sources of what it became. A chain of nodes that stay as they are is gone through without a frame for each. Where the plan is as long as
 // before, so is the node below the chain, and the sizes in the chain's cells are right already.
 fn push_filters_from(
-    x: &mut [usize],
-    y: &mut [usize],
-    z: &mut [usize],
-    w: &mut [usize],
+    x: &mut [u32],
+    y: &mut [u32],
+    z: &mut [u32],
+    w: &mut [u32],
     n: usize,
     t: usize,
     lo: usize,
@@ -105,10 +105,10 @@ fn push_filters_from(
 
 // The whole plan, which has t / 6 cells, and no more nodes than cells.
 pub fn filter_pushdown(
-    x: &mut [usize],
-    y: &mut [usize],
-    z: &mut [usize],
-    w: &mut [usize],
+    x: &mut [u32],
+    y: &mut [u32],
+    z: &mut [u32],
+    w: &mut [u32],
     t: usize,
     widths: &[usize],
 ) -> usize
@@ -116,5 +116,5 @@ pub fn filter_pushdown(
     requires { ⌜ Buffers (now x) (now y) (now z) (now w) ⌝ }
     ensures { λ r. ⌜ Passes Room.FilterPushdown (now (widths .entry)) (now (x .entry)) t 0 0 r (now (x .exit)) ⌝ }
 {
-    push_filters_from(x, y, z, w, t / 6, t, 0, 0, widths)
+    push_filters_from(x, y, z, w, t / cells::CELL_WORDS, t, 0, 0, widths)
 }

@@ -9,7 +9,7 @@ ghost use Rattle.first_lookup.specs.First.{marks-in, FindsOne, FindsFirs
 
 // Where a conjunct stands, from a word up to another, and the column that it looks up.
 pub enum FoundLookup {
-    At(usize, usize, usize),
+    At(usize, usize, u32),
     None,
 }
 
@@ -33,7 +33,7 @@ fn has_index(key: usize, columns: &[u8], c: usize) -> bool
 }
 
 // The conjunct from lo to hi, if it looks up a marked column.
-fn find_one(s: &[usize], lo: usize, hi: usize, key: usize, columns: &[u8]) -> FoundLookup
+fn find_one(s: &[u32], lo: usize, hi: usize, key: usize, columns: &[u8]) -> FoundLookup
     requires { ⌜ ExpressionAt (now s) lo hi ⌝ }
     ensures { λ r. ⌜ FindsOne (marks-in key (now (columns .entry))) (now (s .entry)) lo hi r ⌝ }
 {
@@ -41,19 +41,19 @@ fn find_one(s: &[usize], lo: usize, hi: usize, key: usize, columns: &[u8]) -> Fo
     let column_lookup::Lookup::Column(c) = found else {
         return FoundLookup::None;
     };
-    if has_index(key, columns, c) {
+    if has_index(key, columns, c as usize) {
         return FoundLookup::At(lo, hi, c);
     }
     FoundLookup::None
 }
 
 // The first conjunct of the expression from lo to hi that looks up a marked column.
-pub fn find_lookup(s: &[usize], lo: usize, hi: usize, key: usize, columns: &[u8]) -> FoundLookup
+pub fn find_lookup(s: &[u32], lo: usize, hi: usize, key: usize, columns: &[u8]) -> FoundLookup
     requires { ⌜ ExpressionAt (now s) lo hi ⌝ }
     ensures { λ r. ⌜ FindsFirst (marks-in key (now (columns .entry))) (now (s .entry)) lo hi r ⌝ }
 {
-    if cells::tag_at(s, hi) == 10 {
-        let end = hi - 6;
+    if cells::tag_at(s, hi) == tags::AND {
+        let end = hi - cells::CELL_WORDS;
         let mid = cells::start(s, end);
         let earlier = find_lookup(s, lo, mid, key, columns);
         if let FoundLookup::At(a, b, c) = earlier {
@@ -66,10 +66,10 @@ pub fn find_lookup(s: &[usize], lo: usize, hi: usize, key: usize, columns: &[u8]
 
 // The conjunct from lo to hi, unless it is the first that looks up a marked column, as one more conjunct in d (crate conjuncts).
 fn remaining_one(
-    s: &[usize],
+    s: &[u32],
     lo: usize,
     hi: usize,
-    d: &mut [usize],
+    d: &mut [u32],
     from: usize,
     at: usize,
     key: usize,
@@ -93,10 +93,10 @@ fn remaining_one(
 
 // The conjuncts of the expression from lo to hi but the first that looks up a marked column; all of them if that was met before.
 pub fn remaining(
-    s: &[usize],
+    s: &[u32],
     lo: usize,
     hi: usize,
-    d: &mut [usize],
+    d: &mut [u32],
     from: usize,
     at: usize,
     key: usize,
@@ -106,8 +106,8 @@ pub fn remaining(
     requires { ⌜ ExpressionAt (now s) lo hi ⌝ }
     ensures { λ r. ⌜ Leaves (marks-in key (now (columns .entry))) met (now (s .entry)) lo hi (now (d .entry)) from at r (now (d .exit)) ⌝ }
 {
-    if cells::tag_at(s, hi) == 10 {
-        let end = hi - 6;
+    if cells::tag_at(s, hi) == tags::AND {
+        let end = hi - cells::CELL_WORDS;
         let mid = cells::start(s, end);
         let l = remaining(s, lo, mid, d, from, at, key, columns, met);
         return remaining(s, mid, end, d, from, l.at, key, columns, l.met);

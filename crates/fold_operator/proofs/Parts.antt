@@ -8,8 +8,8 @@ use lib.Seq.{take-at, length-take-le}
 use Rattle.sql.specs.Expression.{Expression}
 use Rattle.sql.specs.Answer.{Answer, done, refused, _>>=_}
 use Rattle.cells.specs.Cells.{Part}
-use Rattle.cells.specs.Room.{Wrote}
-use Rattle.cells.proofs.Laws.{part-in}
+use Rattle.cells.specs.Room.{Short, Wrote}
+use Rattle.cells.proofs.Laws.{fits, part-in}
 use Rattle.words.specs.Words.{expression-words}
 use Rattle.words.specs.Place.{ExpressionHere}
 use Rattle.fold_operator.specs.Left.{Appended, Left, Leaves}
@@ -40,11 +40,11 @@ module _ {d : List ℕ} {at n : ℕ} {w : List ℕ} (p : Part d at n w) where
   }
 
 module _ {d : List ℕ} {at n : ℕ} {w d′ : List ℕ} where
-  pub appended : Wrote d at w n d′ → at + length w ≤ length d → Appended d at w n d′
-  appended a h = let (e, k) = a .fits h in record { ends = e; kept = k }
+  pub appended : Wrote d at w n d′ → Short d → at + length w ≤ length d → Appended d at w n d′
+  appended a s h = let (e, k) = fits a s h in record { ends = e; kept = k }
 
   pub wrote : Appended d at w n d′ → at + length w ≤ length d → Wrote d at w n d′
-  wrote a h = record { fits = λ _. (a .ends, a .kept); full = λ z. absurd (omega arith) }
+  wrote a h = record { is = λ _. (a .ends, a .kept); room = λ _ z. omega (arith, a .ends) }
 
   module _ (a : Appended d at w n d′) (h : at ≤ length d) where
     pub appended-part : Part d′ at n w

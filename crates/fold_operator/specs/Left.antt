@@ -12,6 +12,7 @@ use Rattle.sound.specs.Expressions.{Made-of}
 use Rattle.words.specs.Words.{root, expression-words}
 use Rattle.fold_operator.specs.declared.Folded.{Folded}
 use Rattle.fold_operator.specs.declared.Folded.the-variants as Folded
+use Rattle.sheet.specs.Tags
 
 -- The expression's constants are ones that a sheet with this text may hold.
 abbrev pub Constants-fit : List ℕ → Expression → Type 0
@@ -19,7 +20,7 @@ Constants-fit text e = Made-of (Value-fits text (length text)) (λ c. Unit {0}) 
 
 -- What an expression folds to: a constant, or an expression that has a Column.
 pub record Settled (text : List ℕ) (y : Expression) : Type 0 where
-  pub column-left : 6 ≤ cell-of (root y) .tag → contains-column (λ c. true) y ≡ true
+  pub column-left : Tags.column ≤ cell-of (root y) .tag → contains-column (λ c. true) y ≡ true
   pub fits : Constants-fit text y
 
 -- w is appended to the first `at` words of d, which makes n words.

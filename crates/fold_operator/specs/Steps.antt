@@ -13,12 +13,14 @@ use Rattle.sql.specs.Answer.{at-place}
 use Rattle.sql.specs.Optimizer.{Operand, deciding, neutral, undetermined, operand, fold, simplify}
 use Rattle.sheet.specs.Content.{unary-tag, binary-tag}
 use Rattle.cells.specs.declared.Cell.{Cell}
-use Rattle.cells.specs.Cells.{cell-at, tag-at}
+use Rattle.cells.specs.Cells.{cell-words, cell-at, tag-at}
+use Rattle.cells.specs.Room.{Short}
 use Rattle.words.specs.Words.{cell, root, expression-words}
 use Rattle.words.specs.Place.{ExpressionHere}
 use Rattle.evaluate.specs.Evaluate.{Halves}
 use Rattle.fold_operator.specs.declared.Folded.{Folded}
 use Rattle.fold_operator.specs.Left.{Settled, Appended, Leaves}
+use Rattle.sheet.specs.Tags
 
 -- ---- operands of And and Or
 
@@ -53,30 +55,30 @@ Neutral o k r = (p : Binary) (e : Expression) → binary-tag p ≡ o → k ≡ c
 
 -- A cell ends before word n, and can be read if it is a constant's.
 pub record Readable (d : List ℕ) (n : ℕ) : Type 0 where
-  pub first : 6 ≤ n
+  pub first : cell-words ≤ n
   pub last : n ≤ length d
-  pub halves : tag-at d n < 6 → Halves (cell-at d n)
+  pub halves : tag-at d n < Tags.column → Halves (cell-at d n)
 
 -- the value of an operator, or the refusal for its error
 abbrev pub Writes : List ℕ → ℕ → Result → ℕ → Folded → List ℕ → Type 0
 Writes d at r place answer d′ =
-    (text : List ℕ) → at + 6 ≤ length d → Leaves d at (at-place place (bind (result text r) (λ v. ok (constant v)))) answer d′
+    (text : List ℕ) → Short d → at + cell-words ≤ length d → Leaves d at (at-place place (bind (result text r) (λ v. ok (constant v)))) answer d′
 
 abbrev pub FoldsUnary : List ℕ → ℕ → ℕ → ℕ → ℕ → Folded → List ℕ → Type 0
 FoldsUnary d at n o place answer d′ =
-    (text : List ℕ) (p : Unary) (y : Expression) → unary-tag p ≡ o → ExpressionHere d at n y → Settled text y → n + 6 ≤ length d
+    (text : List ℕ) (p : Unary) (y : Expression) → unary-tag p ≡ o → ExpressionHere d at n y → Settled text y → Short d → n + cell-words ≤ length d
     → Leaves d at (fold place (unary p y)) answer d′
 
 -- The left operand isn't neutral: where it is, the right one alone is written.
 abbrev pub Simplifies : List ℕ → ℕ → ℕ → ℕ → ℕ → ℕ → List ℕ → Type 0
 Simplifies d at m n o r d′ =
-    (p : Binary) (x y : Expression) → binary-tag p ≡ o → ExpressionHere d at m x → ExpressionHere d m n y → is-neutral (operand-of p x) ≡ false → n + 6 ≤ length d
+    (p : Binary) (x y : Expression) → binary-tag p ≡ o → ExpressionHere d at m x → ExpressionHere d m n y → is-neutral (operand-of p x) ≡ false → Short d → n + cell-words ≤ length d
     → Appended d at (expression-words (simplify (binary p x y))) r d′
 
 abbrev pub FoldsBinary : List ℕ → List ℕ → ℕ → ℕ → ℕ → ℕ → ℕ → Folded → List ℕ → Type 0
 FoldsBinary text d at m n o place answer d′ =
     (p : Binary) (x y : Expression) → binary-tag p ≡ o → ExpressionHere d at m x → ExpressionHere d m n y → Settled text x → Settled text y
-    → is-neutral (operand-of p x) ≡ false → n + 6 ≤ length d → Leaves d at (fold place (binary p x y)) answer d′
+    → is-neutral (operand-of p x) ≡ false → Short d → n + cell-words ≤ length d → Leaves d at (fold place (binary p x y)) answer d′
 
 -- The left operand is neutral, and isn't in d.
 abbrev pub FoldsNeutral : List ℕ → ℕ → ℕ → Folded → Type 0

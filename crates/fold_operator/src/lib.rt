@@ -14,43 +14,43 @@ pub enum Folded {
 }
 
 // Whether a cell is the Boolean with number b.
-fn is_boolean(k: Cell, b: usize) -> bool
+fn is_boolean(k: Cell, b: u32) -> bool
     ensures { λ r. ⌜ r ≡ boolean-cell k b ⌝ }
 {
-    if k.tag == 2 {
+    if k.tag == tags::BOOLEAN {
         return k.a == b;
     }
     false
 }
 
 // Whether the operand with cell k decides the operator with tag o: false does And, true does Or.
-fn is_deciding(o: usize, k: Cell) -> bool
+fn is_deciding(o: u32, k: Cell) -> bool
     ensures { λ r. ⌜ Deciding o k r ⌝ }
 {
-    if o == 10 {
+    if o == tags::AND {
         return is_boolean(k, 0);
     }
-    if o == 11 {
+    if o == tags::OR {
         return is_boolean(k, 1);
     }
     false
 }
 
 // Whether the operand with cell k leaves And or Or, which has tag o, to the other operand.
-pub fn is_neutral(o: usize, k: Cell) -> bool
+pub fn is_neutral(o: u32, k: Cell) -> bool
     ensures { λ r. ⌜ Neutral o k r ⌝ }
 {
-    if o == 10 {
+    if o == tags::AND {
         return is_boolean(k, 1);
     }
-    if o == 11 {
+    if o == tags::OR {
         return is_boolean(k, 0);
     }
     false
 }
 
 // The cell of the operator with tag o.
-fn operator(o: usize) -> Cell
+fn operator(o: u32) -> Cell
     ensures { λ r. ⌜ r ≡ record { tag = o; flag = 0; a = 0; b = 0; c = 0 } ⌝ }
 {
     Cell {
@@ -63,7 +63,7 @@ fn operator(o: usize) -> Cell
 }
 
 // An operator's value after the first `at` words of d, or the refusal for its error.
-fn write(d: &mut [usize], at: usize, r: Result, place: usize) -> Folded
+fn write(d: &mut [u32], at: usize, r: Result, place: usize) -> Folded
     ensures { λ f. ⌜ Writes (now (d .entry)) at r place f (now (d .exit)) ⌝ }
 {
     match r {
@@ -73,12 +73,12 @@ fn write(d: &mut [usize], at: usize, r: Result, place: usize) -> Folded
 }
 
 // `fold` of the operator with tag o, whose operand stands in d from `at` to n.
-pub fn fold_unary(d: &mut [usize], at: usize, n: usize, o: usize, place: usize) -> Folded
+pub fn fold_unary(d: &mut [u32], at: usize, n: usize, o: u32, place: usize) -> Folded
     requires { ⌜ Readable (now d) n ⌝ }
     ensures { λ r. ⌜ FoldsUnary (now (d .entry)) at n o place r (now (d .exit)) ⌝ }
 {
     let k = cells::cell_at(d, n);
-    if 6 <= k.tag {
+    if tags::COLUMN <= k.tag {
         return Folded::Done(cells::put(d, at, n, operator(o)));
     }
     write(
@@ -90,7 +90,7 @@ pub fn fold_unary(d: &mut [usize], at: usize, n: usize, o: usize, place: usize) 
 }
 
 // And and Or with a constant side, the left one not neutral: `simplify` of the operator with tag o, whose operands stand in d from `at` to m and to n.
-fn simplify(d: &mut [usize], at: usize, m: usize, n: usize, o: usize) -> usize
+fn simplify(d: &mut [u32], at: usize, m: usize, n: usize, o: u32) -> usize
     requires { ⌜ Readable (now d) m × Readable (now d) n ⌝ }
     ensures { λ r. ⌜ Simplifies (now (d .entry)) at m n o r (now (d .exit)) ⌝ }
 {
@@ -110,22 +110,22 @@ fn simplify(d: &mut [usize], at: usize, m: usize, n: usize, o: usize) -> usize
 // `fold` of the operator with tag o, whose operands stand in d from `at` to m and to n, the left one not neutral.
 pub fn fold_binary(
     text: &[u8],
-    d: &mut [usize],
+    d: &mut [u32],
     at: usize,
     m: usize,
     n: usize,
-    o: usize,
+    o: u32,
     place: usize,
 ) -> Folded
     requires { ⌜ Readable (now d) m × Readable (now d) n ⌝ }
     ensures { λ r. ⌜ FoldsBinary (now (text .entry)) (now (d .entry)) at m n o place r (now (d .exit)) ⌝ }
 {
     let left = cells::cell_at(d, m);
-    if 6 <= left.tag {
+    if tags::COLUMN <= left.tag {
         return Folded::Done(simplify(d, at, m, n, o));
     }
     let right = cells::cell_at(d, n);
-    if 6 <= right.tag {
+    if tags::COLUMN <= right.tag {
         return Folded::Done(simplify(d, at, m, n, o));
     }
     write(
@@ -137,15 +137,15 @@ pub fn fold_binary(
 }
 
 // `fold` of And or Or, whose left operand is neutral, and whose right one ends at n in d: that operand, if it is no constant but Null or a Boolean.
-pub fn fold_neutral(d: &[usize], n: usize, place: usize) -> Folded
+pub fn fold_neutral(d: &[u32], n: usize, place: usize) -> Folded
     requires { ⌜ Readable (now d) n ⌝ }
     ensures { λ r. ⌜ FoldsNeutral (now (d .entry)) n place r ⌝ }
 {
     let t = cells::tag_at(d, n);
-    if t < 3 {
+    if t < tags::INTEGER {
         return Folded::Done(n);
     }
-    if t < 6 {
+    if t < tags::COLUMN {
         return Folded::Refused(value::number(Error::Mismatch), place);
     }
     Folded::Done(n)

@@ -14,7 +14,7 @@ use Rattle.sheet.specs.Content.{Content, item-cell, key-cell, row-cell}
 use Rattle.sheet_laws.specs.Fits.{All}
 use Rattle.cells.specs.declared.Cell.{Cell}
 use Rattle.cells.specs.Cells.{sized, tag-at, Part}
-use Rattle.cells.specs.Room.{Copies}
+use Rattle.cells.specs.Room.{Short, Copies}
 use Rattle.words.specs.Words.{cell, all-words, expression-words, optional-words, item-words, key-words, row-words, leaf-own, over-own, join-own, own-words, source-words}
 use Rattle.words.specs.Place.{NodeHere, NodeAt}
 use Rattle.words.proofs.Nodes.{node-tag, own-part, node-in, node-long}
@@ -207,8 +207,8 @@ module _ {text s : List ℕ} {lo hi m : ℕ} where
         within = g .within;
       }
 
-      pub own-copied : {n : ℕ} → (k ≡ 1 → ⊥) → OwnAt text s lo hi m → at + (hi - m) ≤ length d → Copies s m (hi - 6) d at n d′ → FoldsOwn text s lo hi d at m (Folded.Done n) d′
-      own-copied {n} e t room w = record {
+      pub own-copied : {n : ℕ} → (k ≡ 1 → ⊥) → OwnAt text s lo hi m → (at + (hi - m) ≤ length d) × Short d → Copies s m (hi - 6) d at n d′ → FoldsOwn text s lo hi d at m (Folded.Done n) d′
+      own-copied {n} e t (room, few) w = record {
         leaves = λ first p i u. own-stays first p (λ v. e (said p (u .here) ∙ v)) (copied p (u .here));
         within = record { ends = let a = copied (t .p) (t .here .here) in let p = own-part (t .p) (t .here .here) (own (t .p) (t .here .here)) in omega (arith, a .ends, p .high) };
       }
@@ -217,7 +217,7 @@ module _ {text s : List ℕ} {lo hi m : ℕ} where
           copied p u =
               let q = own-part p u (own p u) in
               let (i, (j, z)) = own-in t in
-              appended (w (own-words p) q) (omega (arith, q .high))
+              appended (w (own-words p) q) few (omega (arith, q .high))
 
   pub own-parts-at : {k : ℕ} → Visits s lo hi k → k ≡ 1 → OwnAt text s lo hi m → PartsAt text s m (hi - 6)
   own-parts-at said e t = record {

@@ -12,7 +12,7 @@ use Rattle.sheet.specs.Content.{Content, cell-of, unary-tag}
 use Rattle.sheet_laws.specs.Fits.{All}
 use Rattle.cells.specs.declared.Cell.{Cell}
 use Rattle.cells.specs.Cells.{sized, cell-at, tag-at, start-at, Part, Sized}
-use Rattle.cells.specs.Room.{Wrote, Seals}
+use Rattle.cells.specs.Room.{Short, Wrote, Seals}
 use Rattle.cells.proofs.Laws.{part-left, part-right, part-in, body-part, cell-in, tag-is, start-is, has-size, seam}
 use Rattle.cells.proofs.Laws as cells
 use Rattle.words.specs.Words.{cell, root, expression-words, operand-words, all-words}
@@ -268,9 +268,9 @@ module _ {text s : List ℕ} {lo hi : ℕ} where
       }
 
       -- The cell is put behind what is done.
-      pub under-done : {m n : ℕ} {c : Cell} {d₂ : List ℕ} → PartAt text s lo hi → q ≡ Folded.Done m → at + (hi - lo) ≤ length d → length d₁ ≡ length d → c ≡ cell-at s hi → Seals d₁ at m c n d₂
+      pub under-done : {m n : ℕ} {c : Cell} {d₂ : List ℕ} → PartAt text s lo hi → q ≡ Folded.Done m → (at + (hi - lo) ≤ length d) × Short d → length d₁ ≡ length d → c ≡ cell-at s hi → Seals d₁ at m c n d₂
           → FoldsPart text s lo hi d at (Folded.Done n) d₂
-      under-done {m} {n} {c} {d₂} t z room long ce w = record {
+      under-done {m} {n} {c} {d₂} t z (room, few) long ce w = record {
         leaves = λ first x e u. by-under (λ x. Leaves part-words d at (fold-own-part first x) (Folded.Done n) d₂)
             (λ es k v. done-on (fold-row first es) (λ xs. done (under xs k)) (said-as z (row-left first es k e v))
             (λ xs f a. record { left = sealed-on es k v xs a }))
@@ -286,7 +286,7 @@ module _ {text s : List ℕ} {lo hi : ℕ} where
               let l = sized-long (all-words expression-words xs) (cell k) in
               let o = a .ends in
               subst (λ (x : Cell). Appended d at (sized (all-words expression-words xs) x) n d₂) (ce ∙ stands-cell (under es k) (v .stand))
-              (appended (w d (all-words expression-words xs) long (wrote a (omega arith))) (sealed-room c xs a i b))
+              (appended (w d (all-words expression-words xs) long (wrote a (omega arith))) few (sealed-room c xs a i b))
             where
               sealed-room : (c : Cell) (xs : List Expression) → Appended d at (all-words expression-words xs) m d₁ → lo + 6 ≤ hi → m ≤ at + (hi - 6 - lo)
                   → at + length (sized (all-words expression-words xs) c) ≤ length d

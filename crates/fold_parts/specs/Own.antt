@@ -16,6 +16,7 @@ use Rattle.nodes.specs.Own.{OwnStart}
 use Rattle.fold_operator.specs.declared.Folded.{Folded}
 use Rattle.fold_parts.specs.Leaves.{Leaves, Up-to}
 use Rattle.fold_parts.specs.Parts.{Own-part, alone, under, Part-fits}
+use Rattle.cells.specs.Cells.{cell-words}
 
 -- ---- those that are visited
 
@@ -97,7 +98,7 @@ pub record OwnAt (text s : List ℕ) (lo hi m : ℕ) : Type 0 where
   pub here : OwnHere text s lo hi p
   pub own : OwnStart s lo hi m
   pub first : ℕ
-  pub numbered : m ≡ 6 * first
+  pub numbered : m ≡ cell-words * first
   pub short : length text < 65536
 
 -- what folding a node's own parts leaves, where the first one's cell has the number `first`
@@ -107,5 +108,5 @@ Own-left d at first (over o n) r d′ = Leaves over-own d at (fold-over first o)
 Own-left d at first (join outer j a b) r d′ = Leaves join-own d at (fold-join first j) r d′
 
 pub record FoldsOwn (text s : List ℕ) (lo hi : ℕ) (d : List ℕ) (at m : ℕ) (r : Folded) (d′ : List ℕ) : Type 0 where
-  pub leaves : (first : ℕ) (p : Node) → m ≡ 6 * first → OwnHere text s lo hi p → Own-left d at first p r d′
-  pub within : Up-to (at + (hi - 6 - m)) r
+  pub leaves : (first : ℕ) (p : Node) → m ≡ cell-words * first → OwnHere text s lo hi p → Own-left d at first p r d′
+  pub within : Up-to (at + (hi - cell-words - m)) r

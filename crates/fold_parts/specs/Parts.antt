@@ -9,11 +9,12 @@ use Rattle.sql.specs.Answer.{Answer, done, _>>=_}
 use Rattle.sql.specs.Optimizer.{fold-expression, fold-each, fold-row}
 use Rattle.sheet.specs.Content.{Content, cell-of}
 use Rattle.sheet_laws.specs.Fits.{All}
-use Rattle.cells.specs.Cells.{sized, Part}
+use Rattle.cells.specs.Cells.{cell-words, sized, Part}
 use Rattle.words.specs.Words.{cell, all-words, expression-words}
 use Rattle.fold_operator.specs.declared.Folded.{Folded}
 use Rattle.fold_operator.specs.Left.{Constants-fit}
 use Rattle.fold_parts.specs.Leaves.{Leaves, Up-to}
+use Rattle.sheet.specs.Tags
 
 -- an expression alone, or expressions under a cell: that of an Item, a Key or a Row
 pub data Own-part : Type 0 where
@@ -42,13 +43,13 @@ fold-own-parts first ps = fold-each fold-own-part part-size first ps
 -- The constants fit, and the tag of a cell over expressions is not one of an expression.
 abbrev pub Part-fits : List ℕ → Own-part → Type 0
 Part-fits text (alone e) = Constants-fit text e
-Part-fits text (under es k) = All (Constants-fit text) es × (40 ≤ cell-of k .tag)
+Part-fits text (under es k) = All (Constants-fit text) es × (Tags.parts ≤ cell-of k .tag)
 
 -- ---- contracts
 
 -- r is the number of the cell that starts at this word.
 abbrev pub Numbers : ℕ → ℕ → Type 0
-Numbers at r = (n : ℕ) → at ≡ 6 * n → r ≡ n
+Numbers at r = (n : ℕ) → at ≡ cell-words * n → r ≡ n
 
 -- The parts stand in s from word lo up to hi, and fit.
 pub record PartsHere (text s : List ℕ) (lo hi : ℕ) (ps : List Own-part) : Type 0 where
@@ -60,12 +61,12 @@ pub record PartsAt (text s : List ℕ) (lo hi : ℕ) : Type 0 where
   pub ps : List Own-part
   pub here : PartsHere text s lo hi ps
   pub first : ℕ
-  pub numbered : lo ≡ 6 * first
+  pub numbered : lo ≡ cell-words * first
   pub short : length text < 65536
 
 -- The answer of folding them; what is done is not longer than they are.
 pub record FoldsParts (text s : List ℕ) (lo hi : ℕ) (d : List ℕ) (at : ℕ) (r : Folded) (d′ : List ℕ) : Type 0 where
-  pub leaves : (first : ℕ) (ps : List Own-part) → lo ≡ 6 * first → PartsHere text s lo hi ps → Leaves (all-words part-words) d at (fold-own-parts first ps) r d′
+  pub leaves : (first : ℕ) (ps : List Own-part) → lo ≡ cell-words * first → PartsHere text s lo hi ps → Leaves (all-words part-words) d at (fold-own-parts first ps) r d′
   pub within : Up-to (at + (hi - lo)) r
 
 -- the same of one part
@@ -77,9 +78,9 @@ pub record PartAt (text s : List ℕ) (lo hi : ℕ) : Type 0 where
   pub p : Own-part
   pub here : PartHere text s lo hi p
   pub first : ℕ
-  pub numbered : lo ≡ 6 * first
+  pub numbered : lo ≡ cell-words * first
   pub short : length text < 65536
 
 pub record FoldsPart (text s : List ℕ) (lo hi : ℕ) (d : List ℕ) (at : ℕ) (r : Folded) (d′ : List ℕ) : Type 0 where
-  pub leaves : (first : ℕ) (p : Own-part) → lo ≡ 6 * first → PartHere text s lo hi p → Leaves part-words d at (fold-own-part first p) r d′
+  pub leaves : (first : ℕ) (p : Own-part) → lo ≡ cell-words * first → PartHere text s lo hi p → Leaves part-words d at (fold-own-part first p) r d′
   pub within : Up-to (at + (hi - lo)) r

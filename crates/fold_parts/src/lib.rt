@@ -5,6 +5,7 @@ ghost use Prim.Native.Nat.{ℕ, _+_, _-_, _≤_, _<_};
 ghost use mathlib.Core.Path.{_≡_};
 ghost use lib.ListN.{length};
 ghost use Rattle.cells.specs.Cells.{tag-at};
+ghost use Rattle.cells.specs.Room.{Short};
 ghost use Rattle.words.specs.Place.{NodeAt};
 ghost use Rattle.nodes.specs.Own.{OwnStart};
 ghost use Rattle.fold_parts.specs.Parts.{Numbers, PartsAt, FoldsParts, PartAt, FoldsPart};
@@ -14,13 +15,13 @@ ghost use Rattle.fold_parts.specs.Own.{Visits, OwnAt, FoldsOwn};
 fn number(at: usize) -> usize
     ensures { λ r. ⌜ Numbers at r ⌝ }
 {
-    at / 6
+    at / cells::CELL_WORDS
 }
 
 // All parts from lo to hi, from the first to the last. The last one's start is known from its end, so that those before it are folded by a call.
-fn fold_parts(text: &[u8], s: &[usize], lo: usize, hi: usize, d: &mut [usize], at: usize) -> Folded
+fn fold_parts(text: &[u8], s: &[u32], lo: usize, hi: usize, d: &mut [u32], at: usize) -> Folded
     requires { ⌜ PartsAt (now text) (now s) lo hi ⌝ }
-    requires { ⌜ at + (hi - lo) ≤ length (now d) ⌝ }
+    requires { ⌜ (at + (hi - lo) ≤ length (now d)) × Short (now d) ⌝ }
     ensures { λ r. ⌜ FoldsParts (now (text .entry)) (now (s .entry)) lo hi (now (d .entry)) at r (now (d .exit)) ⌝ }
 {
     if hi <= lo {
@@ -34,15 +35,15 @@ fn fold_parts(text: &[u8], s: &[usize], lo: usize, hi: usize, d: &mut [usize], a
 }
 
 // One part: an expression, or the expressions below the cell of an Item, a Key or a Row.
-fn fold_part(text: &[u8], s: &[usize], lo: usize, hi: usize, d: &mut [usize], at: usize) -> Folded
+fn fold_part(text: &[u8], s: &[u32], lo: usize, hi: usize, d: &mut [u32], at: usize) -> Folded
     requires { ⌜ PartAt (now text) (now s) lo hi ⌝ }
-    requires { ⌜ at + (hi - lo) ≤ length (now d) ⌝ }
+    requires { ⌜ (at + (hi - lo) ≤ length (now d)) × Short (now d) ⌝ }
     ensures { λ r. ⌜ FoldsPart (now (text .entry)) (now (s .entry)) lo hi (now (d .entry)) at r (now (d .exit)) ⌝ }
 {
-    if cells::tag_at(s, hi) < 40 {
+    if cells::tag_at(s, hi) < tags::PARTS {
         return folding::fold_expression(text, s, lo, hi, d, at, number(lo));
     }
-    match fold_expressions(text, s, lo, hi - 6, d, at) {
+    match fold_expressions(text, s, lo, hi - cells::CELL_WORDS, d, at) {
         Folded::Done(n) => Folded::Done(cells::put(d, at, n, cells::cell_at(s, hi))),
         Folded::Refused(number, place) => Folded::Refused(number, place),
     }
@@ -51,14 +52,14 @@ fn fold_part(text: &[u8], s: &[usize], lo: usize, hi: usize, d: &mut [usize], at
 // The expressions from lo to end, where the cell over them starts. An Item and a Key have one, which needs no walk through a list.
 fn fold_expressions(
     text: &[u8],
-    s: &[usize],
+    s: &[u32],
     lo: usize,
     end: usize,
-    d: &mut [usize],
+    d: &mut [u32],
     at: usize,
 ) -> Folded
     requires { ⌜ PartsAt (now text) (now s) lo end × (lo < end → tag-at (now s) end < 40) ⌝ }
-    requires { ⌜ at + (end - lo) ≤ length (now d) ⌝ }
+    requires { ⌜ (at + (end - lo) ≤ length (now d)) × Short (now d) ⌝ }
     ensures { λ r. ⌜ FoldsParts (now (text .entry)) (now (s .entry)) lo end (now (d .entry)) at r (now (d .exit)) ⌝ }
 {
     if end <= lo {
@@ -72,21 +73,21 @@ fn fold_expressions(
 
 // Whether the own expressions of a node are visited, 1 or 0: those of 51 Filter, 56 NestedLoopJoin, 59 Order, 60 Projection, 62 Scan and 63 Values are.
 // A table would be written to the stack, and this is met in the frame of each node.
-fn is_visited(s: &[usize], lo: usize, hi: usize) -> usize
+fn is_visited(s: &[u32], lo: usize, hi: usize) -> usize
     requires { ⌜ NodeAt (now s) lo hi ⌝ }
     ensures { λ r. ⌜ Visits (now (s .entry)) lo hi r ⌝ }
 {
     let tag = cells::tag_at(s, hi);
-    if tag == 51 {
+    if tag == tags::FILTER {
         return 1;
     }
-    if tag == 56 {
+    if tag == tags::NESTED_LOOP_JOIN {
         return 1;
     }
-    if tag < 59 {
+    if tag < tags::ORDER {
         return 0;
     }
-    if tag == 61 {
+    if tag == tags::REMAP {
         return 0;
     }
     1
@@ -95,19 +96,19 @@ fn is_visited(s: &[usize], lo: usize, hi: usize) -> usize
 // The own parts, from word m on, of the node from lo to hi. Those that aren't visited are copied.
 pub fn fold_own(
     text: &[u8],
-    s: &[usize],
+    s: &[u32],
     lo: usize,
     hi: usize,
-    d: &mut [usize],
+    d: &mut [u32],
     at: usize,
     m: usize,
 ) -> Folded
     requires { ⌜ OwnAt (now text) (now s) lo hi m ⌝ }
-    requires { ⌜ at + (hi - m) ≤ length (now d) ⌝ }
+    requires { ⌜ (at + (hi - m) ≤ length (now d)) × Short (now d) ⌝ }
     ensures { λ r. ⌜ FoldsOwn (now (text .entry)) (now (s .entry)) lo hi (now (d .entry)) at m r (now (d .exit)) ⌝ }
 {
     if is_visited(s, lo, hi) == 1 {
-        return fold_parts(text, s, m, hi - 6, d, at);
+        return fold_parts(text, s, m, hi - cells::CELL_WORDS, d, at);
     }
-    Folded::Done(cells::copy(s, m, hi - 6, d, at))
+    Folded::Done(cells::copy(s, m, hi - cells::CELL_WORDS, d, at))
 }

@@ -13,7 +13,7 @@ use Rattle.room.specs.Smaller.{expression-smaller}
 use Rattle.sound.specs.Answers.{answer-is}
 use Rattle.cells.specs.declared.Cell.{Cell}
 use Rattle.cells.specs.Cells.{cell-at, tag-at, start-at}
-use Rattle.cells.specs.Room.{Seals}
+use Rattle.cells.specs.Room.{Short, Seals}
 use Rattle.cells.proofs.Laws.{nothing}
 use Rattle.words.specs.Words.{expression-words}
 use Rattle.words.specs.Place.{ExpressionHere, ExpressionAt}
@@ -112,12 +112,12 @@ module _ {text s : List ℕ} {lo hi : ℕ} (first : ℕ) {d : List ℕ} {at m : 
 -- ---- fold_expression
 
 module _ {text s : List ℕ} {lo hi : ℕ} (first : ℕ) {d : List ℕ} {at : ℕ} where
-  pub folds-leaf : {k : Cell} {n : ℕ} {d′ : List ℕ} → k ≡ cell-at s hi → tag-at s hi < 10 → at + (hi - lo) ≤ length d → Seals d at at k n d′
+  pub folds-leaf : {k : Cell} {n : ℕ} {d′ : List ℕ} → k ≡ cell-at s hi → tag-at s hi < 10 → at + (hi - lo) ≤ length d → Short d → Seals d at at k n d′
       → Folds text first s lo hi d at (Folded.Done n) d′
   unfolding expression-words
-  folds-leaf {k} {n} {d′} q h room w e f = by-leaf (λ e. ExpressionHere s lo hi e → Leaves d at (fold-expression first e) (Folded.Done n) d′)
-      (λ v u. leaves-words (appended (sealed (constant v) u q refl (nothing d at) w) (omega (arith, here-long (constant v) u))))
-      (λ i u. leaves-words (appended (sealed (column i) u q refl (nothing d at) w) (omega (arith, here-long (column i) u))))
+  folds-leaf {k} {n} {d′} q h room few w e f = by-leaf (λ e. ExpressionHere s lo hi e → Leaves d at (fold-expression first e) (Folded.Done n) d′)
+      (λ v u. leaves-words (appended (sealed (constant v) u q refl (nothing d at) w) few (omega (arith, here-long (constant v) u))))
+      (λ i u. leaves-words (appended (sealed (column i) u q refl (nothing d at) w) few (omega (arith, here-long (column i) u))))
       e (omega (arith, root-tag e (f .here))) (f .here)
 
   pub unary-refused : {j p : ℕ} {d′ : List ℕ} → 30 ≤ tag-at s hi → Folds text first s lo (hi - 6) d at (Folded.Refused j p) d′
@@ -126,17 +126,17 @@ module _ {text s : List ℕ} {lo hi : ℕ} (first : ℕ) {d : List ℕ} {at : �
       (λ o x f. leaves-refused (fold-expression first x) (λ y. fold (first + size x) (unary o y)) (g x (foldable-operand o x f)))
       e (omega (arith, root-tag e (f .here))) f
 
-  pub unary-done : {c n tag-of : ℕ} {d₁ : List ℕ} {answer : Folded} {d₂ : List ℕ} → 30 ≤ tag-at s hi → tag-of ≡ tag-at s hi → Counts lo (hi - 6) c → at + (hi - lo) ≤ length d → length d₁ ≡ length d
+  pub unary-done : {c n tag-of : ℕ} {d₁ : List ℕ} {answer : Folded} {d₂ : List ℕ} → 30 ≤ tag-at s hi → tag-of ≡ tag-at s hi → Counts lo (hi - 6) c → at + (hi - lo) ≤ length d → Short d → length d₁ ≡ length d
       → Folds text first s lo (hi - 6) d at (Folded.Done n) d₁ → FoldsUnary d₁ at n tag-of (first + c) answer d₂
       → Folds text first s lo hi d at answer d₂
-  unary-done {c} {n} {tag-of} {d₁} {answer} {d₂} h oe k room long g w e f = by-unary (λ e. Foldable text s lo hi e → Leaves d at (fold-expression first e) answer d₂)
+  unary-done {c} {n} {tag-of} {d₁} {answer} {d₂} h oe k room few long g w e f = by-unary (λ e. Foldable text s lo hi e → Leaves d at (fold-expression first e) answer d₂)
       (λ o x f. let i = foldable-operand o x f in
       let j = k (size x) (here-long x (i .here)) in
       let (b, t) = expressions.here-in (unary o x) (f .here) in
       leaves-done (fold-expression first x) (λ y. fold (first + size x) (unary o y)) (g x i)
       (λ y e a. let ((u, s), v) = result-here first x y i e a (omega arith) long in
       leaves-moved (before-stays a (omega arith))
-      (subst (λ (z : ℕ). Leaves d₁ at (fold (first + z) (unary o y)) answer d₂) j (w text o y (sym (oe ∙ root-tag (unary o x) (f .here))) u s (omega arith)))))
+      (subst (λ (z : ℕ). Leaves d₁ at (fold (first + z) (unary o y)) answer d₂) j (w text o y (sym (oe ∙ root-tag (unary o x) (f .here))) u s (omega arith) (omega arith)))))
       e (omega (arith, root-tag e (f .here))) f
 
   module _ {mid : ℕ} (st : mid ≡ start-at s (hi - 6)) (h : 10 ≤ tag-at s hi) (k : tag-at s hi < 30) where
@@ -145,13 +145,13 @@ module _ {text s : List ℕ} {lo hi : ℕ} (first : ℕ) {d : List ℕ} {at : �
         (λ o l r f. leaves-refused (fold-expression first l) (λ x. fold-expression (first + size l) r >>= λ y. fold (first + (size l + size r)) (binary o x y)) (g l (foldable-left st o l r f)))
         e (omega (arith, root-tag e (f .here))) (omega (arith, root-tag e (f .here))) f
 
-    pub right-ready : {m : ℕ} {d₁ : List ℕ} → FoldableAt text s lo hi → at + (hi - lo) ≤ length d → first ≤ lo → length d₁ ≡ length d
+    pub right-ready : {m : ℕ} {d₁ : List ℕ} → FoldableAt text s lo hi → at + (hi - lo) ≤ length d → (first ≤ lo) × Short d → length d₁ ≡ length d
         → Folds text first s lo mid d at (Folded.Done m) d₁ → RightAt text s lo hi d₁ at first mid m
-    right-ready t room numbered long g =
+    right-ready t room (numbered, few) long g =
         let (b₁, b₂) = foldable-in (left-at st h k t) in
         let (b₃, b₄) = foldable-in (right-at st h k t) in
         let q = result-at first (left-at st h k t) g (omega arith) long in
-        record { operator = t; low-tag = h; high-tag = k; starts = st; left = q .stands; room = omega (arith, q .within); numbered = numbered }
+        record { operator = t; low-tag = h; high-tag = k; starts = st; left = q .stands; room = omega (arith, q .within); few = omega arith; numbered = numbered }
 
     pub left-done : {m : ℕ} {d₁ : List ℕ} {answer : Folded} {d₂ : List ℕ} → at + (hi - lo) ≤ length d → length d₁ ≡ length d
         → Folds text first s lo mid d at (Folded.Done m) d₁ → FoldsRight text s lo hi d₁ at first mid m answer d₂ → Folds text first s lo hi d at answer d₂
@@ -206,6 +206,7 @@ module _ {text s : List ℕ} {lo hi : ℕ} {d : List ℕ} {at first mid m : ℕ}
       let (h₁, h₂) = here-in x u in
       let (h₃, h₄) = expressions.here-in r (i .here) in
       let room = t .room in
+      let few = t .few in
       let tag-is = sym (oe ∙ root-tag (binary o l r) (f .here)) in
       leaves-done (fold-expression (first + size l) r) (λ y. fold (first + (size l + size r)) (binary o x y))
       (subst (λ (j : ℕ). Leaves d m (fold-expression (first + j) r) (Folded.Done n) d₁) e₁ (g r i))
@@ -213,7 +214,7 @@ module _ {text s : List ℕ} {lo hi : ℕ} {d : List ℕ} {at first mid m : ℕ}
       let kept = before-stays a h₂ in
       leaves-moved (sym (take-take at m d₁ h₁) ∙ (ap (take at) kept ∙ take-take at m d h₁))
       (subst (λ (j : ℕ). Leaves d₁ at (fold (first + j) (binary o x y)) answer d₂) e₂
-      (w o x y tag-is (here-kept x kept u) v sx sy (sym (z o x tag-is (ke ∙ root-is x u)) ∙ qe) (omega arith))))
+      (w o x y tag-is (here-kept x kept u) v sx sy (sym (z o x tag-is (ke ∙ root-is x u)) ∙ qe) (omega arith) (omega arith))))
 
 -- ---- what fold_right's calls ask
 

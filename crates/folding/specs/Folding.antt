@@ -6,10 +6,12 @@ use lib.ListN.{length}
 use Rattle.sql.specs.Expression.{Binary, Expression, binary, size}
 use Rattle.sql.specs.Answer.{_>>=_}
 use Rattle.sql.specs.Optimizer.{fold, fold-expression}
-use Rattle.cells.specs.Cells.{tag-at, start-at}
+use Rattle.cells.specs.Cells.{cell-words, tag-at, start-at}
+use Rattle.cells.specs.Room.{Short}
 use Rattle.words.specs.Place.{ExpressionHere}
 use Rattle.fold_operator.specs.declared.Folded.{Folded}
 use Rattle.fold_operator.specs.Left.{Constants-fit, Settled, Leaves}
+use Rattle.sheet.specs.Tags
 
 -- e stands in s from word lo up to hi, and its constants fit.
 pub record Foldable (text s : List ℕ) (lo hi : ℕ) (e : Expression) : Type 0 where
@@ -24,7 +26,7 @@ pub record FoldableAt (text s : List ℕ) (lo hi : ℕ) : Type 0 where
 
 -- r cells of six words stand from word lo up to hi.
 abbrev pub Counts : ℕ → ℕ → ℕ → Type 0
-Counts lo hi r = (n : ℕ) → hi ≡ lo + 6 * n → r ≡ n
+Counts lo hi r = (n : ℕ) → hi ≡ lo + cell-words * n → r ≡ n
 
 -- fold-expression of the expression from lo up to hi, whose first cell has the number `first` in the given sheet
 abbrev pub Folds : List ℕ → ℕ → List ℕ → ℕ → ℕ → List ℕ → ℕ → Folded → List ℕ → Type 0
@@ -41,11 +43,12 @@ pub record SettledAt (text d : List ℕ) (at n : ℕ) : Type 0 where
 -- The operator's cell ends before hi, its right operand starts at mid, and what its left one folds to stands in d from `at` up to m, with room for the rest.
 pub record RightAt (text s : List ℕ) (lo hi : ℕ) (d : List ℕ) (at first mid m : ℕ) : Type 0 where
   pub operator : FoldableAt text s lo hi
-  pub low-tag : 10 ≤ tag-at s hi
-  pub high-tag : tag-at s hi < 30
-  pub starts : mid ≡ start-at s (hi - 6)
+  pub low-tag : Tags.binary ≤ tag-at s hi
+  pub high-tag : tag-at s hi < Tags.unary
+  pub starts : mid ≡ start-at s (hi - cell-words)
   pub left : SettledAt text d at m
   pub room : m + (hi - mid) ≤ length d
+  pub few : Short d
   pub numbered : first ≤ lo
 
 abbrev pub FoldsRight : List ℕ → List ℕ → ℕ → ℕ → List ℕ → ℕ → ℕ → ℕ → ℕ → Folded → List ℕ → Type 0

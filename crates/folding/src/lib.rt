@@ -3,6 +3,7 @@ use fold_operator::Folded;
 ghost use Prim.Native.Nat.{ℕ, _+_, _-_, _≤_, _<_};
 ghost use mathlib.Core.Path.{_≡_};
 ghost use lib.ListN.{length};
+ghost use Rattle.cells.specs.Room.{Short};
 ghost use Rattle.folding.specs.Folding.{Counts, FoldableAt, Folds, RightAt, FoldsRight};
 
 // The number of cells from word lo up to hi.
@@ -10,30 +11,30 @@ fn count(lo: usize, hi: usize) -> usize
     requires { ⌜ lo ≤ hi ⌝ }
     ensures { λ r. ⌜ Counts lo hi r ⌝ }
 {
-    (hi - lo) / 6
+    (hi - lo) / cells::CELL_WORDS
 }
 
 // All of the expression from lo to hi, operands first. `first` is the number of its first cell in the given sheet. What is written is never longer than
 // the expression, so that there is always room.
 pub fn fold_expression(
     text: &[u8],
-    s: &[usize],
+    s: &[u32],
     lo: usize,
     hi: usize,
-    d: &mut [usize],
+    d: &mut [u32],
     at: usize,
     first: usize,
 ) -> Folded
     requires { ⌜ FoldableAt (now text) (now s) lo hi ⌝ }
-    requires { ⌜ (at + (hi - lo) ≤ length (now d)) × (first ≤ lo) ⌝ }
+    requires { ⌜ (at + (hi - lo) ≤ length (now d)) × ((first ≤ lo) × Short (now d)) ⌝ }
     ensures { λ r. ⌜ Folds (now (text .entry)) first (now (s .entry)) lo hi (now (d .entry)) at r (now (d .exit)) ⌝ }
 {
     let k = cells::cell_at(s, hi);
-    if k.tag < 10 {
+    if k.tag < tags::BINARY {
         return Folded::Done(cells::put(d, at, at, k));
     }
-    let end = hi - 6;
-    if 30 <= k.tag {
+    let end = hi - cells::CELL_WORDS;
+    if tags::UNARY <= k.tag {
         return match fold_operand(text, s, lo, end, d, at, first) {
             Folded::Done(n) => fold_operator::fold_unary(d, at, n, k.tag, first + count(lo, end)),
             Folded::Refused(number, place) => Folded::Refused(number, place),
@@ -50,19 +51,19 @@ pub fn fold_expression(
 // callers).
 fn fold_operand(
     text: &[u8],
-    s: &[usize],
+    s: &[u32],
     lo: usize,
     hi: usize,
-    d: &mut [usize],
+    d: &mut [u32],
     at: usize,
     first: usize,
 ) -> Folded
     requires { ⌜ FoldableAt (now text) (now s) lo hi ⌝ }
-    requires { ⌜ (at + (hi - lo) ≤ length (now d)) × (first ≤ lo) ⌝ }
+    requires { ⌜ (at + (hi - lo) ≤ length (now d)) × ((first ≤ lo) × Short (now d)) ⌝ }
     ensures { λ r. ⌜ Folds (now (text .entry)) first (now (s .entry)) lo hi (now (d .entry)) at r (now (d .exit)) ⌝ }
 {
     let k = cells::cell_at(s, hi);
-    if k.tag < 10 {
+    if k.tag < tags::BINARY {
         return Folded::Done(cells::put(d, at, at, k));
     }
     fold_expression(text, s, lo, hi, d, at, first)
@@ -72,10 +73,10 @@ fn fold_operand(
 // right one, which is then written in its place.
 fn fold_right(
     text: &[u8],
-    s: &[usize],
+    s: &[u32],
     lo: usize,
     hi: usize,
-    d: &mut [usize],
+    d: &mut [u32],
     at: usize,
     first: usize,
     mid: usize,
@@ -85,7 +86,7 @@ fn fold_right(
     ensures { λ r. ⌜ FoldsRight (now (text .entry)) (now (s .entry)) lo hi (now (d .entry)) at first mid m r (now (d .exit)) ⌝ }
 {
     let o = cells::tag_at(s, hi);
-    let end = hi - 6;
+    let end = hi - cells::CELL_WORDS;
     let next = first + count(lo, mid);
     let place = first + count(lo, end);
     if fold_operator::is_neutral(o, cells::cell_at(d, m)) {

@@ -25,6 +25,7 @@ use Rattle.decode.proofs.Laws.{whole}
 use Rattle.encode.specs.Encode.{Lengths, Encodable, Encodes}
 use Rattle.checker.specs.Checker.{numbers}
 use Rattle.checker.specs.declared.Answer as Code
+use Rattle.cells.specs.Room.{most-words}
 use Rattle.fold_operator.specs.declared.Folded.{Folded}
 use Rattle.fold_operator.specs.declared.Folded.the-variants as Folded
 use Rattle.passes.specs.Passes.{Left, Leaves}
@@ -49,7 +50,7 @@ module _ {s x : List ℕ} {n : ℕ} {node m : Node} (w : Written-in s x n node m
   written-by : (out : List ℕ) (b c : Bool) → b ≡ c → written s out m (write s m) b ≡ written s out m (write s m) c
   written-by out b c e = ap (written s out m (write s m)) e
 
-pub asked-length : {s x : List ℕ} {n : ℕ} → WrittenAt s x n → Whole s × (n ≤ 16777216)
+pub asked-length : {s x : List ℕ} {n : ℕ} → WrittenAt s x n → Whole s × (n ≤ most-words)
 asked-length at = (whole-of (at .there), omega (arith, at .there .inside, at .short))
 
 pub encodable : {s x : List ℕ} {n : ℕ} {out : List ℕ} {needed : ℕ} → WrittenAt s x n → Lengths s n needed → needed ≤ length out → Encodable s x n out

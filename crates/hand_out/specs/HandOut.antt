@@ -14,6 +14,7 @@ use Rattle.words.specs.Words.{node-words}
 use Rattle.kept.specs.Kept.{Kept}
 use Rattle.checker.specs.Checker.{numbers}
 use Rattle.checker.specs.declared.Answer as Code
+use Rattle.cells.specs.Room.{most-words}
 use Rattle.fold_operator.specs.declared.Folded.{Folded}
 use Rattle.passes.specs.Passes.{Leaves}
 
@@ -36,7 +37,7 @@ pub record WrittenAt (s x : List ℕ) (n : ℕ) : Type 0 where
   pub node : Node
   pub m : Node
   pub there : Written-in s x n node m
-  pub short : length x ≤ 16777216
+  pub short : length x ≤ most-words
 
 abbrev pub Writes : (s x : List ℕ) (n count : ℕ) (out : List ℕ) → Code.Answer → List ℕ → Type 0
 Writes s x n count out a out′ =
@@ -49,7 +50,7 @@ pub record AnsweredAt (s x : List ℕ) (r : Folded) : Type 0 where
   pub is : plan s ≡ done node
   pub answer : Answer Node
   pub leaves : Leaves (Fit s node) x answer r
-  pub short : length x ≤ 16777216
+  pub short : length x ≤ most-words
 
 abbrev pub HandsOut : (s x : List ℕ) → Folded → (count : ℕ) (out : List ℕ) → Code.Answer → List ℕ → Type 0
 HandsOut s x r count out a out′ =

@@ -4,7 +4,7 @@ use fold_operator::Folded;
 ghost use Rattle.hand_out.specs.HandOut.{WrittenAt, Writes, AnsweredAt, HandsOut};
 
 // The plan in the first n words of x, which has so many columns, as a sheet like s; or refusal 15, with the number of bytes needed.
-fn write(s: &[u8], x: &[usize], n: usize, columns: usize, out: &mut [u8]) -> Answer
+fn write(s: &[u8], x: &[u32], n: usize, columns: usize, out: &mut [u8]) -> Answer
     requires { ⌜ WrittenAt (now s) (now x) n ⌝ }
     ensures { λ r. ⌜ Writes (now (s .entry)) (now (x .entry)) n columns (now (out .entry)) r (now (out .exit)) ⌝ }
 {
@@ -17,13 +17,13 @@ fn write(s: &[u8], x: &[usize], n: usize, columns: usize, out: &mut [u8]) -> Ans
         number: 0,
         place: 0,
         length,
-        cells: n / 6,
+        cells: n / cells::CELL_WORDS,
         columns,
     }
 }
 
 // What a run on the plan of s, which has so many columns, has left in x.
-pub fn hand_out(s: &[u8], x: &[usize], r: Folded, columns: usize, out: &mut [u8]) -> Answer
+pub fn hand_out(s: &[u8], x: &[u32], r: Folded, columns: usize, out: &mut [u8]) -> Answer
     requires { ⌜ AnsweredAt (now s) (now x) r ⌝ }
     ensures { λ a. ⌜ HandsOut (now (s .entry)) (now (x .entry)) r columns (now (out .entry)) a (now (out .exit)) ⌝ }
 {

@@ -262,4 +262,4 @@ module _ {widths x : List ℕ} {lo hi tail : ℕ} {y : List ℕ} {at : ℕ} wher
       → Streams (λ schema. Tables schema widths) (λ room schema rest p. done (HashJoin schema p)) x lo hi tail y at n y′
   writes-streams k a schema text tables lent room rest p h =
       written-done (HashJoin schema p) (hash-keeps schema text tables p (h .fit .0)) k
-      (omega (arith, reading-total h, words-long p, words-long (HashJoin schema p), hash-smaller schema p)) (a schema p lent (h .here))
+      (omega (arith, reading-total h, words-long p, words-long (HashJoin schema p), hash-smaller schema p)) (h .shares .short) (a schema p lent (h .here))

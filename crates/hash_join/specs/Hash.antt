@@ -17,6 +17,7 @@ use Rattle.nodes.specs.Own.{OwnStart}
 use Rattle.nodes.specs.Columns.{Tables}
 use Rattle.hash_join.specs.declared.HashColumns.{HashColumns}
 use Rattle.hash_join.specs.declared.HashColumns.the-variants.{Pair, None}
+use Rattle.sheet.specs.Tags
 
 abbrev pub sides : HashColumns → Option (ℕ × ℕ)
 sides (Pair left right) = some (left .0, right .0)
@@ -29,7 +30,7 @@ hash-sides n (some pair) = cond (ltb (pair .0) n && not (ltb (pair .1) n)) (some
 
 -- a HashJoin's cell from a NestedLoopJoin's
 abbrev pub hash-cell : Cell → ℕ → ℕ → Cell
-hash-cell nested left right = record { tag = 52; flag = nested .flag / 2; a = left; b = right; c = 0 }
+hash-cell nested left right = record { tag = Tags.hash-join; flag = nested .flag / 2; a = left; b = right; c = 0 }
 
 -- Some join ends before hi, and its own words start at m.
 pub record JoinAt (x : List ℕ) (m hi : ℕ) : Type 0 where

@@ -40,7 +40,7 @@ fn hash_join_cell(
     ensures { λ r. ⌜ r ≡ hash-cell nested (left .0) (right .0) ⌝ }
 {
     cells::Cell {
-        tag: 52,
+        tag: tags::HASH_JOIN,
         flag: nested.flag / 2,
         a: left.0,
         b: right.0,
@@ -50,19 +50,11 @@ fn hash_join_cell(
 
 // hash_join of the join that ends before hi, whose own words start at m and whose left source has n columns: behind its sources, which were written to y
 // from lo up to at.
-fn hash_join(
-    x: &[usize],
-    m: usize,
-    hi: usize,
-    y: &mut [usize],
-    lo: usize,
-    at: usize,
-    n: usize,
-) -> usize
+fn hash_join(x: &[u32], m: usize, hi: usize, y: &mut [u32], lo: usize, at: usize, n: usize) -> usize
     requires { ⌜ JoinAt (now x) m hi ⌝ }
     ensures { λ r. ⌜ Rewrites n (now (x .entry)) m hi (now (y .entry)) lo at r (now (y .exit)) ⌝ }
 {
-    let end = hi - 6;
+    let end = hi - cells::CELL_WORDS;
     if m == end {
         return stream::finish(x, m, hi, y, lo, at);
     }
@@ -75,7 +67,7 @@ fn hash_join(
 }
 
 // The columns of the node from lo to hi over one source, which has n columns.
-fn over_columns(x: &[usize], lo: usize, hi: usize, widths: &[usize], m: usize, n: usize) -> usize
+fn over_columns(x: &[u32], lo: usize, hi: usize, widths: &[usize], m: usize, n: usize) -> usize
     requires { ⌜ ColumnsAt (now widths) (now x) lo hi ⌝ }
     requires { ⌜ SourceCount (now x) lo hi 1 ⌝ }
     requires { ⌜ OwnStart (now x) lo hi m ⌝ }
@@ -83,10 +75,10 @@ fn over_columns(x: &[usize], lo: usize, hi: usize, widths: &[usize], m: usize, n
     ensures { λ r. ⌜ ColumnCount (now (widths .entry)) (now (x .entry)) lo hi r ⌝ }
 {
     let tag = cells::tag_at(x, hi);
-    if tag == 50 {
+    if tag == tags::AGGREGATE {
         return nodes::columns(x, lo, hi, widths);
     }
-    if 60 <= tag {
+    if tags::PROJECTION <= tag {
         return nodes::columns(x, lo, hi, widths);
     }
     n
@@ -100,10 +92,10 @@ struct Written {
 
 // The node from lo to hi with all its joins rewritten.
 fn hash_joins(
-    x: &[usize],
+    x: &[u32],
     lo: usize,
     hi: usize,
-    y: &mut [usize],
+    y: &mut [u32],
     at: usize,
     widths: &[usize],
 ) -> Written
@@ -136,10 +128,10 @@ fn hash_joins(
 
 // hash_joins of a node's source. A source of one cell, as a Scan without a filter, stays as it is, and needs no call of hash_joins.
 fn hash_joins_of_source(
-    x: &[usize],
+    x: &[u32],
     lo: usize,
     hi: usize,
-    y: &mut [usize],
+    y: &mut [u32],
     at: usize,
     widths: &[usize],
 ) -> Written
@@ -147,7 +139,7 @@ fn hash_joins_of_source(
     ensures { λ r. ⌜ Writes (now (widths .entry)) (now (x .entry)) lo hi (now (y .entry)) at (r .end) (now (y .exit)) ⌝ }
     ensures { λ r. ⌜ ColumnCount (now (widths .entry)) (now (x .entry)) lo hi (r .columns) ⌝ }
 {
-    if hi - lo == 6 {
+    if hi - lo == cells::CELL_WORDS {
         let columns = nodes::columns(x, lo, hi, widths);
         let end = cells::copy(x, lo, hi, y, at);
         return Written { end, columns };
@@ -156,7 +148,7 @@ fn hash_joins_of_source(
 }
 
 // The pass: the plan in the first t words of x is written to y.
-pub fn optimize(x: &[usize], t: usize, y: &mut [usize], widths: &[usize]) -> usize
+pub fn optimize(x: &[u32], t: usize, y: &mut [u32], widths: &[usize]) -> usize
     requires { ⌜ StreamAt (λ schema. Tables schema (now widths)) (now x) 0 t 0 (now y) 0 ⌝ }
     ensures { λ r. ⌜ Streams (λ schema. Tables schema (now (widths .entry))) (λ room schema rest p. done (HashJoin schema p)) (now (x .entry)) 0 t 0 (now (y .entry)) 0 r (now (y .exit)) ⌝ }
 {

@@ -132,7 +132,8 @@ quotient (finite s u) nan = no-number
 quotient (finite s u) (infinite t) = exactly (with-sign (unlike s t) 0)
 quotient (finite s u) (finite t v) = quotient-of (unlike s t) u v
 
--- The other sign, of a zero too. It rounds nothing, so it goes from pattern to pattern.
+-- The other sign, of a zero too. It rounds nothing, so it goes from pattern to pattern. A NaN gives the one pattern, as document 01 asks; IEEE 754 would turn its
+-- sign's bit alone.
 abbrev pub negation : ℕ → Result
 negation b = cond (ltb infinity (without-sign b)) no-number (exactly (with-sign (not (negative b)) (without-sign b)))
 

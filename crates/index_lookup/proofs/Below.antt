@@ -46,7 +46,7 @@ module _ {x : List ℕ} {n lo hi left end : ℕ} (d : GoesDown x n lo hi left en
         record {
           fit = chain-source (kept schema text tables) os p (h .fit);
           here = v;
-          shares = record { all = h .shares .all; outside = omega (arith, chain-end os p (h .here) v, h .shares .outside) };
+          shares = record { all = h .shares .all; short = h .shares .short; outside = omega (arith, chain-end os p (h .here) v, h .shares .outside) };
           fits = omega (arith, chain-end os p (h .here) v, v .part .high, h .fits);
         }
 
@@ -93,5 +93,5 @@ module _ {x : List ℕ} {n lo hi left end : ℕ} (d : GoesDown x n lo hi left en
             let i : at ≤ length y = omega (arith, h .fits) in
             written-done (chain os q) (chain-with (kept schema text tables) os p q (h .fit) (s .is .1 .1)) (k₂ ∙ k₁)
             (omega (arith, done-long q i s, s .is .0, chain-end os p (h .here) v, chain-long os q))
-            (f .over-node lo os p q (h .here) v y k₁ (done-wrote q i s k₁))
+            (h .shares .short) (f .over-node lo os p q (h .here) v y k₁ (done-wrote q i s k₁))
         go os p v h (refused number place) s = record { is = (omega (arith, f .full (s .is .0)), s .is .1) }

@@ -9,14 +9,14 @@ ghost use Rattle.lookup_step.specs.Lookup.{Lent};
 // IndexLookup of the node from lo to hi, whose sources are visited left before right. A chain of nodes that stay as they are is gone through without a frame
 // for each (crate chain). What is lent beside x and y is for the step (crate lookup_step).
 pub fn transform(
-    x: &[usize],
+    x: &[u32],
     lo: usize,
     hi: usize,
     tail: usize,
-    y: &mut [usize],
+    y: &mut [u32],
     at: usize,
-    z: &mut [usize],
-    w: &mut [usize],
+    z: &mut [u32],
+    w: &mut [u32],
     widths: &[usize],
     keys: &[usize],
     columns: &[u8],
@@ -59,14 +59,14 @@ pub fn transform(
 
 // transform of a node's source. A source of one cell, as a Scan without a filter, stays as it is, and needs no call of transform.
 fn transform_source(
-    x: &[usize],
+    x: &[u32],
     lo: usize,
     hi: usize,
     tail: usize,
-    y: &mut [usize],
+    y: &mut [u32],
     at: usize,
-    z: &mut [usize],
-    w: &mut [usize],
+    z: &mut [u32],
+    w: &mut [u32],
     widths: &[usize],
     keys: &[usize],
     columns: &[u8],
@@ -75,7 +75,7 @@ fn transform_source(
     requires { ⌜ (length (now z) ≡ length (now y)) × (length (now w) ≡ length (now y)) ⌝ }
     ensures { λ r. ⌜ Streams (Lent (now (widths .entry)) (now (keys .entry)) (now (columns .entry))) IndexLookup (now (x .entry)) lo hi tail (now (y .entry)) at r (now (y .exit)) ⌝ }
 {
-    if hi - lo == 6 {
+    if hi - lo == cells::CELL_WORDS {
         return cells::copy(x, lo, hi, y, at);
     }
     transform(x, lo, hi, tail, y, at, z, w, widths, keys, columns)

@@ -24,6 +24,7 @@ use Rattle.labels.specs.declared.Origin.the-variants.{Said, Column}
 use Rattle.labels.specs.declared.Spot.{Spot}
 use Rattle.labels.specs.declared.Next.{Next}
 use Rattle.labels.specs.declared.Next.the-variants.{Done, More}
+use Rattle.sheet.specs.Tags
 
 -- ---- what the code's values say
 
@@ -83,11 +84,11 @@ Routes s lo hi i r =
 
 -- whether a cell of a Scan (bit 1 of its flag) or of a lookup says an alias
 abbrev pub is-aliased : (tag flag : ℕ) → Bool
-is-aliased tag flag = cond (eqb tag 62) (leb 2 flag) (leb 1 flag)
+is-aliased tag flag = cond (eqb tag Tags.scan) (leb 2 flag) (leb 1 flag)
 
 -- Aggregate, Projection and Remap, among the nodes with one source
 abbrev pub says-columns : ℕ → Bool
-says-columns tag = eqb tag 50 || leb 60 tag
+says-columns tag = eqb tag Tags.aggregate || leb Tags.projection tag
 
 -- r is the origin of column i's label of the node there, if that has no source.
 abbrev pub LeafOrigin : List ℕ → ℕ → ℕ → ℕ → Origin → Type 0

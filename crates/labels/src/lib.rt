@@ -16,8 +16,8 @@ ghost use Rattle.labels.specs.Labels.{Labelled, ExpressionRoute, Express
 // The label of a column: none, a name, or a name behind its qualifier, a table's name or alias; all are text references.
 pub enum Label {
     Unlabelled,
-    Unqualified(usize),
-    Qualified(usize, usize),
+    Unqualified(u32),
+    Qualified(u32, u32),
 }
 
 // Where a node has the label of a column from: a column of its source, or what it says itself.
@@ -29,7 +29,7 @@ pub enum Route {
 // What a label comes from: a node that says it; or a table's column: the table, whether there is an alias, the alias, and the column.
 pub enum Origin {
     Said(Label),
-    Column(usize, bool, usize, usize),
+    Column(usize, bool, u32, usize),
 }
 
 // A column of the node from lo to hi, which has so many columns; their number is right where they are those of its sources, and isn't asked for elsewhere.
@@ -47,7 +47,7 @@ pub enum Next {
 }
 
 // The label that the cell of a Label or an Item says.
-fn label_in(flag: usize, a: usize, b: usize) -> Label
+fn label_in(flag: u32, a: u32, b: u32) -> Label
     ensures { λ r. ⌜ Labelled flag a b r ⌝ }
 {
     if flag == 0 {
@@ -60,76 +60,80 @@ fn label_in(flag: usize, a: usize, b: usize) -> Label
 }
 
 // Of the expression that ends before hi.
-fn expression_route(s: &[usize], hi: usize) -> Route
+fn expression_route(s: &[u32], hi: usize) -> Route
     requires { ⌜ ExpressionEnds (now s) hi ⌝ }
     ensures { λ r. ⌜ ExpressionRoute (now (s .entry)) hi r ⌝ }
 {
     let c = cells::cell_at(s, hi);
-    if c.tag == 6 {
-        return Route::To(c.a);
+    if c.tag == tags::COLUMN {
+        return Route::To(c.a as usize);
     }
     Route::Ends(Label::Unlabelled)
 }
 
 // Of the Item that ends before hi.
-fn item_route(s: &[usize], hi: usize) -> Route
+fn item_route(s: &[u32], hi: usize) -> Route
     requires { ⌜ ItemEnds (now s) hi ⌝ }
     ensures { λ r. ⌜ ItemRoute (now (s .entry)) hi r ⌝ }
 {
     let c = cells::cell_at(s, hi);
     if c.flag == 0 {
-        return expression_route(s, hi - 6);
+        return expression_route(s, hi - cells::CELL_WORDS);
     }
     Route::Ends(label_in(c.flag, c.a, c.b))
 }
 
 // Of column i of the Projection that ends before hi.
-fn projection_route(s: &[usize], lo: usize, hi: usize, i: usize) -> Route
+fn projection_route(s: &[u32], lo: usize, hi: usize, i: usize) -> Route
     requires { ⌜ NodeAt (now s) lo hi ⌝ }
     requires { ⌜ tag-at (now s) hi ≡ 60 ⌝ }
     ensures { λ r. ⌜ Routes (now (s .entry)) lo hi i r ⌝ }
 {
     let c = cells::cell_at(s, hi);
-    if c.a <= i {
+    if c.a as usize <= i {
         return Route::Ends(Label::Unlabelled);
     }
-    let end = nodes::trees_start(s, c.a - 1 - i, hi - 6);
+    let end = nodes::trees_start(s, c.a as usize - 1 - i, hi - cells::CELL_WORDS);
     item_route(s, end)
 }
 
 // Of column i of the Aggregate that ends before hi.
-fn aggregate_route(s: &[usize], lo: usize, hi: usize, i: usize) -> Route
+fn aggregate_route(s: &[u32], lo: usize, hi: usize, i: usize) -> Route
     requires { ⌜ NodeAt (now s) lo hi ⌝ }
     requires { ⌜ tag-at (now s) hi ≡ 50 ⌝ }
     ensures { λ r. ⌜ Routes (now (s .entry)) lo hi i r ⌝ }
 {
     let c = cells::cell_at(s, hi);
-    if c.a <= i {
+    if c.a as usize <= i {
         return Route::Ends(Label::Unlabelled);
     }
-    let end = nodes::trees_start(s, c.a - 1 - i + c.b, hi - 6);
+    let end = nodes::trees_start(
+        s,
+        c.a as usize - 1 - i + c.b as usize,
+        hi - cells::CELL_WORDS,
+    );
     expression_route(s, end)
 }
 
 // Whether a Target's cell says target i.
-fn hits(flag: usize, a: usize, i: usize) -> bool
+fn hits(flag: u32, a: u32, i: usize) -> bool
     ensures { λ r. ⌜ r ≡ (eqb flag 1 && eqb a i) ⌝ }
 {
     if flag == 1 {
-        return a == i;
+        return a as usize == i;
     }
     false
 }
 
 // Of column i under the Targets from lo to hi.
-fn remap_route(s: &[usize], lo: usize, hi: usize, i: usize) -> Route
+fn remap_route(s: &[u32], lo: usize, hi: usize, i: usize) -> Route
     requires { ⌜ TargetsUp (now s) lo hi ⌝ }
     ensures { λ r. ⌜ RemapRoute (now (s .entry)) lo hi i r ⌝ }
 {
     let mut from: usize = 0;
     let mut at = lo;
     while at < hi {
-        at += 6;
+        at += cells::CELL_WORDS;
         let c = cells::cell_at(s, at);
         if hits(c.flag, c.a, i) {
             return Route::To(from);
@@ -140,7 +144,7 @@ fn remap_route(s: &[usize], lo: usize, hi: usize, i: usize) -> Route
 }
 
 // Of column i of an Aggregate, a Projection or a Remap, whose own words start at m.
-fn own_route(s: &[usize], lo: usize, hi: usize, m: usize, i: usize) -> Route
+fn own_route(s: &[u32], lo: usize, hi: usize, m: usize, i: usize) -> Route
     requires { ⌜ NodeAt (now s) lo hi ⌝ }
     requires { ⌜ SourceCount (now s) lo hi 1 ⌝ }
     requires { ⌜ OwnStart (now s) lo hi m ⌝ }
@@ -148,58 +152,58 @@ fn own_route(s: &[usize], lo: usize, hi: usize, m: usize, i: usize) -> Route
     ensures { λ r. ⌜ Routes (now (s .entry)) lo hi i r ⌝ }
 {
     let t = cells::tag_at(s, hi);
-    if t == 50 {
+    if t == tags::AGGREGATE {
         return aggregate_route(s, lo, hi, i);
     }
-    if t == 60 {
+    if t == tags::PROJECTION {
         return projection_route(s, lo, hi, i);
     }
-    remap_route(s, m, hi - 6, i)
+    remap_route(s, m, hi - cells::CELL_WORDS, i)
 }
 
 // Whether the cell of a Scan or a lookup says an alias.
-fn aliased(tag: usize, flag: usize) -> bool
+fn aliased(tag: u32, flag: u32) -> bool
     ensures { λ r. ⌜ r ≡ is-aliased tag flag ⌝ }
 {
-    if tag == 62 {
+    if tag == tags::SCAN {
         return 2 <= flag;
     }
     1 <= flag
 }
 
 // What the label of column i of a node without sources comes from.
-fn leaf_origin(s: &[usize], lo: usize, hi: usize, i: usize) -> Origin
+fn leaf_origin(s: &[u32], lo: usize, hi: usize, i: usize) -> Origin
     requires { ⌜ NodeAt (now s) lo hi ⌝ }
     requires { ⌜ SourceCount (now s) lo hi 0 ⌝ }
     ensures { λ r. ⌜ LeafOrigin (now (s .entry)) lo hi i r ⌝ }
 {
     let c = cells::cell_at(s, hi);
-    if c.tag == 57 {
-        if c.a <= i {
+    if c.tag == tags::NOTHING {
+        if c.a as usize <= i {
             return Origin::Said(Label::Unlabelled);
         }
-        let k = cells::cell_at(s, lo + 6 * i + 6);
+        let k = cells::cell_at(s, lo + cells::CELL_WORDS * i + cells::CELL_WORDS);
         return Origin::Said(label_in(k.flag, k.a, k.b));
     }
-    if c.tag == 63 {
+    if c.tag == tags::VALUES {
         return Origin::Said(Label::Unlabelled);
     }
-    Origin::Column(c.a, aliased(c.tag, c.flag), c.b, i)
+    Origin::Column(c.a as usize, aliased(c.tag, c.flag), c.b, i)
 }
 
 // Whether a node with this tag says its columns itself: an Aggregate, a Projection, a Remap, a Scan or a Values. A leaf of another tag isn't asked.
-pub fn says_columns(tag: usize) -> bool
+pub fn says_columns(tag: u32) -> bool
     ensures { λ r. ⌜ r ≡ says-columns tag ⌝ }
 {
-    if tag == 50 {
+    if tag == tags::AGGREGATE {
         return true;
     }
-    60 <= tag
+    tags::PROJECTION <= tag
 }
 
 // The number of columns of the node from lo to hi, which is asked for only where they are those of its sources. So 0 stands for a Remap's, which would be
 // found by going through all its Targets for each label, and for that of an Aggregate, a Projection, a Scan or a Values.
-fn columns_for(s: &[usize], lo: usize, hi: usize, widths: &[usize]) -> usize
+fn columns_for(s: &[u32], lo: usize, hi: usize, widths: &[usize]) -> usize
     requires { ⌜ ColumnsAt (now widths) (now s) lo hi ⌝ }
     ensures { λ r. ⌜ AskedCount (now (widths .entry)) (now (s .entry)) lo hi r ⌝ }
 {
@@ -211,7 +215,7 @@ fn columns_for(s: &[usize], lo: usize, hi: usize, widths: &[usize]) -> usize
 
 // One step from column i of a node with one source, which ends at m; the node has w columns, where that is asked for.
 fn next_over(
-    s: &[usize],
+    s: &[u32],
     lo: usize,
     hi: usize,
     m: usize,
@@ -253,7 +257,7 @@ fn next_over(
 // The number of columns of the left source, which ends at mid, of a node whose right source ends at m and that has w columns. The shorter source is
 // counted, so that the counts on the way to a column are never long.
 fn left_columns(
-    s: &[usize],
+    s: &[u32],
     lo: usize,
     hi: usize,
     m: usize,
@@ -276,7 +280,7 @@ fn left_columns(
 
 // One step from column i of a node with two sources, of which the right one ends at m; the node has w columns.
 fn next_join(
-    s: &[usize],
+    s: &[u32],
     lo: usize,
     hi: usize,
     m: usize,
@@ -308,7 +312,7 @@ fn next_join(
 }
 
 // One step from column i of the node from lo to hi, which has w columns, where that is asked for.
-fn next_of(s: &[usize], lo: usize, hi: usize, i: usize, w: usize, widths: &[usize]) -> Next
+fn next_of(s: &[u32], lo: usize, hi: usize, i: usize, w: usize, widths: &[usize]) -> Next
     requires { ⌜ CountedAt (now widths) (now s) lo hi w ⌝ }
     ensures { λ r. ⌜ Steps (now (widths .entry)) (now (s .entry)) lo hi i w r ⌝ }
 {
@@ -324,7 +328,7 @@ fn next_of(s: &[usize], lo: usize, hi: usize, i: usize, w: usize, widths: &[usiz
 }
 
 // What the label of column i of the node from lo to hi comes from; the node has w columns.
-fn trace(s: &[usize], lo: usize, hi: usize, i: usize, w: usize, widths: &[usize]) -> Origin
+fn trace(s: &[u32], lo: usize, hi: usize, i: usize, w: usize, widths: &[usize]) -> Origin
     requires { ⌜ ColumnsAt (now widths) (now s) lo hi ⌝ }
     requires { ⌜ ColumnCount (now widths) (now s) lo hi w ⌝ }
     ensures { λ r. ⌜ Traces (now (widths .entry)) (now (s .entry)) lo hi i r ⌝ }
@@ -359,6 +363,16 @@ fn entry(list: &[usize], i: usize) -> usize
     0
 }
 
+// The same of names.
+fn name_of(names: &[u32], i: usize) -> u32
+    ensures { λ r. ⌜ r ≡ getD (now (names .entry)) i 0 ⌝ }
+{
+    if i < names.len() {
+        return names[i];
+    }
+    0
+}
+
 // Where table t's columns start among all columns.
 pub fn first_column(widths: &[usize], t: usize) -> usize
     requires { ⌜ first-column (now widths) t ≤ 256 ⌝ }
@@ -374,18 +388,18 @@ pub fn first_column(widths: &[usize], t: usize) -> usize
 }
 
 // The name of column i of table t, or 0 where there is none. It is the first word of the column's record, of 16 bytes.
-fn column_name(t: usize, i: usize, widths: &[usize], names: &[usize], columns: &[u8]) -> usize
+fn column_name(t: usize, i: usize, widths: &[usize], names: &[u32], columns: &[u8]) -> u32
     requires { ⌜ NamesAt (now widths) (now names) (now columns) ⌝ }
     ensures { λ r. ⌜ ColumnName (now (widths .entry)) (now (names .entry)) (now (columns .entry)) t i r ⌝ }
 {
     if entry(widths, t) <= i {
         return 0;
     }
-    layout::word_at(columns, (first_column(widths, t) + i) * 16)
+    layout::word_at(columns, (first_column(widths, t) + i) * 16) as u32
 }
 
 // The alias if there is one, also an empty one, otherwise the table's name; both are text references.
-pub fn qualifier(aliased: bool, alias: usize, name: usize) -> usize
+pub fn qualifier(aliased: bool, alias: u32, name: u32) -> u32
     ensures { λ r. ⌜ r ≡ Plan.qualifier (alias-if aliased alias) name ⌝ }
 {
     if aliased {
@@ -407,29 +421,29 @@ pub fn qualifier_text<'a>(aliased: bool, alias: &'a [u8], name: &'a [u8]) -> &'a
 fn table_label(
     t: usize,
     aliased: bool,
-    alias: usize,
+    alias: u32,
     i: usize,
     widths: &[usize],
-    names: &[usize],
+    names: &[u32],
     columns: &[u8],
 ) -> Label
     requires { ⌜ NamesAt (now widths) (now names) (now columns) ⌝ }
     ensures { λ r. ⌜ TableLabel (now (widths .entry)) (now (names .entry)) (now (columns .entry)) t aliased alias i r ⌝ }
 {
-    let q = qualifier(aliased, alias, entry(names, t));
+    let q = qualifier(aliased, alias, name_of(names, t));
     Label::Qualified(q, column_name(t, i, widths, names, columns))
 }
 
 // The label of column i of the node from lo to hi, which has w columns: who asks for all labels counts them once. widths[t] is the number of columns of
 // table t, names[t] its name, and columns are the records of all columns, table by table.
 pub fn column_label(
-    s: &[usize],
+    s: &[u32],
     lo: usize,
     hi: usize,
     i: usize,
     w: usize,
     widths: &[usize],
-    names: &[usize],
+    names: &[u32],
     columns: &[u8],
 ) -> Label
     requires { ⌜ ColumnsAt (now widths) (now s) lo hi ⌝ }

@@ -20,12 +20,26 @@ fn wide(x: u8) -> usize
     x as usize
 }
 
+fn short(x: u8) -> u32
+    ensures { λ r. ⌜ (r ≡ x) × (r < 256) ⌝ }
+{
+    x as u32
+}
+
 // The byte i.
 pub fn byte_at(s: &[u8], i: usize) -> usize
     requires { ⌜ i < length (now s) ⌝ }
     ensures { λ r. ⌜ Number 256 (byte (now (s .entry)) i) r ⌝ }
 {
     wide(s[i])
+}
+
+// The byte i as a tag. Tags are `u32`, as in the working form of plans.
+fn tag_at(s: &[u8], i: usize) -> u32
+    requires { ⌜ i < length (now s) ⌝ }
+    ensures { λ r. ⌜ Number 256 (byte (now (s .entry)) i) r ⌝ }
+{
+    short(s[i])
 }
 
 // The number of 2 bytes that starts at byte i.
@@ -310,7 +324,7 @@ pub fn bad_record(s: &[u8]) -> Found
 
 // A cell: tag, flag, two zeros, and the numbers a, b, c.
 pub struct Cell {
-    pub tag: usize,
+    pub tag: u32,
     pub flag: usize,
     pub zeros: usize,
     pub a: usize,
@@ -324,7 +338,7 @@ pub fn cell_from(s: &[u8], i: usize) -> Cell
     ensures { λ r. ⌜ IsCell (cell-from (now (s .entry)) i) r ⌝ }
 {
     Cell {
-        tag: byte_at(s, i),
+        tag: tag_at(s, i),
         flag: byte_at(s, i + 1),
         zeros: half_at(s, i + 2),
         a: word_at(s, i + 4),
@@ -351,117 +365,117 @@ const UNKNOWN: usize = 0x0000;
 const NOT_CARRIED: usize = 0x0010;
 
 // 1 Null, 2 Boolean, 3 Integer, 4 Float, 5 String, 6 Column.
-fn row_to_9(tag: usize) -> usize
+fn row_to_9(tag: u32) -> usize
     requires { ⌜ tag < 10 ⌝ }
     ensures { λ r. ⌜ tag-from r ≡ tag-of tag ⌝ }
 {
-    if 6 < tag {
+    if tags::COLUMN < tag {
         return UNKNOWN;
     }
     match tag {
-        1 => 0x0001,
-        2 => 0x0021,
-        3 => 0x0111,
-        4 => 0x0111,
-        5 => 0x0051,
-        6 => 0x0011,
+        tags::NULL => 0x0001,
+        tags::BOOLEAN => 0x0021,
+        tags::INTEGER => 0x0111,
+        tags::FLOAT => 0x0111,
+        tags::STRING => 0x0051,
+        tags::COLUMN => 0x0011,
         _ => UNKNOWN,
     }
 }
 
 // Operators of two operands: 10 And to 16 Divide, and those from 17 Subtract to 21 Like. Of one operand: 30 Not to 34 Negate, 35 Factorial and
 // 36 SquareRoot.
-fn row_to_39(tag: usize) -> usize
+fn row_to_39(tag: u32) -> usize
     requires { ⌜ (10 ≤ tag) × (tag < 40) ⌝ }
     ensures { λ r. ⌜ tag-from r ≡ tag-of tag ⌝ }
 {
-    if tag < 17 {
+    if tag < tags::SUBTRACT {
         return 0x0001;
     }
-    if tag < 22 {
+    if tag < tags::BINARY_END {
         return NOT_CARRIED;
     }
-    if tag < 30 {
+    if tag < tags::UNARY {
         return UNKNOWN;
     }
-    if tag < 35 {
+    if tag < tags::FACTORIAL {
         return 0x0001;
     }
-    if tag < 37 {
+    if tag < tags::UNARY_END {
         return NOT_CARRIED;
     }
     UNKNOWN
 }
 
 // 40 Label, 41 Item, 42 Key, 43 Target, 44 Agg, 45 Row.
-fn row_to_49(tag: usize) -> usize
+fn row_to_49(tag: u32) -> usize
     requires { ⌜ (40 ≤ tag) × (tag < 50) ⌝ }
     ensures { λ r. ⌜ tag-from r ≡ tag-of tag ⌝ }
 {
     match tag {
-        40 => 0x0763,
-        41 => 0x0763,
-        42 => 0x0002,
-        43 => 0x0042,
-        44 => 0x0005,
-        45 => 0x0011,
+        tags::LABEL => 0x0763,
+        tags::ITEM => 0x0763,
+        tags::KEY => 0x0002,
+        tags::TARGET => 0x0042,
+        tags::AGG => 0x0005,
+        tags::ROW => 0x0011,
         _ => UNKNOWN,
     }
 }
 
 // 50 Aggregate, 51 Filter, 52 HashJoin, 53 IndexLookup, 54 KeyLookup, 55 Limit, 56 NestedLoopJoin.
-fn row_to_56(tag: usize) -> usize
+fn row_to_56(tag: u32) -> usize
     requires { ⌜ (50 ≤ tag) × (tag < 57) ⌝ }
     ensures { λ r. ⌜ tag-from r ≡ tag-of tag ⌝ }
 {
     match tag {
-        50 => 0x0111,
-        51 => 0x0001,
-        52 => 0x0112,
-        53 => 0x1632,
-        54 => 0x1632,
-        55 => 0x0111,
+        tags::AGGREGATE => 0x0111,
+        tags::FILTER => 0x0001,
+        tags::HASH_JOIN => 0x0112,
+        tags::INDEX_LOOKUP => 0x1632,
+        tags::KEY_LOOKUP => 0x1632,
+        tags::LIMIT => 0x0111,
         _ => 0x0004,
     }
 }
 
 // 57 Nothing, 58 Offset, 59 Order, 60 Projection, 61 Remap, 62 Scan, 63 Values.
-fn row_to_63(tag: usize) -> usize
+fn row_to_63(tag: u32) -> usize
     requires { ⌜ (57 ≤ tag) × (tag < 64) ⌝ }
     ensures { λ r. ⌜ tag-from r ≡ tag-of tag ⌝ }
 {
-    if tag == 57 {
+    if tag == tags::NOTHING {
         return 0x0011;
     }
-    if tag == 58 {
+    if tag == tags::OFFSET {
         return 0x0111;
     }
-    if tag < 62 {
+    if tag < tags::SCAN {
         return 0x0011;
     }
-    if tag == 62 {
+    if tag == tags::SCAN {
         return 0x0734;
     }
     0x0011
 }
 
 // The row of a tag. Those from 64 on are unknown.
-fn row_of(tag: usize) -> usize
+fn row_of(tag: u32) -> usize
     ensures { λ r. ⌜ tag-from r ≡ tag-of tag ⌝ }
 {
-    if tag < 10 {
+    if tag < tags::BINARY {
         return row_to_9(tag);
     }
-    if tag < 40 {
+    if tag < tags::PARTS {
         return row_to_39(tag);
     }
-    if tag < 50 {
+    if tag < tags::NODES {
         return row_to_49(tag);
     }
-    if tag < 57 {
+    if tag < tags::NOTHING {
         return row_to_56(tag);
     }
-    if tag < 64 {
+    if tag < tags::NODES_END {
         return row_to_63(tag);
     }
     UNKNOWN
@@ -503,7 +517,7 @@ fn float_ok(k: Cell) -> bool
     requires { ⌜ (k .a < 4294967296) × (k .b < 4294967296) ⌝ }
     ensures { λ r. ⌜ r ≡ float-ok (as-cell k) ⌝ }
 {
-    if k.tag != 4 {
+    if k.tag != tags::FLOAT {
         return true;
     }
     let bits = k.a + 4294967296 * k.b;
@@ -540,7 +554,7 @@ pub fn bad_cell(s: &[u8]) -> Found
 }
 
 // The number of the refusal where a cell with this tag breaks its layout.
-pub fn bad_number(tag: usize) -> usize
+pub fn bad_number(tag: u32) -> usize
     ensures { λ r. ⌜ r ≡ bad-number (tag-of tag) ⌝ }
 {
     if row_of(tag) == NOT_CARRIED { 7 } else { 6 }

@@ -26,6 +26,7 @@ use Rattle.sound.specs.HandedOut.{optimize-handed-out}
 use Rattle.sound.specs.Operations.{sheet-of, all-five-sound}
 use Rattle.layout.specs.Layout.{Whole}
 use Rattle.cells.specs.Room.{Wrote}
+use Rattle.cells.proofs.Laws.{fits-to}
 use Rattle.cells.proofs.Laws.{lt-or-ge}
 use Rattle.listing.specs.Lines.{Listed}
 use Rattle.listing.proofs.Size.{refusal-short}
@@ -116,9 +117,9 @@ found-lines zero o h = refl
 found-lines (suc n) o h = absurd (omega arith)
 
 -- lines that are written from the first byte on, with room for them
-from-first : {out : List ℕ} {w : List ℕ} {r : ℕ} {out′ : List ℕ} (s : List ℕ) → w ≡ listed s → length out′ ≡ length out → length w ≤ length out → Wrote out 0 w r out′ → Lines s r out′
-from-first {out} {w} {r} {out′} s e k h a =
-    let (n, t) = a .fits (omega arith) in
+from-first : {out : List ℕ} {w : List ℕ} {r : ℕ} {out′ : List ℕ} (s : List ℕ) → w ≡ listed s → length out′ ≡ length out → length w ≤ 94291 → 94291 ≤ length out → Wrote out 0 w r out′ → Lines s r out′
+from-first {out} {w} {r} {out′} s e k h l a =
+    let (n, t) = fits-to a (omega arith) (omega arith) in
     record { within = omega arith; counted = length-take-le r out′ (omega arith); are = t ∙ e }
 
 -- o is what all five passes gave for s, into an output with room for every sheet
@@ -139,7 +140,7 @@ module _ (s : List ℕ) (b : Bytes s) (sheet : List ℕ) (o : Outcome) (e : o �
     pub refusal-listed : 1 ≤ o .numbers .number → Wrote out 0 (refusal-line (o .numbers .number) (o .numbers .place)) r out′ → Lines s r out′
     refusal-listed h a =
         from-first s (sym (refused-lines (o .numbers .number) o h) ∙ lines-are) same
-        (omega (arith, refusal-short (o .numbers .number) (o .numbers .place))) a
+        (omega (arith, refusal-short (o .numbers .number) (o .numbers .place))) long a
 
     pub sheet-listed : o .numbers .number ≡ 0 → Listed (sheet-of o) (o .numbers .columns) out 0 r out′ → Lines s r out′
-    sheet-listed h a = from-first s (sym (found-lines (o .numbers .number) o h) ∙ lines-are) same (omega (arith, a .short)) (a .wrote)
+    sheet-listed h a = from-first s (sym (found-lines (o .numbers .number) o h) ∙ lines-are) same (omega (arith, a .short)) long (a .wrote)

@@ -10,11 +10,12 @@ use lib.Seq.{take-suc-set}
 use borrow.Author.Tests.{lt-ltb, le-ltb}
 use Rattle.sheet.specs.Listing.{digits}
 use Rattle.cells.specs.Room.{Wrote}
+use Rattle.cells.proofs.Laws.{done}
 
 pub one : (d : List ℕ) (at b : ℕ) → at < length d → Wrote d at (b ∷ []) (at + 1) (set d at b)
 one d at b h =
     let e : at + 1 ≡ suc at = omega arith in
-    record { fits = λ k. (refl, ap (λ (i : ℕ). take i (set d at b)) e ∙ take-suc-set d at b h); full = λ k. omega arith }
+    done (omega arith) refl (ap (λ (i : ℕ). take i (set d at b)) e ∙ take-suc-set d at b h)
 
 -- what stands behind the digits stays behind them
 behind : (k n : ℕ) (later : List ℕ) → digits k n later ≡ digits k n [] ++ later

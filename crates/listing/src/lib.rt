@@ -70,7 +70,7 @@ fn cell_line(i: usize, k: layout::Cell, d: &mut [u8], at: usize) -> usize
     ensures { λ r. ⌜ Wrote (now (d .entry)) at (Listing.cell-line i (as-cell k)) r (now (d .exit)) ⌝ }
 {
     let tag = number(i, SPACE, d, at);
-    let flag = number(k.tag, SPACE, d, tag);
+    let flag = number(k.tag as usize, SPACE, d, tag);
     let a = number(k.flag, SPACE, d, flag);
     let b = number(k.a, SPACE, d, a);
     let c = number(k.b, SPACE, d, b);

@@ -5,7 +5,7 @@ use mathlib.Core.Bool.{Bool, false}
 use mathlib.Core.Logic.{⊎-elim}
 use mathlib.Core.Option.{Option, none, some}
 use mathlib.Core.Path.{_≡_, refl, sym, _∙_, subst}
-use mathlib.Core.List.{List, [], _++_, append-nil}
+use mathlib.Core.List.{List, [], _∷_, _++_, append-nil}
 use lib.ListN.{length, length-append}
 use Rattle.sql.specs.Schema.{Schema}
 use Rattle.sql.specs.Expression.{Expression, ands, and-vec, into-column-values}
@@ -13,8 +13,8 @@ use Rattle.sql.specs.Plan.{scan, lookup, filter, Node, leaf, over}
 use Rattle.sql.specs.Optimizer.{Found, filtered, find-lookup, access, lookup-or-scan}
 use Rattle.cells.specs.declared.Cell.{Cell}
 use Rattle.cells.specs.Cells.{words, cell-at}
-use Rattle.cells.specs.Room.{Wrote, Seals, Copies}
-use Rattle.cells.proofs.Laws.{then, no-room, wrote-up, lt-or-ge}
+use Rattle.cells.specs.Room.{Short, Wrote, Seals, Copies}
+use Rattle.cells.proofs.Laws.{then, no-room, no-more, fits, full, wrote-up, lt-or-ge}
 use Rattle.words.specs.Words.{cell, over-cell, expression-words, optional-words, node-words}
 use Rattle.words.specs.Place.{ExpressionHere}
 use Rattle.words.proofs.Writing.{plain}
@@ -28,7 +28,7 @@ use Rattle.first_lookup.specs.First.{marks-in, Marks, first-marked, Stands, Fin
 use Rattle.first_lookup.proofs.Finding.{first-is}
 use Rattle.first_lookup.proofs.Leaving.{remaining-is}
 use Rattle.lookup_or_scan.specs.Scan.{Looks, Filters, LooksOrScans}
-use Rattle.lookup_or_scan.proofs.Looking.{full-grows, lookup-words}
+use Rattle.lookup_or_scan.proofs.Looking.{lookup-words}
 
 -- a Filter's words, by its source's and its predicate's
 filter-long : (e : Expression) (p : Node) → length (node-words p) ≤ length (node-words (over (filter e) p))
@@ -42,29 +42,24 @@ module _ {y₀ y y₁ : List ℕ} {at n end : ℕ} (p : Node) (k : length y ≡ 
   unfiltered none b z = subst (λ (i : ℕ). Wrote y₀ at (node-words p) i y₁) z
       (subst (λ (l : List ℕ). Wrote y₀ at l end y₁) (append-nil (node-words p)) (then k a b))
   unfiltered (some e) b z = ⊎-elim
-      (λ (i : length y < n). full-grows (omega arith) (filter-long e p) a)
+      (λ (i : length y < n). no-more (omega arith) (filter-long e p) a)
       (λ (i : n ≤ length y). absurd (omega (arith, wrote-up b (omega arith), words-long e)))
       (lt-or-ge (length y) n)
 
   -- something was, or there was no room for the node itself
-  below-filter : (o : Option Expression) → Wrote y n (optional-words o) end y₁ → (end ≡ n → ⊥) → {r : ℕ} {y₂ : List ℕ} → Seals y₁ at end (plain 51) r y₂
+  below-filter : Short y → (o : Option Expression) → Wrote y n (optional-words o) end y₁ → (end ≡ n → ⊥) → {r : ℕ} {y₂ : List ℕ} → Seals y₁ at end (plain 51) r y₂
       → Wrote y₀ at (node-words (filtered o p)) r y₂
   unfolding node-words cell
-  below-filter none b z {r} {y₂} s = ⊎-elim
+  below-filter short none b z {r} {y₂} s = ⊎-elim
       (λ (i : length y < n).
-      let w = s y₀ (node-words p ++ []) (k₁ ∙ k) (then k a b) in
-      let j = sized-long (node-words p ++ []) (plain 51) in
-      let l = length-append (node-words p) [] in
-      let v : length y₀ < at + length (node-words p) = past i in
-      no-room v (w .full (omega arith)))
-      (λ (i : n ≤ length y). absurd (z (omega (arith, b .fits (omega arith) .0))))
+      let v = full (s y₀ (0 ∷ y₀) (k₁ ∙ k) (no-room (omega arith) (past i))) (omega (arith, sized-long (0 ∷ y₀) (plain 51))) in
+      record { is = λ j. absurd (omega arith); room = λ t j. absurd (let u = a .room t j in omega arith) })
+      (λ (i : n ≤ length y). absurd (z (omega (arith, fits b short (omega arith) .0))))
       (lt-or-ge (length y) n)
     where
-      past : length y < n → length y₀ < at + length (node-words p)
-      past i = ⊎-elim (λ (j : length y₀ < at + length (node-words p)). j)
-          (λ (j : at + length (node-words p) ≤ length y₀). absurd (omega (arith, a .fits j .0)))
-          (lt-or-ge (length y₀) (at + length (node-words p)))
-  below-filter (some e) b z s = s y₀ (node-words p ++ expression-words e) (k₁ ∙ k) (then k a b)
+      past : length y < n → length y₀ < end
+      past i = ⊎-elim (λ (j : length y < end). omega arith) (λ (j : end ≤ length y). absurd (omega (arith, wrote-up b j))) (lt-or-ge (length y) end)
+  below-filter short (some e) b z s = s y₀ (node-words p ++ expression-words e) (k₁ ∙ k) (then k a b)
 
 -- ---- the conjuncts that remain
 
@@ -78,8 +73,8 @@ module _ {marks : List Bool} {w : List ℕ} {m : ℕ} {y : List ℕ} {n : ℕ} {
   pub none-remains : {at : ℕ} → q .at ≡ n → Filters marks w m y at n n y₁
   none-remains h schema t mk e u f z y₀ p k a = unfiltered p k k₁ a (and-vec (f .remaining)) (remained schema t mk e u f z) h
 
-  pub some-remain : {at : ℕ} → (q .at ≡ n → ⊥) → {r : ℕ} {y₂ : List ℕ} → Seals y₁ at (q .at) (plain 51) r y₂ → Filters marks w m y at n r y₂
-  some-remain h s schema t mk e u f z y₀ p k a = below-filter p k k₁ a (and-vec (f .remaining)) (remained schema t mk e u f z) h s
+  pub some-remain : {at : ℕ} → Short y → (q .at ≡ n → ⊥) → {r : ℕ} {y₂ : List ℕ} → Seals y₁ at (q .at) (plain 51) r y₂ → Filters marks w m y at n r y₂
+  some-remain short h s schema t mk e u f z y₀ p k a = below-filter p k k₁ a short (and-vec (f .remaining)) (remained schema t mk e u f z) h s
 
 -- ---- what becomes of the Scan
 

@@ -19,7 +19,7 @@ use Rattle.sheet.specs.Cells.{lookup-content}
 use Rattle.cells.specs.declared.Cell.{Cell}
 use Rattle.cells.specs.Cells.{words, sized, cell-at}
 use Rattle.cells.specs.Room.{Wrote, Seals}
-use Rattle.cells.proofs.Laws.{lt-or-ge, wrote-up}
+use Rattle.cells.proofs.Laws.{no-more, lt-or-ge, wrote-up}
 use Rattle.words.specs.Words.{cell, all-words, constant-words, node-words}
 use Rattle.words.specs.Place.{ExpressionHere, ExpressionAt, NodeHere}
 use Rattle.words.proofs.Nodes.{node-cell-is}
@@ -30,10 +30,6 @@ use Rattle.first_lookup.specs.declared.FoundLookup.the-variants.{At}
 use Rattle.first_lookup.specs.First.{marks-in, with-mark, first-here, first-marked, Stands, FindsFirst}
 use Rattle.first_lookup.proofs.Records.{marks-long}
 use Rattle.lookup_or_scan.specs.Scan.{lookup-cell, ScanAt, Looks}
-
--- what has no room has none when there is more of it
-pub full-grows : {d₀ : List ℕ} {from at : ℕ} {v x d d′ : List ℕ} → length d₀ < at → length v ≤ length x → Wrote d₀ from v at d → Wrote d₀ from x at d′
-full-grows h g f = record { fits = λ z. absurd (let (a, b) = f .fits (omega arith) in omega arith); full = λ z. h }
 
 -- ---- the cell
 
@@ -79,14 +75,14 @@ lookup-words schema t al q vs {x} {lo} {hi} {k} {key} {c} {i} e f g u =
 module _ {w : List ℕ} {a b : ℕ} {y : List ℕ} {at n : ℕ} {y₁ : List ℕ} (g : Gathers w a b y at n y₁) where
   pub looks-full : (k : Cell) (key c : ℕ) → length y < n → Looks k key c w a b y at n y₁
   looks-full k key c h e u =
-      full-grows h (omega (arith, sized-long (all-words constant-words (into-column-values e)) (lookup-cell k key c (length (into-column-values e))))) (g e u)
+      no-more h (omega (arith, sized-long (all-words constant-words (into-column-values e)) (lookup-cell k key c (length (into-column-values e))))) (g e u)
 
   module _ (h : n ≤ length y) where
     values-long : (e : Expression) → ExpressionHere w a b e → n ≡ at + 6 * length (into-column-values e)
     values-long e u =
         omega (arith, wrote-up (g e u) h, all-single constant-words (λ v. refl) (into-column-values e))
 
-    pub values-count : ExpressionAt w a b → (at ≤ n) × ((n - at) / 6 ≤ length y)
+    pub values-count : ExpressionAt w a b → (at ≤ n) × (6 * ((n - at) / 6) ≤ length y)
     values-count p = let i = values-long (p .e) (p .here) in (omega arith, omega arith)
 
     pub looks : (k : Cell) (key c : ℕ) → length y₁ ≡ length y → {q : Cell} → q ≡ lookup-cell k key c ((n - at) / 6) → {r : ℕ} {y₂ : List ℕ} → Seals y₁ at n q r y₂ → Looks k key c w a b y at r y₂

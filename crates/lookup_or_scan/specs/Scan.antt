@@ -13,16 +13,17 @@ use Rattle.sql.specs.Plan.{scan, Node, leaf}
 use Rattle.sql.specs.Optimizer.{Found, filtered, find-lookup, lookup-or-scan}
 use Rattle.cells.specs.declared.Cell.{Cell}
 use Rattle.cells.specs.Cells.{sized}
-use Rattle.cells.specs.Room.{Wrote}
+use Rattle.cells.specs.Room.{most-words, Wrote}
 use Rattle.words.specs.Words.{all-words, constant-words, node-words}
 use Rattle.words.specs.Place.{ExpressionHere, NodeHere}
 use Rattle.first_lookup.specs.First.{marks-in, Marks}
+use Rattle.sheet.specs.Tags
 
 -- the cell of a lookup of column c with n constants, in the place of the Scan's cell k; bit 1 of a Scan's flag says whether there is an alias
 abbrev pub lookup-cell : (k : Cell) (key c n : ℕ) → Cell
 lookup-cell k key c n =
-    cond (eqb c key) (record { tag = 54; flag = k .flag / 2; a = k .a; b = k .b; c = n })
-    (record { tag = 53; flag = k .flag / 2; a = k .a; b = k .b; c = c + 65536 * n })
+    cond (eqb c key) (record { tag = Tags.key-lookup; flag = k .flag / 2; a = k .a; b = k .b; c = n })
+    (record { tag = Tags.index-lookup; flag = k .flag / 2; a = k .a; b = k .b; c = c + 65536 * n })
 
 -- Some Scan with a filter stands in x from lo up to hi, and an expression in the first m words of w, which callers make the filter's conjunctive normal form.
 pub record ScanAt (x : List ℕ) (lo hi : ℕ) (y w : List ℕ) (m key : ℕ) (columns : List ℕ) : Type 0 where
@@ -35,7 +36,7 @@ pub record ScanAt (x : List ℕ) (lo hi : ℕ) (y w : List ℕ) (m key : ℕ) (c
   pub cnf-here : ExpressionHere w 0 m cnf
   pub marked : Marks schema table (marks-in key columns)
   pub few : length columns ≤ 4096
-  pub short : length y ≤ 16777216
+  pub short : length y ≤ most-words
 
 -- ---- contracts
 

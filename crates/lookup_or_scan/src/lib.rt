@@ -3,19 +3,20 @@
 ghost use mathlib.Core.Path.{_≡_};
 ghost use Prim.Native.Nat.{_≤_, _<_};
 ghost use lib.ListN.{length};
+ghost use Rattle.cells.specs.Room.{most-words};
 ghost use Rattle.words.specs.Place.{ExpressionAt};
 ghost use Rattle.first_lookup.specs.First.{marks-in};
 ghost use Rattle.lookup_or_scan.specs.Scan.{lookup-cell, ScanAt, Looks, Filters, LooksOrScans};
 
 // The cell of a lookup of column c with n constants, in the place of a Scan's cell. key is the column of the table's primary key.
-fn lookup_cell(scan: cells::Cell, key: usize, c: usize, n: usize) -> cells::Cell
-    requires { ⌜ (c < 65536) × (n ≤ 16777216) ⌝ }
+fn lookup_cell(scan: cells::Cell, key: usize, c: u32, n: u32) -> cells::Cell
+    requires { ⌜ (c < 65536) × (n < 65536) ⌝ }
     ensures { λ r. ⌜ r ≡ lookup-cell scan key c n ⌝ }
 {
     let alias = scan.flag / 2;
-    if c == key {
+    if c as usize == key {
         return cells::Cell {
-            tag: 54,
+            tag: tags::KEY_LOOKUP,
             flag: alias,
             a: scan.a,
             b: scan.b,
@@ -23,7 +24,7 @@ fn lookup_cell(scan: cells::Cell, key: usize, c: usize, n: usize) -> cells::Cell
         };
     }
     cells::Cell {
-        tag: 53,
+        tag: tags::INDEX_LOOKUP,
         flag: alias,
         a: scan.a,
         b: scan.b,
@@ -35,36 +36,41 @@ fn lookup_cell(scan: cells::Cell, key: usize, c: usize, n: usize) -> cells::Cell
 fn lookup(
     scan: cells::Cell,
     key: usize,
-    c: usize,
-    w: &[usize],
+    c: u32,
+    w: &[u32],
     a: usize,
     b: usize,
-    y: &mut [usize],
+    y: &mut [u32],
     at: usize,
 ) -> usize
     requires { ⌜ ExpressionAt (now w) a b ⌝ }
-    requires { ⌜ (c < 65536) × (length (now y) ≤ 16777216) ⌝ }
+    requires { ⌜ (c < 65536) × (length (now y) ≤ most-words) ⌝ }
     ensures { λ r. ⌜ Looks scan key c (now (w .entry)) a b (now (y .entry)) at r (now (y .exit)) ⌝ }
 {
     let n = column_lookup::into_column_values(w, a, b, y, at);
     if y.len() < n {
         return n;
     }
-    cells::put(y, at, n, lookup_cell(scan, key, c, (n - at) / 6))
+    cells::put(
+        y,
+        at,
+        n,
+        lookup_cell(scan, key, c, ((n - at) / cells::CELL_WORDS) as u32),
+    )
 }
 
 // The conjuncts of the expression in the first m words of w but the first that looks up a marked column, if there are any, as a Filter over the node that
 // stands in y from at up to n.
 fn filtered(
-    w: &[usize],
+    w: &[u32],
     m: usize,
-    y: &mut [usize],
+    y: &mut [u32],
     at: usize,
     n: usize,
     key: usize,
     columns: &[u8],
 ) -> usize
-    requires { ⌜ ExpressionAt (now w) 0 m ⌝ }
+    requires { ⌜ ExpressionAt (now w) 0 m × (length (now y) ≤ most-words) ⌝ }
     ensures { λ r. ⌜ Filters (marks-in key (now (columns .entry))) (now (w .entry)) m (now (y .entry)) at n r (now (y .exit)) ⌝ }
 {
     let rest = first_lookup::remaining(w, 0, m, y, n, n, key, columns, false);
@@ -77,7 +83,7 @@ fn filtered(
         at,
         end,
         cells::Cell {
-            tag: 51,
+            tag: tags::FILTER,
             flag: 0,
             a: 0,
             b: 0,
@@ -89,12 +95,12 @@ fn filtered(
 // What becomes of the Scan from lo to hi, whose filter's conjunctive normal form is the first m words of w. key is the column of the table's primary key, and
 // columns are the records of its columns, as a sheet has them.
 pub fn lookup_or_scan(
-    x: &[usize],
+    x: &[u32],
     lo: usize,
     hi: usize,
-    y: &mut [usize],
+    y: &mut [u32],
     at: usize,
-    w: &[usize],
+    w: &[u32],
     m: usize,
     key: usize,
     columns: &[u8],

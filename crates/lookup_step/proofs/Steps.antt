@@ -19,8 +19,8 @@ use Rattle.sheet.specs.Cells.{present}
 use Rattle.sound.specs.Lookup.{leaf-keeps}
 use Rattle.cells.specs.declared.Cell.{Cell}
 use Rattle.cells.specs.Cells.{cell-at}
-use Rattle.cells.specs.Room.{Copies}
-use Rattle.cells.proofs.Laws.{lt-or-ge, wrote-up}
+use Rattle.cells.specs.Room.{Short, Copies}
+use Rattle.cells.proofs.Laws.{fits, lt-or-ge, wrote-up}
 use Rattle.words.specs.Words.{cell, leaf-cell}
 use Rattle.words.specs.Place.{ExpressionHere, ExpressionAt, Maps, NodeHere}
 use Rattle.words.proofs.Nodes.{node-cell-is, children-part}
@@ -88,23 +88,23 @@ filter-here t al q u = record { part = children-part (leaf (scan t al (some q)))
 -- ---- the normal form
 
 module _ {x : List ℕ} {lo hi : ℕ} {z : List ℕ} {n : ℕ} {z₁ : List ℕ} (a : Maps into-nnf x lo hi z 0 n z₁) where
-  pub nnf-full : {w : List ℕ} → length z ≡ length w → length z < n → Normalizes x lo hi n w
-  nnf-full k h e u = record {
+  pub nnf-full : {w : List ℕ} → length z ≡ length w → Short w → length z < n → Normalizes x lo hi n w
+  nnf-full k short h e u = record {
     fits = λ f. absurd (omega arith);
     room = λ room schema l f. absurd (omega arith);
     full = λ room schema l f.
         let i = expression-long (into-nnf e) in
-        let j : room < size (into-nnf e) = below room (size (into-nnf e)) (λ v. let y = a e u .fits (omega arith) .0 in omega arith) in
+        let j : room < size (into-nnf e) = below room (size (into-nnf e)) (λ v. let y = fits (a e u) (omega arith) (omega arith) .0 in omega arith) in
         ap (λ (b : Bool). b && leb (size (into-cnf e)) room) (lt-leb _ _ j);
   }
 
   pub nnf-at : length z₁ ≡ length z → n ≤ length z₁ → ExpressionAt x lo hi → ExpressionAt z₁ 0 n
   nnf-at k h p = record { e = into-nnf (p .e); here = record { part = written-part (a (p .e) (p .here)) (omega arith) } }
 
-  pub normal : {w : List ℕ} → length z ≡ length w → length z₁ ≡ length z → n ≤ length z₁ → {m : ℕ} {w₁ : List ℕ} → length w₁ ≡ length w
+  pub normal : {w : List ℕ} → length z ≡ length w → Short w → length z₁ ≡ length z → n ≤ length z₁ → {m : ℕ} {w₁ : List ℕ} → length w₁ ≡ length w
       → Maps distribute z₁ 0 n w 0 m w₁ → Normalizes x lo hi m w₁
   unfolding into-cnf
-  normal {w} k k₁ h {m} {w₁} k₂ b e u =
+  normal {w} k short k₁ h {m} {w₁} k₂ b e u =
       let v = a e u in
       let t = b (into-nnf e) (record { part = written-part v (omega arith) }) in
       let i = expression-long (into-nnf e) in
@@ -118,7 +118,7 @@ module _ {x : List ℕ} {lo hi : ℕ} {z : List ℕ} {n : ℕ} {z₁ : List ℕ}
             ∙ le-leb (size (distribute (into-nnf e))) room (omega arith);
         full = λ room schema l f.
             let c : room < size (distribute (into-nnf e)) =
-            below room (size (distribute (into-nnf e))) (λ s. let y = t .fits (omega arith) .0 in omega arith) in
+            below room (size (distribute (into-nnf e))) (λ s. let y = fits t short (omega arith) .0 in omega arith) in
             ap (λ (b : Bool). b && leb (size (distribute (into-nnf e))) room) (le-leb (size (into-nnf e)) room (omega arith))
             ∙ lt-leb (size (distribute (into-nnf e))) room c;
       }

@@ -12,10 +12,11 @@ use Rattle.sql.specs.Optimizer.{index-lookup}
 use Rattle.sql.specs.Room.{scan-filter, normal-forms-fit}
 use Rattle.sheet.specs.Cells.{present}
 use Rattle.sound.specs.Sound.{Sound-leaf}
-use Rattle.cells.specs.Room.{Wrote}
+use Rattle.cells.specs.Room.{most-words, Wrote}
 use Rattle.words.specs.Words.{node-words}
 use Rattle.words.specs.Place.{ExpressionHere, NodeHere}
 use Rattle.indexes.specs.Indexes.{Indexes}
+use Rattle.cells.specs.Cells.{cell-words}
 
 abbrev pub Lent : (widths keys columns : List ℕ) → Schema → Type 0
 Lent widths keys columns schema = Indexes schema widths keys columns
@@ -32,7 +33,7 @@ pub record FilteredAt (x : List ℕ) (lo hi : ℕ) (y w : List ℕ) (m : ℕ) (w
   pub sound : Sound-leaf schema text tables (scan table alias (some predicate))
   pub here : NodeHere x lo hi (leaf (scan table alias (some predicate)))
   pub cnf-here : ExpressionHere w 0 m (into-cnf predicate)
-  pub short : length y ≤ 16777216
+  pub short : length y ≤ most-words
 
 -- ---- contracts
 
@@ -43,8 +44,8 @@ HasFilter x lo hi r = (l : Leaf) → NodeHere x lo hi (leaf l) → r ≡ present
 -- The conjunctive normal form of e is the first m words of w′; or it, or the negation normal form, has no room, and m is past the end.
 pub record Normal (e : Expression) (m : ℕ) (w′ : List ℕ) : Type 0 where
   pub fits : m ≤ length w′ → ExpressionHere w′ 0 m (into-cnf e)
-  pub room : (room : ℕ) (schema : Schema) → length w′ ≡ 6 * room → m ≤ length w′ → normal-forms-fit room schema (some e) ≡ true
-  pub full : (room : ℕ) (schema : Schema) → length w′ ≡ 6 * room → length w′ < m → normal-forms-fit room schema (some e) ≡ false
+  pub room : (room : ℕ) (schema : Schema) → length w′ ≡ cell-words * room → m ≤ length w′ → normal-forms-fit room schema (some e) ≡ true
+  pub full : (room : ℕ) (schema : Schema) → length w′ ≡ cell-words * room → length w′ < m → normal-forms-fit room schema (some e) ≡ false
 
 abbrev pub Normalizes : List ℕ → (lo hi m : ℕ) → List ℕ → Type 0
 Normalizes x lo hi m w′ = (e : Expression) → ExpressionHere x lo hi e → Normal e m w′

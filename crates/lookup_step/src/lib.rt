@@ -2,30 +2,31 @@
 // primary key, becomes a lookup. widths[t] is the number of columns of table t, keys[t] its primary key's column, and columns are the records of all
 // columns, table by table, 16 bytes each, as a sheet has them.
 ghost use mathlib.Core.Path.{_≡_};
-ghost use Prim.Native.Nat.{_-_, _<_};
+ghost use Prim.Native.Nat.{_-_, _≤_, _<_};
 ghost use lib.ListN.{length};
 ghost use Rattle.sql.specs.Room.{IndexLookup};
+ghost use Rattle.cells.specs.Room.{most-words};
 ghost use Rattle.words.specs.Place.{ExpressionAt, NodeAt};
 ghost use Rattle.nodes.specs.Own.{SourceCount};
 ghost use Rattle.stream.specs.Stream.{StreamAt, Streams};
 ghost use Rattle.lookup_step.specs.Lookup.{Lent, FilteredAt, HasFilter, Normalizes, LooksUp};
 
 // Whether the leaf from lo to hi is a Scan with a filter.
-fn has_filter(x: &[usize], lo: usize, hi: usize) -> bool
+fn has_filter(x: &[u32], lo: usize, hi: usize) -> bool
     requires { ⌜ NodeAt (now x) lo hi ⌝ }
     ensures { λ r. ⌜ HasFilter (now (x .entry)) lo hi r ⌝ }
 {
     let k = cells::cell_at(x, hi);
-    if k.tag == 62 {
+    if k.tag == tags::SCAN {
         return k.flag % 2 == 1;
     }
     false
 }
 
 // The conjunctive normal form of the expression from lo to hi, as the first words of w. What into_nnf gives stands in z, and counts for room too.
-fn into_cnf(x: &[usize], lo: usize, hi: usize, z: &mut [usize], w: &mut [usize]) -> usize
+fn into_cnf(x: &[u32], lo: usize, hi: usize, z: &mut [u32], w: &mut [u32]) -> usize
     requires { ⌜ ExpressionAt (now x) lo hi ⌝ }
-    requires { ⌜ length (now z) ≡ length (now w) ⌝ }
+    requires { ⌜ (length (now z) ≡ length (now w)) × (length (now w) ≤ most-words) ⌝ }
     ensures { λ r. ⌜ Normalizes (now (x .entry)) lo hi r (now (w .exit)) ⌝ }
 {
     let n = nnf::into_nnf(x, lo, hi, z, 0);
@@ -37,12 +38,12 @@ fn into_cnf(x: &[usize], lo: usize, hi: usize, z: &mut [usize], w: &mut [usize])
 
 // What becomes of the Scan from lo to hi, whose filter's conjunctive normal form is the first m words of w.
 fn lookup_in_table(
-    x: &[usize],
+    x: &[u32],
     lo: usize,
     hi: usize,
-    y: &mut [usize],
+    y: &mut [u32],
     at: usize,
-    w: &[usize],
+    w: &[u32],
     m: usize,
     widths: &[usize],
     keys: &[usize],
@@ -52,7 +53,7 @@ fn lookup_in_table(
     ensures { λ r. ⌜ LooksUp (now (x .entry)) lo hi (now (y .entry)) at (now (w .entry)) m (now (widths .entry)) (now (keys .entry)) (now (columns .entry)) r (now (y .exit)) ⌝ }
 {
     let k = cells::cell_at(x, hi);
-    let t = k.a;
+    let t = k.a as usize;
     if keys.len() <= t {
         return cells::copy(x, lo, hi, y, at);
     }
@@ -65,14 +66,14 @@ fn lookup_in_table(
 
 // index_lookup of the leaf from lo to hi. z and w are used for the normal forms of its filter, and as long as y.
 pub fn index_lookup(
-    x: &[usize],
+    x: &[u32],
     lo: usize,
     hi: usize,
     tail: usize,
-    y: &mut [usize],
+    y: &mut [u32],
     at: usize,
-    z: &mut [usize],
-    w: &mut [usize],
+    z: &mut [u32],
+    w: &mut [u32],
     widths: &[usize],
     keys: &[usize],
     columns: &[u8],
@@ -83,7 +84,7 @@ pub fn index_lookup(
     ensures { λ r. ⌜ Streams (Lent (now (widths .entry)) (now (keys .entry)) (now (columns .entry))) IndexLookup (now (x .entry)) lo hi tail (now (y .entry)) at r (now (y .exit)) ⌝ }
 {
     if has_filter(x, lo, hi) {
-        let m = into_cnf(x, lo, hi - 6, z, w);
+        let m = into_cnf(x, lo, hi - cells::CELL_WORDS, z, w);
         if w.len() < m {
             return m;
         }

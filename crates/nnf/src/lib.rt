@@ -11,13 +11,13 @@ ghost use Rattle.nnf.specs.Nnf.{negated};
 ghost use Rattle.nnf.specs.Tags.{ContainsTag};
 
 // Whether a cell of the expression from lo to hi has the tag.
-pub fn contains_tag(s: &[usize], lo: usize, hi: usize, tag: usize) -> bool
+pub fn contains_tag(s: &[u32], lo: usize, hi: usize, tag: u32) -> bool
     requires { ⌜ ExpressionAt (now s) lo hi ⌝ }
     ensures { λ r. ⌜ ContainsTag (now (s .entry)) lo hi tag r ⌝ }
 {
     let mut i = lo;
     while i < hi {
-        i += 6;
+        i += cells::CELL_WORDS;
         if cells::tag_at(s, i) == tag {
             return true;
         }
@@ -26,41 +26,41 @@ pub fn contains_tag(s: &[usize], lo: usize, hi: usize, tag: usize) -> bool
 }
 
 // into_nnf of the expression from lo to hi, which is its words as they are if it holds no Not.
-pub fn into_nnf(s: &[usize], lo: usize, hi: usize, d: &mut [usize], at: usize) -> usize
+pub fn into_nnf(s: &[u32], lo: usize, hi: usize, d: &mut [u32], at: usize) -> usize
     requires { ⌜ ExpressionAt (now s) lo hi ⌝ }
     ensures { λ r. ⌜ Maps into-nnf (now (s .entry)) lo hi (now (d .entry)) at r (now (d .exit)) ⌝ }
 {
-    if contains_tag(s, lo, hi, 30) {
+    if contains_tag(s, lo, hi, tags::NOT) {
         return into_nnf_expression(s, lo, hi, d, at);
     }
     cells::copy(s, lo, hi, d, at)
 }
 
 // into_nnf of the expression from lo to hi, cell by cell.
-fn into_nnf_expression(s: &[usize], lo: usize, hi: usize, d: &mut [usize], at: usize) -> usize
+fn into_nnf_expression(s: &[u32], lo: usize, hi: usize, d: &mut [u32], at: usize) -> usize
     requires { ⌜ ExpressionAt (now s) lo hi ⌝ }
     ensures { λ r. ⌜ Maps into-nnf (now (s .entry)) lo hi (now (d .entry)) at r (now (d .exit)) ⌝ }
 {
-    if cells::tag_at(s, hi) == 30 {
-        return into_nnf_not(s, lo, hi - 6, d, at);
+    if cells::tag_at(s, hi) == tags::NOT {
+        return into_nnf_not(s, lo, hi - cells::CELL_WORDS, d, at);
     }
     into_nnf_operands(s, lo, hi, d, at)
 }
 
 // into_nnf of Not of the expression from lo to hi.
-fn into_nnf_not(s: &[usize], lo: usize, hi: usize, d: &mut [usize], at: usize) -> usize
+fn into_nnf_not(s: &[u32], lo: usize, hi: usize, d: &mut [u32], at: usize) -> usize
     requires { ⌜ ExpressionAt (now s) lo hi ⌝ }
     ensures { λ r. ⌜ Maps into-nnf-not (now (s .entry)) lo hi (now (d .entry)) at r (now (d .exit)) ⌝ }
 {
     let t = cells::tag_at(s, hi);
-    if t == 30 {
-        return into_nnf_operands(s, lo, hi - 6, d, at);
+    if t == tags::NOT {
+        return into_nnf_operands(s, lo, hi - cells::CELL_WORDS, d, at);
     }
-    if t == 10 {
-        return negate_both(s, lo, hi, d, at, 11);
+    if t == tags::AND {
+        return negate_both(s, lo, hi, d, at, tags::OR);
     }
-    if t == 11 {
-        return negate_both(s, lo, hi, d, at, 10);
+    if t == tags::OR {
+        return negate_both(s, lo, hi, d, at, tags::AND);
     }
     let m = into_nnf_operands(s, lo, hi, d, at);
     cells::put(
@@ -68,7 +68,7 @@ fn into_nnf_not(s: &[usize], lo: usize, hi: usize, d: &mut [usize], at: usize) -
         at,
         m,
         cells::Cell {
-            tag: 30,
+            tag: tags::NOT,
             flag: 0,
             a: 0,
             b: 0,
@@ -78,13 +78,13 @@ fn into_nnf_not(s: &[usize], lo: usize, hi: usize, d: &mut [usize], at: usize) -
 }
 
 // The two operands of the expression from lo to hi, negated, under the And or Or with tag o.
-fn negate_both(s: &[usize], lo: usize, hi: usize, d: &mut [usize], at: usize, o: usize) -> usize
+fn negate_both(s: &[u32], lo: usize, hi: usize, d: &mut [u32], at: usize, o: u32) -> usize
     requires { ⌜ ExpressionAt (now s) lo hi ⌝ }
     requires { ⌜ (10 ≤ tag-at (now s) hi) × (tag-at (now s) hi < 30) ⌝ }
     requires { ⌜ (o ≡ 10) ⊎ (o ≡ 11) ⌝ }
     ensures { λ r. ⌜ Maps (negated o) (now (s .entry)) lo hi (now (d .entry)) at r (now (d .exit)) ⌝ }
 {
-    let k = hi - 6;
+    let k = hi - cells::CELL_WORDS;
     let mid = cells::start(s, k);
     let m = into_nnf_not(s, lo, mid, d, at);
     let n = into_nnf_not(s, mid, k, d, m);
@@ -103,16 +103,16 @@ fn negate_both(s: &[usize], lo: usize, hi: usize, d: &mut [usize], at: usize, o:
 }
 
 // The expression from lo to hi with into_nnf of its operands.
-fn into_nnf_operands(s: &[usize], lo: usize, hi: usize, d: &mut [usize], at: usize) -> usize
+fn into_nnf_operands(s: &[u32], lo: usize, hi: usize, d: &mut [u32], at: usize) -> usize
     requires { ⌜ ExpressionAt (now s) lo hi ⌝ }
     ensures { λ r. ⌜ Maps into-nnf-operands (now (s .entry)) lo hi (now (d .entry)) at r (now (d .exit)) ⌝ }
 {
     let c = cells::cell_at(s, hi);
-    if c.tag < 10 {
+    if c.tag < tags::BINARY {
         return cells::put(d, at, at, c);
     }
-    let k = hi - 6;
-    if 30 <= c.tag {
+    let k = hi - cells::CELL_WORDS;
+    if tags::UNARY <= c.tag {
         let m = into_nnf_expression(s, lo, k, d, at);
         return cells::put(d, at, m, c);
     }

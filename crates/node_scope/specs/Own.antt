@@ -10,6 +10,7 @@ use Rattle.sql.specs.Schema.{Schema}
 use Rattle.sql.specs.Plan.{up-to}
 use Rattle.sheet.specs.Cell.{Cell, cell}
 use Rattle.sheet.specs.Scope.{first-of, unless, table-columns}
+use Rattle.sheet.specs.Tags
 
 -- the cells of a sheet from number `from` up to, but without, number `to`
 abbrev pub segment : List ℕ → (from to : ℕ) → List Cell
@@ -17,7 +18,7 @@ segment s from to = map (cell s) (up-to from (to - from))
 
 -- Tags from 50 on are nodes'.
 abbrev pub is-node : ℕ → Bool
-is-node tag = leb 50 tag
+is-node tag = leb Tags.nodes tag
 
 -- The number of sources of a node, for the tags from 50 to 63: 52 HashJoin and 56 NestedLoopJoin have two; 53 IndexLookup, 54 KeyLookup, 57 Nothing, 62 Scan
 -- and 63 Values have none.
@@ -25,17 +26,17 @@ abbrev pub source-counts : List ℕ
 source-counts = 1 ∷ 1 ∷ 2 ∷ 0 ∷ 0 ∷ 1 ∷ 2 ∷ 0 ∷ 1 ∷ 1 ∷ 1 ∷ 1 ∷ 0 ∷ 0 ∷ []
 
 unfoldable pub sources : ℕ → ℕ
-sources tag = getD source-counts (tag - 50) 0
+sources tag = getD source-counts (tag - Tags.nodes) 0
 
 -- IndexLookup, KeyLookup and Scan read a table.
 abbrev pub of-table : ℕ → Bool
-of-table tag = eqb tag 53 || (eqb tag 54 || eqb tag 62)
+of-table tag = eqb tag Tags.index-lookup || (eqb tag Tags.key-lookup || eqb tag Tags.scan)
 
 -- ---- own cells, one after the other
 
 -- A cell is no Column, or one below n.
 abbrev pub column-below : ℕ → Cell → Bool
-column-below n k = not (eqb (k .tag) 6) || ltb (k .a) n
+column-below n k = not (eqb (k .tag) Tags.column) || ltb (k .a) n
 
 -- The first Column that is not below n; the cells are numbered from `at`.
 abbrev pub column-out : (n at : ℕ) → List Cell → Option ℕ
@@ -45,11 +46,11 @@ column-out n at (k ∷ ks) = first-of (unless (column-below n k) at) (column-out
 -- The number of expressions in the first Row; 0 where there is no Row.
 abbrev pub first-row : List Cell → ℕ
 first-row [] = 0
-first-row (k ∷ ks) = cond (eqb (k .tag) 45) (k .a) (first-row ks)
+first-row (k ∷ ks) = cond (eqb (k .tag) Tags.row) (k .a) (first-row ks)
 
 -- A cell is no Row, or one of n expressions.
 abbrev pub row-has : ℕ → Cell → Bool
-row-has n k = not (eqb (k .tag) 45) || eqb (k .a) n
+row-has n k = not (eqb (k .tag) Tags.row) || eqb (k .a) n
 
 -- Each Row has n expressions.
 abbrev pub rows-have : ℕ → List Cell → Bool
@@ -75,10 +76,10 @@ columns-read schema left right k = cond (of-table (k .tag)) (table-columns schem
 -- Target for each column of its source, the Rows of 63 Values are equally long. `n` is the number of columns that the node reads.
 abbrev pub node-fits : (left right n : ℕ) → List Cell → Cell → Bool
 node-fits left right n own k =
-    cond (eqb (k .tag) 52) (ltb (k .a) left && ltb (k .b) right)
-    (cond (eqb (k .tag) 53) (ltb (k .c % 65536) n)
-    (cond (eqb (k .tag) 61) (eqb (k .a) n)
-    (cond (eqb (k .tag) 63) (rows-have (first-row own) own) true)))
+    cond (eqb (k .tag) Tags.hash-join) (ltb (k .a) left && ltb (k .b) right)
+    (cond (eqb (k .tag) Tags.index-lookup) (ltb (k .c % 65536) n)
+    (cond (eqb (k .tag) Tags.remap) (eqb (k .a) n)
+    (cond (eqb (k .tag) Tags.values) (rows-have (first-row own) own) true)))
 
 -- The lowest of its own cells, or the node, that is out of scope; the own cells are numbered from `at`.
 abbrev pub node-outside : (left right n at : ℕ) → List Cell → Cell → Option ℕ
@@ -88,7 +89,7 @@ node-outside left right n at own k = first-of (column-out n at own) (unless (nod
 -- highest Target, 63 Values as many as its first Row; any other as many as it reads.
 abbrev pub node-columns : (n : ℕ) → List Cell → Cell → ℕ
 node-columns n own k =
-    cond (eqb (k .tag) 50) (k .a + k .b)
-    (cond (eqb (k .tag) 57 || eqb (k .tag) 60) (k .a)
-    (cond (eqb (k .tag) 61) (targets-end own)
-    (cond (eqb (k .tag) 63) (first-row own) n)))
+    cond (eqb (k .tag) Tags.aggregate) (k .a + k .b)
+    (cond (eqb (k .tag) Tags.nothing || eqb (k .tag) Tags.projection) (k .a)
+    (cond (eqb (k .tag) Tags.remap) (targets-end own)
+    (cond (eqb (k .tag) Tags.values) (first-row own) n)))

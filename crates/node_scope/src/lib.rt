@@ -20,7 +20,7 @@ use layout::table_at;
 fn column_below(k: Cell, n: usize) -> bool
     ensures { λ r. ⌜ r ≡ column-below n (as-cell k) ⌝ }
 {
-    if k.tag == 6 {
+    if k.tag == tags::COLUMN {
         return k.a < n;
     }
     true
@@ -49,7 +49,7 @@ fn first_row(s: &[u8], from: usize, to: usize) -> usize
     let mut i = from;
     while i < to {
         let k = cell_at(s, i);
-        if k.tag == 45 {
+        if k.tag == tags::ROW {
             return k.a;
         }
         i += 1;
@@ -61,7 +61,7 @@ fn first_row(s: &[u8], from: usize, to: usize) -> usize
 fn row_has(k: Cell, n: usize) -> bool
     ensures { λ r. ⌜ r ≡ row-has n (as-cell k) ⌝ }
 {
-    if k.tag == 45 {
+    if k.tag == tags::ROW {
         return k.a == n;
     }
     true
@@ -113,32 +113,32 @@ fn targets_end(s: &[u8], from: usize, to: usize) -> usize
 
 // The number of sources of a node: two of 52 HashJoin and 56 NestedLoopJoin; none of 53 IndexLookup, 54 KeyLookup, 57 Nothing, 62 Scan and 63 Values; one
 // of any other node; and none of a tag from 64 on, which no node has.
-pub fn sources(tag: usize) -> usize
+pub fn sources(tag: u32) -> usize
     requires { ⌜ 50 ≤ tag ⌝ }
     ensures { λ r. ⌜ (r ≡ sources tag) × (r ≤ 2) ⌝ }
 {
-    if 64 <= tag {
+    if tags::NODES_END <= tag {
         return 0;
     }
-    if tag < 52 {
+    if tag < tags::HASH_JOIN {
         return 1;
     }
-    if tag == 52 {
+    if tag == tags::HASH_JOIN {
         return 2;
     }
-    if tag < 55 {
+    if tag < tags::LIMIT {
         return 0;
     }
-    if tag == 55 {
+    if tag == tags::LIMIT {
         return 1;
     }
-    if tag == 56 {
+    if tag == tags::NESTED_LOOP_JOIN {
         return 2;
     }
-    if tag == 57 {
+    if tag == tags::NOTHING {
         return 0;
     }
-    if tag < 62 {
+    if tag < tags::SCAN {
         return 1;
     }
     0
@@ -158,16 +158,16 @@ fn table_columns(s: &[u8], table: usize) -> usize
 }
 
 // IndexLookup, KeyLookup and Scan read a table.
-fn of_table(tag: usize) -> bool
+fn of_table(tag: u32) -> bool
     ensures { λ r. ⌜ r ≡ of-table tag ⌝ }
 {
-    if tag == 53 {
+    if tag == tags::INDEX_LOOKUP {
         return true;
     }
-    if tag == 54 {
+    if tag == tags::KEY_LOOKUP {
         return true;
     }
-    tag == 62
+    tag == tags::SCAN
 }
 
 // The number of columns that a node reads: its table's, or all its sources'.
@@ -192,15 +192,15 @@ fn node_fits(s: &[u8], own: usize, at: usize, left: usize, right: usize, n: usiz
     let k = cell_at(s, at);
     let tag = k.tag;
     match tag {
-        52 => {
+        tags::HASH_JOIN => {
             if left <= k.a {
                 return false;
             }
             k.b < right
         }
-        53 => k.c % 65536 < n,
-        61 => k.a == n,
-        63 => rows_have(s, own, at, first_row(s, own, at)),
+        tags::INDEX_LOOKUP => k.c % 65536 < n,
+        tags::REMAP => k.a == n,
+        tags::VALUES => rows_have(s, own, at, first_row(s, own, at)),
         _ => true,
     }
 }
@@ -228,10 +228,10 @@ pub fn node_columns(s: &[u8], own: usize, at: usize, n: usize) -> usize
     let k = cell_at(s, at);
     let tag = k.tag;
     match tag {
-        50 => k.a + k.b,
-        57 | 60 => k.a,
-        61 => targets_end(s, own, at),
-        63 => first_row(s, own, at),
+        tags::AGGREGATE => k.a + k.b,
+        tags::NOTHING | tags::PROJECTION => k.a,
+        tags::REMAP => targets_end(s, own, at),
+        tags::VALUES => first_row(s, own, at),
         _ => n,
     }
 }

@@ -18,6 +18,7 @@ use Rattle.sheet.specs.Content.{cell-of, target-cell, row-cell}
 use Rattle.cells.specs.declared.Cell.{Cell}
 use Rattle.cells.specs.Cells.{words, sized, cell-at, tag-at, start-at, Part, Sized}
 use Rattle.cells.proofs.Laws.{part-left, part-right, part-in, cell-is, cell-in}
+use Rattle.cells.specs.Room.{most-words}
 use Rattle.words.specs.Words.{cell, all-words, expression-words, target-words, row-words, node-words, source-words, own-words, node-cell, leaf-cell, over-cell, source-count}
 use Rattle.words.specs.Place.{NodeHere, NodeAt}
 use Rattle.words.proofs.Nodes.{node-cell-is, node-tag, node-in, node-long, node-start, node-size-at, source-part, own-part, over-source, sources-sized, join-left, join-right}
@@ -452,7 +453,7 @@ module _ {schema : Schema} {s : List ℕ} {lo end total : ℕ} (p : Node) (x : L
     pub last-at : NodeAt s from end
     last-at = last-here (NodeAt s from end) (λ f n v u c w. record { p = n; here = u })
 
-    pub last-columns-at : {widths : List ℕ} → Tables schema widths → Narrow p → end ≤ 16777216 → ColumnsAt widths s from end
+    pub last-columns-at : {widths : List ℕ} → Tables schema widths → Narrow p → end ≤ most-words → ColumnsAt widths s from end
     last-columns-at {widths} t k i =
         last-here (ColumnsAt widths s from end) (λ f n v u c w. record { schema = schema; tables = t; p = n; here = u; narrow = w k .1; short = i })
 

@@ -9,6 +9,7 @@ use lib.ListN.{length, getD}
 use Rattle.sql.specs.Schema.{Table, Schema}
 use Rattle.sql.specs.Plan.{limit, offset, order, projection, remap, aggregate, Over, filter, other, Node, leaf, over, join, remap-columns, columns}
 use Rattle.cells.specs.Cells.{Part}
+use Rattle.cells.specs.Room.{most-words}
 use Rattle.words.specs.Words.{all-words, target-words}
 use Rattle.words.specs.Place.{NodeHere}
 
@@ -39,7 +40,7 @@ pub record ColumnsAt (widths s : List ℕ) (lo hi : ℕ) : Type 0 where
   pub p : Node
   pub here : NodeHere s lo hi p
   pub narrow : Narrow p
-  pub short : hi ≤ 16777216
+  pub short : hi ≤ most-words
 
 -- ---- contracts
 

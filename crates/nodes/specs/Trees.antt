@@ -5,6 +5,7 @@ use mathlib.Core.List.{List, [], _++_}
 use lib.ListN.{length}
 use Rattle.cells.specs.declared.Cell.{Cell}
 use Rattle.cells.specs.Cells.{sized, start-at, Part}
+use Rattle.sheet.specs.Tags
 
 -- w is the words of n trees, one after the other.
 pub data Trees : ℕ → List ℕ → Type 0 where
@@ -21,7 +22,7 @@ pub record TreesAt (s : List ℕ) (n hi : ℕ) : Type 0 where
 -- The same of trees of which each whose tag is below 10 is one cell: a constant or a column. So are the parts of every node.
 pub data Parts : ℕ → List ℕ → Type 0 where
   no-part : Parts zero []
-  one-part-more : {n : ℕ} {w : List ℕ} → Parts n w → (children : List ℕ) (k : Cell) → (k .tag < 10 → length children ≡ 0)
+  one-part-more : {n : ℕ} {w : List ℕ} → Parts n w → (children : List ℕ) (k : Cell) → (k .tag < Tags.binary → length children ≡ 0)
       → Parts (suc n) (w ++ sized children k)
 
 pub record PartsAt (s : List ℕ) (n hi : ℕ) : Type 0 where

@@ -10,7 +10,7 @@ ghost use Rattle.nodes.specs.Own.{OwnStart, OwnTrees, SourceCount};
 ghost use Rattle.nodes.specs.Columns.{ColumnsAt, ColumnCount, past, TargetsAt, RemapColumns, GoesThrough};
 
 // Where the last n trees start that end before hi.
-pub fn trees_start(s: &[usize], n: usize, hi: usize) -> usize
+pub fn trees_start(s: &[u32], n: usize, hi: usize) -> usize
     requires { ⌜ TreesAt (now s) n hi ⌝ }
     ensures { λ r. ⌜ r ≡ trees-start (now (s .entry)) n hi ⌝ }
 {
@@ -25,15 +25,15 @@ pub fn trees_start(s: &[usize], n: usize, hi: usize) -> usize
 
 // The same of a node's parts, of which many can be constants or columns: one cell each, as the tag tells. A branch by the tag is predicted, where the walk
 // would wait for the size.
-fn parts_start(s: &[usize], n: usize, hi: usize) -> usize
+fn parts_start(s: &[u32], n: usize, hi: usize) -> usize
     requires { ⌜ PartsAt (now s) n hi ⌝ }
     ensures { λ r. ⌜ r ≡ trees-start (now (s .entry)) n hi ⌝ }
 {
     let mut at = hi;
     let mut left = n;
     while 0 < left {
-        if cells::tag_at(s, at) < 10 {
-            at -= 6;
+        if cells::tag_at(s, at) < tags::BINARY {
+            at -= cells::CELL_WORDS;
         } else {
             at = cells::start(s, at);
         }
@@ -43,27 +43,27 @@ fn parts_start(s: &[usize], n: usize, hi: usize) -> usize
 }
 
 // How many sources the node from lo to hi has: two a join; none a lookup (53, 54), a Nothing, a Scan or a Values (62, 63); one any other.
-pub fn source_count(s: &[usize], lo: usize, hi: usize) -> usize
+pub fn source_count(s: &[u32], lo: usize, hi: usize) -> usize
     requires { ⌜ NodeAt (now s) lo hi ⌝ }
     ensures { λ r. ⌜ SourceCount (now (s .entry)) lo hi r ⌝ }
 {
     let tag = cells::tag_at(s, hi);
-    if tag == 52 {
+    if tag == tags::HASH_JOIN {
         return 2;
     }
-    if tag == 56 {
+    if tag == tags::NESTED_LOOP_JOIN {
         return 2;
     }
-    if tag < 53 {
+    if tag < tags::INDEX_LOOKUP {
         return 1;
     }
-    if tag < 55 {
+    if tag < tags::LIMIT {
         return 0;
     }
-    if tag == 57 {
+    if tag == tags::NOTHING {
         return 0;
     }
-    if tag < 62 {
+    if tag < tags::SCAN {
         return 1;
     }
     0
@@ -71,29 +71,29 @@ pub fn source_count(s: &[usize], lo: usize, hi: usize) -> usize
 
 // How many trees the own words of a node with sources are: an Aggregate's expressions and Aggs, an Order's Keys, a Projection's Items, a Remap's
 // Targets, a Filter's predicate, and that of a NestedLoopJoin if it has one.
-pub fn own_trees(s: &[usize], lo: usize, hi: usize) -> usize
+pub fn own_trees(s: &[u32], lo: usize, hi: usize) -> usize
     requires { ⌜ NodeAt (now s) lo hi ⌝ }
     ensures { λ r. ⌜ OwnTrees (now (s .entry)) lo hi r ⌝ }
 {
     let c = cells::cell_at(s, hi);
-    if c.tag == 50 {
-        return c.a + c.b;
+    if c.tag == tags::AGGREGATE {
+        return c.a as usize + c.b as usize;
     }
-    if 59 <= c.tag {
-        return c.a;
+    if tags::ORDER <= c.tag {
+        return c.a as usize;
     }
-    if c.tag == 51 {
+    if c.tag == tags::FILTER {
         return 1;
     }
-    if c.tag == 56 {
-        return c.flag % 2;
+    if c.tag == tags::NESTED_LOOP_JOIN {
+        return (c.flag % 2) as usize;
     }
     0
 }
 
 // Where the own words of the node from lo to hi start: those of its parts, between its sources and its cell. A Remap's Targets, of which there can be many,
 // are one cell each, and of an Aggregate's expressions many can be.
-pub fn own_start(s: &[usize], lo: usize, hi: usize) -> usize
+pub fn own_start(s: &[u32], lo: usize, hi: usize) -> usize
     requires { ⌜ NodeAt (now s) lo hi ⌝ }
     ensures { λ r. ⌜ OwnStart (now (s .entry)) lo hi r ⌝ }
 {
@@ -102,13 +102,13 @@ pub fn own_start(s: &[usize], lo: usize, hi: usize) -> usize
     }
     let n = own_trees(s, lo, hi);
     let tag = cells::tag_at(s, hi);
-    if tag == 61 {
-        return hi - 6 - 6 * n;
+    if tag == tags::REMAP {
+        return hi - cells::CELL_WORDS - cells::CELL_WORDS * n;
     }
-    if tag == 50 {
-        return parts_start(s, n, hi - 6);
+    if tag == tags::AGGREGATE {
+        return parts_start(s, n, hi - cells::CELL_WORDS);
     }
-    trees_start(s, n, hi - 6)
+    trees_start(s, n, hi - cells::CELL_WORDS)
 }
 
 // The number of columns of table t; a table that there isn't has none.
@@ -122,13 +122,13 @@ fn table_columns(widths: &[usize], t: usize) -> usize
 }
 
 // The larger of n and one past the target that a Target's cell says, if it says one.
-fn past_target(n: usize, flag: usize, a: usize) -> usize
+fn past_target(n: usize, flag: u32, a: u32) -> usize
     requires { ⌜ past flag a ≤ 256 ⌝ }
     ensures { λ r. ⌜ r ≡ max n (past flag a) ⌝ }
 {
     if flag == 1 {
-        if n <= a {
-            return a + 1;
+        if n <= a as usize {
+            return a as usize + 1;
         }
         return n;
     }
@@ -136,14 +136,14 @@ fn past_target(n: usize, flag: usize, a: usize) -> usize
 }
 
 // One past the highest target of the Targets from lo to hi.
-fn remap_columns(s: &[usize], lo: usize, hi: usize) -> usize
+fn remap_columns(s: &[u32], lo: usize, hi: usize) -> usize
     requires { ⌜ TargetsAt (now s) lo hi ⌝ }
     ensures { λ r. ⌜ RemapColumns (now (s .entry)) lo hi r ⌝ }
 {
     let mut n: usize = 0;
     let mut i = lo;
     while i < hi {
-        i += 6;
+        i += cells::CELL_WORDS;
         let c = cells::cell_at(s, i);
         n = past_target(n, c.flag, c.a);
     }
@@ -151,28 +151,28 @@ fn remap_columns(s: &[usize], lo: usize, hi: usize) -> usize
 }
 
 // The columns of a node without sources.
-fn leaf_columns(s: &[usize], lo: usize, hi: usize, widths: &[usize]) -> usize
+fn leaf_columns(s: &[u32], lo: usize, hi: usize, widths: &[usize]) -> usize
     requires { ⌜ NodeAt (now s) lo hi ⌝ }
     requires { ⌜ SourceCount (now s) lo hi 0 ⌝ }
     ensures { λ r. ⌜ ColumnCount (now (widths .entry)) (now (s .entry)) lo hi r ⌝ }
 {
     let c = cells::cell_at(s, hi);
-    if c.tag == 57 {
-        return c.a;
+    if c.tag == tags::NOTHING {
+        return c.a as usize;
     }
-    if c.tag == 63 {
+    if c.tag == tags::VALUES {
         if c.a == 0 {
             return 0;
         }
-        let first = trees_start(s, c.a - 1, hi - 6);
+        let first = trees_start(s, c.a as usize - 1, hi - cells::CELL_WORDS);
         let row = cells::cell_at(s, first);
-        return row.a;
+        return row.a as usize;
     }
-    table_columns(widths, c.a)
+    table_columns(widths, c.a as usize)
 }
 
 // The columns of an Aggregate, a Projection or a Remap, whose own words start at m.
-fn own_columns(s: &[usize], lo: usize, hi: usize, m: usize, widths: &[usize]) -> usize
+fn own_columns(s: &[u32], lo: usize, hi: usize, m: usize, widths: &[usize]) -> usize
     requires { ⌜ ColumnsAt (now widths) (now s) lo hi ⌝ }
     requires { ⌜ SourceCount (now s) lo hi 1 ⌝ }
     requires { ⌜ OwnStart (now s) lo hi m ⌝ }
@@ -180,44 +180,44 @@ fn own_columns(s: &[usize], lo: usize, hi: usize, m: usize, widths: &[usize]) ->
     ensures { λ r. ⌜ ColumnCount (now (widths .entry)) (now (s .entry)) lo hi r ⌝ }
 {
     let c = cells::cell_at(s, hi);
-    if c.tag == 50 {
-        return c.b + c.a;
+    if c.tag == tags::AGGREGATE {
+        return c.b as usize + c.a as usize;
     }
-    if c.tag == 60 {
-        return c.a;
+    if c.tag == tags::PROJECTION {
+        return c.a as usize;
     }
-    remap_columns(s, m, hi - 6)
+    remap_columns(s, m, hi - cells::CELL_WORDS)
 }
 
 // Whether the columns of the node from lo to hi are those of its sources: 51 Filter, 52 HashJoin, 55 Limit, 56 NestedLoopJoin, 58 Offset, 59 Order.
-fn goes_through(s: &[usize], lo: usize, hi: usize) -> usize
+fn goes_through(s: &[u32], lo: usize, hi: usize) -> usize
     requires { ⌜ NodeAt (now s) lo hi ⌝ }
     ensures { λ r. ⌜ GoesThrough (now (s .entry)) lo hi r ⌝ }
 {
     let tag = cells::tag_at(s, hi);
-    if tag == 50 {
+    if tag == tags::AGGREGATE {
         return 0;
     }
-    if tag < 53 {
+    if tag < tags::INDEX_LOOKUP {
         return 1;
     }
-    if tag < 55 {
+    if tag < tags::LIMIT {
         return 0;
     }
-    if tag < 57 {
+    if tag < tags::NOTHING {
         return 1;
     }
-    if tag == 57 {
+    if tag == tags::NOTHING {
         return 0;
     }
-    if tag < 60 {
+    if tag < tags::PROJECTION {
         return 1;
     }
     0
 }
 
 // The columns of a node that says them itself; its own words start at m.
-fn said_columns(s: &[usize], lo: usize, hi: usize, m: usize, widths: &[usize]) -> usize
+fn said_columns(s: &[u32], lo: usize, hi: usize, m: usize, widths: &[usize]) -> usize
     requires { ⌜ ColumnsAt (now widths) (now s) lo hi ⌝ }
     requires { ⌜ OwnStart (now s) lo hi m ⌝ }
     requires { ⌜ GoesThrough (now s) lo hi 0 ⌝ }
@@ -231,7 +231,7 @@ fn said_columns(s: &[usize], lo: usize, hi: usize, m: usize, widths: &[usize]) -
 
 // plan.rs, columns: how many columns the node from lo to hi emits. widths[t] is the number of columns of table t. The node's cells are met from the
 // last to the first: one whose columns are those of its sources gives way to these, which end where its own words start.
-pub fn columns(s: &[usize], lo: usize, hi: usize, widths: &[usize]) -> usize
+pub fn columns(s: &[u32], lo: usize, hi: usize, widths: &[usize]) -> usize
     requires { ⌜ ColumnsAt (now widths) (now s) lo hi ⌝ }
     ensures { λ r. ⌜ ColumnCount (now (widths .entry)) (now (s .entry)) lo hi r ⌝ }
 {

@@ -6,60 +6,60 @@ ghost use mathlib.Core.Path.{_≡_};
 ghost use Prim.Native.Nat.{_≤_};
 ghost use Rattle.sheet.specs.Operations.{one-pass, all-five};
 ghost use Rattle.optimizer.specs.Choices.{Choice};
-ghost use Rattle.optimizer.specs.declared.Chosen.the-variants.{All};
 ghost use Rattle.hand_out.specs.HandOut.{outcome};
 ghost use Rattle.sheet_passes.specs.Rooms.{FitsIn, RunsIn};
 
-// Buffers for 16 cells. Each size has a function of its own, so that a small plan has a small frame: each page of a frame is touched when the function is entered.
-fn in_16(s: &[u8], c: Chosen, count: usize, out: &mut [u8]) -> Answer
+// Buffers for 24 cells, where plans of up to 16 are tried: copies of lookups make a small join's plan half as large again, and a second run takes longer than the
+// clearing of some more words. Each size has a function of its own, so that a small plan has a small frame: each page of a frame is touched when the function is
+// entered.
+fn in_24(s: &[u8], c: Chosen, count: usize, out: &mut [u8]) -> Answer
     requires { ⌜ Choice c ⌝ }
-    requires { ⌜ FitsIn 16 (now s) ⌝ }
-    ensures { λ a. ⌜ RunsIn 16 (now (s .entry)) c count (now (out .entry)) a (now (out .exit)) ⌝ }
+    requires { ⌜ FitsIn 24 (now s) ⌝ }
+    ensures { λ a. ⌜ RunsIn 24 (now (s .entry)) c count (now (out .entry)) a (now (out .exit)) ⌝ }
 {
-    let mut x = [0usize; 96];
-    let mut y = [0usize; 96];
-    let mut z = [0usize; 96];
-    let mut w = [0usize; 96];
+    let mut x = [0u32; 144];
+    let mut y = [0u32; 144];
+    let mut z = [0u32; 144];
+    let mut w = [0u32; 144];
     sheet_passes::run(s, c, count, &mut x, &mut y, &mut z, &mut w, out)
 }
 
-// Buffers for 96 cells, where plans of up to 64 are tried: copies of lookups make a small join's plan half as large again, and a second run takes longer than the
-// clearing of some more words.
+// Buffers for 96 cells, where plans of up to 64 are tried.
 fn in_96(s: &[u8], c: Chosen, count: usize, out: &mut [u8]) -> Answer
     requires { ⌜ Choice c ⌝ }
     requires { ⌜ FitsIn 96 (now s) ⌝ }
     ensures { λ a. ⌜ RunsIn 96 (now (s .entry)) c count (now (out .entry)) a (now (out .exit)) ⌝ }
 {
-    let mut x = [0usize; 576];
-    let mut y = [0usize; 576];
-    let mut z = [0usize; 576];
-    let mut w = [0usize; 576];
+    let mut x = [0u32; 576];
+    let mut y = [0u32; 576];
+    let mut z = [0u32; 576];
+    let mut w = [0u32; 576];
     sheet_passes::run(s, c, count, &mut x, &mut y, &mut z, &mut w, out)
 }
 
-// Buffers for 192 cells.
-fn in_192(s: &[u8], c: Chosen, count: usize, out: &mut [u8]) -> Answer
+// Buffers for 224 cells, where plans of up to 192 are tried.
+fn in_224(s: &[u8], c: Chosen, count: usize, out: &mut [u8]) -> Answer
     requires { ⌜ Choice c ⌝ }
-    requires { ⌜ FitsIn 192 (now s) ⌝ }
-    ensures { λ a. ⌜ RunsIn 192 (now (s .entry)) c count (now (out .entry)) a (now (out .exit)) ⌝ }
+    requires { ⌜ FitsIn 224 (now s) ⌝ }
+    ensures { λ a. ⌜ RunsIn 224 (now (s .entry)) c count (now (out .entry)) a (now (out .exit)) ⌝ }
 {
-    let mut x = [0usize; 1152];
-    let mut y = [0usize; 1152];
-    let mut z = [0usize; 1152];
-    let mut w = [0usize; 1152];
+    let mut x = [0u32; 1344];
+    let mut y = [0u32; 1344];
+    let mut z = [0u32; 1344];
+    let mut w = [0u32; 1344];
     sheet_passes::run(s, c, count, &mut x, &mut y, &mut z, &mut w, out)
 }
 
-// Buffers for 640 cells.
-fn in_640(s: &[u8], c: Chosen, count: usize, out: &mut [u8]) -> Answer
+// Buffers for 704 cells, where plans of up to 640 are tried.
+fn in_704(s: &[u8], c: Chosen, count: usize, out: &mut [u8]) -> Answer
     requires { ⌜ Choice c ⌝ }
-    requires { ⌜ FitsIn 640 (now s) ⌝ }
-    ensures { λ a. ⌜ RunsIn 640 (now (s .entry)) c count (now (out .entry)) a (now (out .exit)) ⌝ }
+    requires { ⌜ FitsIn 704 (now s) ⌝ }
+    ensures { λ a. ⌜ RunsIn 704 (now (s .entry)) c count (now (out .entry)) a (now (out .exit)) ⌝ }
 {
-    let mut x = [0usize; 3840];
-    let mut y = [0usize; 3840];
-    let mut z = [0usize; 3840];
-    let mut w = [0usize; 3840];
+    let mut x = [0u32; 4224];
+    let mut y = [0u32; 4224];
+    let mut z = [0u32; 4224];
+    let mut w = [0u32; 4224];
     sheet_passes::run(s, c, count, &mut x, &mut y, &mut z, &mut w, out)
 }
 
@@ -69,10 +69,10 @@ fn in_2048(s: &[u8], c: Chosen, count: usize, out: &mut [u8]) -> Answer
     requires { ⌜ FitsIn 2048 (now s) ⌝ }
     ensures { λ a. ⌜ RunsIn 2048 (now (s .entry)) c count (now (out .entry)) a (now (out .exit)) ⌝ }
 {
-    let mut x = [0usize; 12288];
-    let mut y = [0usize; 12288];
-    let mut z = [0usize; 12288];
-    let mut w = [0usize; 12288];
+    let mut x = [0u32; 12288];
+    let mut y = [0u32; 12288];
+    let mut z = [0u32; 12288];
+    let mut w = [0u32; 12288];
     sheet_passes::run(s, c, count, &mut x, &mut y, &mut z, &mut w, out)
 }
 
@@ -84,7 +84,7 @@ fn run(s: &[u8], c: Chosen, count: usize, cells: usize, out: &mut [u8]) -> Answe
     ensures { λ a. ⌜ RunsIn 2048 (now (s .entry)) c count (now (out .entry)) a (now (out .exit)) ⌝ }
 {
     if cells <= 16 {
-        let a = in_16(s, c, count, out);
+        let a = in_24(s, c, count, out);
         if a.number == 14 {
             return run(s, c, count, 64, out);
         }
@@ -98,14 +98,14 @@ fn run(s: &[u8], c: Chosen, count: usize, cells: usize, out: &mut [u8]) -> Answe
         return a;
     }
     if cells <= 192 {
-        let a = in_192(s, c, count, out);
+        let a = in_224(s, c, count, out);
         if a.number == 14 {
             return run(s, c, count, 640, out);
         }
         return a;
     }
     if cells <= 640 {
-        let a = in_640(s, c, count, out);
+        let a = in_704(s, c, count, out);
         if a.number == 14 {
             return run(s, c, count, 2048, out);
         }
@@ -131,21 +131,6 @@ pub fn pass(s: &[u8], k: usize, out: &mut [u8]) -> Answer
     run(s, Chosen::One(k), a.columns, a.cells, out)
 }
 
-// All five on a sheet that is accepted, of so many cells. A plan without a predicate needs fewer buffers, and a small one smaller ones (crate predicate_free). With
-// 16 cells or fewer, looking at each cell takes as long as that saves.
-fn run_all(s: &[u8], count: usize, cells: usize, out: &mut [u8]) -> Answer
-    requires { ⌜ FitsIn cells (now s) × (cells ≤ 2048) ⌝ }
-    ensures { λ a. ⌜ RunsIn 2048 (now (s .entry)) All count (now (out .entry)) a (now (out .exit)) ⌝ }
-{
-    if cells <= 16 {
-        return run(s, Chosen::All, count, cells, out);
-    }
-    if predicates::has_predicate(s) {
-        return run(s, Chosen::All, count, cells, out);
-    }
-    predicate_free::optimize(s, count, cells, out)
-}
-
 // All five in turn.
 pub fn optimize(s: &[u8], out: &mut [u8]) -> Answer
     ensures { λ a. ⌜ outcome a (now (out .exit)) ≡ all-five (now (s .entry)) (now (out .entry)) ⌝ }
@@ -154,5 +139,5 @@ pub fn optimize(s: &[u8], out: &mut [u8]) -> Answer
     if a.number != 0 {
         return a;
     }
-    run_all(s, a.columns, a.cells, out)
+    run(s, Chosen::All, a.columns, a.cells, out)
 }

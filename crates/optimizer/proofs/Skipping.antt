@@ -17,9 +17,9 @@ use Rattle.stream.proofs.Streams.{top-here}
 use Rattle.kept.specs.Kept.{Kept}
 use Rattle.fold_operator.specs.declared.Folded.{Folded}
 use Rattle.passes.specs.Passes.{Plan-in, PlanAt, Leaves, Runs}
-use Rattle.predicates.specs.Predicates.{HasScanFilter, HasJoinPredicate}
-use Rattle.predicates.specs.Idle.{lookup-idle, hash-idle}
-use Rattle.optimizer.specs.Settled.{from-lookup, from-hash}
+use Rattle.predicates.specs.Predicates.{HasPredicate}
+use Rattle.predicates.specs.Idle.{push-idle, lookup-idle, hash-idle}
+use Rattle.optimizer.specs.Settled.{from-pushdown, from-lookup, from-hash}
 
 pub plan-there : {G : Schema → List ℕ → Type 0} {x : List ℕ} {t : ℕ} → PlanAt G x t → NodeAt x 0 t
 plan-there {G} {x} {t} at = record { p = at .p; here = top-here x t (at .p) (at .plan .words-are) (at .plan .inside) }
@@ -38,20 +38,14 @@ pub runs-same : {G : Schema → List ℕ → Type 0} (f g : ℕ → Schema → N
 runs-same f g {d = d} {r = r} e h schema text tables room p given at =
     subst (λ (a : Answer Node). Leaves (Kept schema text tables p) d a r) (e schema text tables room p at) (h schema text tables room p given at)
 
--- IndexLookup, of a plan without a Scan's filter
-pub without-lookup : {G : Schema → List ℕ → Type 0} {x : List ℕ} {t : ℕ} {d : List ℕ} {r : Folded} {b : Bool} → HasScanFilter x t b → b ≡ false
-    → Runs G (λ room schema p. in-turn (from-hash room schema) p) x t d r → Runs G (λ room schema p. in-turn (from-lookup room schema) p) x t d r
-without-lookup asked free h =
-    runs-same (λ room schema p. in-turn (from-hash room schema) p) (λ room schema p. in-turn (from-lookup room schema) p)
+-- FilterPushdown, IndexLookup and HashJoin, of a plan without a predicate
+pub without-predicate : {G : Schema → List ℕ → Type 0} {x : List ℕ} {t : ℕ} {d : List ℕ} {r : Folded} {b : Bool} → HasPredicate x t b → b ≡ false
+    → Runs G (λ room schema p. Room.ShortCircuit room schema 0 p >>= λ m. done m) x t d r → Runs G (λ room schema p. in-turn (from-pushdown room schema) p) x t d r
+without-predicate asked free h =
+    runs-same (λ room schema p. Room.ShortCircuit room schema 0 p >>= λ m. done m) (λ room schema p. in-turn (from-pushdown room schema) p)
     (λ schema text tables room p at.
-    sym (ap (λ (a : Answer Node). a >>= in-turn (from-hash room schema)) (lookup-idle room schema 0 p (sym (asked p (here at)) ∙ free) (in-room at))))
-    h
-
--- HashJoin, of a plan without a join's predicate
-pub without-hash : {G : Schema → List ℕ → Type 0} {x : List ℕ} {t : ℕ} {d : List ℕ} {r : Folded} {b : Bool} → HasJoinPredicate x t b → b ≡ false
-    → Runs G (λ room schema p. Room.ShortCircuit room schema 0 p >>= λ m. done m) x t d r → Runs G (λ room schema p. in-turn (from-hash room schema) p) x t d r
-without-hash asked free h =
-    runs-same (λ room schema p. Room.ShortCircuit room schema 0 p >>= λ m. done m) (λ room schema p. in-turn (from-hash room schema) p)
-    (λ schema text tables room p at.
-    ap (λ (q : Node). Room.ShortCircuit room schema 0 q >>= λ m. done m) (sym (hash-idle schema p (sym (asked p (here at)) ∙ free))))
+    let e = sym (asked p (here at)) ∙ free in
+    sym (ap (λ (a : Answer Node). a >>= in-turn (from-lookup room schema)) (push-idle room schema 0 p e (in-room at))
+    ∙ ap (λ (a : Answer Node). a >>= in-turn (from-hash room schema)) (lookup-idle room schema 0 p e (in-room at))
+    ∙ ap (λ (q : Node). Room.ShortCircuit room schema 0 q >>= λ m. done m) (hash-idle schema p e)))
     h

@@ -13,13 +13,13 @@ ghost use Rattle.optimizer.specs.Settled.{from-pushdown, from-lookup, fr
 pub fn pass(
     k: usize,
     text: &[u8],
-    x: &mut [usize],
-    y: &mut [usize],
-    z: &mut [usize],
-    w: &mut [usize],
+    x: &mut [u32],
+    y: &mut [u32],
+    z: &mut [u32],
+    w: &mut [u32],
     t: usize,
     widths: &[usize],
-    names: &[usize],
+    names: &[u32],
     columns: &[u8],
     keys: &[usize],
 ) -> Folded
@@ -43,38 +43,35 @@ pub fn pass(
     passes::short_circuit(x, y, z, t, widths, names, columns)
 }
 
-// The passes from the fourth on. The plan that they give is in z. HashJoin leaves a plan without a join's predicate as it is, and isn't run then.
+// The passes from the fourth on. The plan that they give is in z.
 fn from_hash(
-    x: &mut [usize],
-    y: &mut [usize],
-    z: &mut [usize],
+    x: &mut [u32],
+    y: &mut [u32],
+    z: &mut [u32],
     t: usize,
     widths: &[usize],
-    names: &[usize],
+    names: &[u32],
     columns: &[u8],
 ) -> Folded
     requires { ⌜ PlanAt (For-labels (now widths) (now names) (now columns)) (now x) t ⌝ }
     requires { ⌜ (length (now y) ≡ length (now x)) × (length (now z) ≡ length (now x)) ⌝ }
     ensures { λ r. ⌜ Runs (For-labels (now (widths .entry)) (now (names .entry)) (now (columns .entry))) (λ room schema p. in-turn (from-hash room schema) p) (now (x .entry)) t (now (z .exit)) r ⌝ }
 {
-    if !predicates::has_join_predicate(x, t) {
-        return passes::short_circuit(x, z, y, t, widths, names, columns);
-    }
     match passes::hash_join(x, y, t, widths) {
         Folded::Done(n) => passes::short_circuit(y, z, x, n, widths, names, columns),
         Folded::Refused(number, place) => Folded::Refused(number, place),
     }
 }
 
-// The passes from the third on. The plan that they give is in y. IndexLookup leaves a plan without a Scan's filter as it is, and isn't run then.
+// The passes from the third on. The plan that they give is in y.
 fn from_lookup(
-    x: &mut [usize],
-    y: &mut [usize],
-    z: &mut [usize],
-    w: &mut [usize],
+    x: &mut [u32],
+    y: &mut [u32],
+    z: &mut [u32],
+    w: &mut [u32],
     t: usize,
     widths: &[usize],
-    names: &[usize],
+    names: &[u32],
     columns: &[u8],
     keys: &[usize],
 ) -> Folded
@@ -82,24 +79,22 @@ fn from_lookup(
     requires { ⌜ Alike (now x) (now y) (now z) (now w) ⌝ }
     ensures { λ r. ⌜ Runs (For-lent (now (widths .entry)) (now (names .entry)) (now (columns .entry)) (now (keys .entry))) (λ room schema p. in-turn (from-lookup room schema) p) (now (x .entry)) t (now (y .exit)) r ⌝ }
 {
-    if !predicates::has_scan_filter(x, t) {
-        return from_hash(x, z, y, t, widths, names, columns);
-    }
     match passes::look_up(x, z, y, w, t, widths, keys, columns) {
         Folded::Done(n) => from_hash(z, x, y, n, widths, names, columns),
         Folded::Refused(number, place) => Folded::Refused(number, place),
     }
 }
 
-// The passes from the second on. The plan that they give is in y.
+// The passes from the second on. The plan that they give is in y. The second to the fourth leave a plan without a predicate as it is (crate predicates), and aren't
+// run then.
 fn from_pushdown(
-    x: &mut [usize],
-    y: &mut [usize],
-    z: &mut [usize],
-    w: &mut [usize],
+    x: &mut [u32],
+    y: &mut [u32],
+    z: &mut [u32],
+    w: &mut [u32],
     t: usize,
     widths: &[usize],
-    names: &[usize],
+    names: &[u32],
     columns: &[u8],
     keys: &[usize],
 ) -> Folded
@@ -107,6 +102,9 @@ fn from_pushdown(
     requires { ⌜ Alike (now x) (now y) (now z) (now w) ⌝ }
     ensures { λ r. ⌜ Runs (For-lent (now (widths .entry)) (now (names .entry)) (now (columns .entry)) (now (keys .entry))) (λ room schema p. in-turn (from-pushdown room schema) p) (now (x .entry)) t (now (y .exit)) r ⌝ }
 {
+    if !predicates::has_predicate(x, t) {
+        return passes::short_circuit(x, y, z, t, widths, names, columns);
+    }
     match passes::push_down_in_place(x, y, z, w, t, widths) {
         Folded::Done(n) => from_lookup(x, y, z, w, n, widths, names, columns, keys),
         Folded::Refused(number, place) => Folded::Refused(number, place),
@@ -116,13 +114,13 @@ fn from_pushdown(
 // All five in turn. The plan that they give is in y.
 pub fn optimize(
     text: &[u8],
-    x: &mut [usize],
-    y: &mut [usize],
-    z: &mut [usize],
-    w: &mut [usize],
+    x: &mut [u32],
+    y: &mut [u32],
+    z: &mut [u32],
+    w: &mut [u32],
     t: usize,
     widths: &[usize],
-    names: &[usize],
+    names: &[u32],
     columns: &[u8],
     keys: &[usize],
 ) -> Folded
@@ -146,13 +144,13 @@ pub enum Chosen {
 pub fn run(
     c: Chosen,
     text: &[u8],
-    x: &mut [usize],
-    y: &mut [usize],
-    z: &mut [usize],
-    w: &mut [usize],
+    x: &mut [u32],
+    y: &mut [u32],
+    z: &mut [u32],
+    w: &mut [u32],
     t: usize,
     widths: &[usize],
-    names: &[usize],
+    names: &[u32],
     columns: &[u8],
     keys: &[usize],
 ) -> Folded

@@ -12,7 +12,8 @@ use Rattle.words.specs.Words.{node-words}
 use Rattle.edit.specs.Edit as Edit
 use Rattle.kept.specs.Kept.{Kept, kept}
 use Rattle.kept.specs.Pass.{PassAt, Passes}
-use Rattle.cells.specs.Room.{Copies}
+use Rattle.cells.specs.Room.{Short, most-words, Copies}
+use Rattle.cells.proofs.Laws.{fits}
 use Rattle.nodes.specs.Columns.{Tables}
 use Rattle.stream.specs.Stream.{StreamAt, Streams-to, Streamed, Streams}
 use Rattle.stream.proofs.Streams.{top-here, top-reading, top-at}
@@ -85,15 +86,15 @@ module _ {Given : Schema → List ℕ → Type 0} {Lent : Schema → Type 0} (gi
   pub asked : PlanAt Given x t → StreamAt Lent x 0 t 0 y 0
   asked at =
       let p = at .plan in
-      top-at x t (at .p) (p .words-are) (p .inside) (at .schema) (at .text) (at .tables) (p .fit) y (at .room) (alike ∙ p .all) (omega (arith, p .inside, alike)) Lent
+      top-at x t (at .p) (p .words-are) (p .inside) (at .schema) (at .text) (at .tables) (p .fit) y (at .room) (alike ∙ p .all) (omega (arith, at .short, alike)) (omega (arith, p .inside, alike)) Lent
       (give (at .schema) (at .text) (at .given)) (at .short) (omega (arith, at .short, alike))
 
-  pub runs : (f : ℕ → Schema → ℕ → Node → Answer Node) {n : ℕ} {d : List ℕ} {r : Folded} → Streams Lent f x 0 t 0 y 0 n d → Ends d n r
+  pub runs : length x ≤ most-words → (f : ℕ → Schema → ℕ → Node → Answer Node) {n : ℕ} {d : List ℕ} {r : Folded} → Streams Lent f x 0 t 0 y 0 n d → Ends d n r
       → Runs Given (λ room schema p. f room schema 0 p) x t d r
-  runs f s e schema text tables room p g h =
+  runs short f s e schema text tables room p g h =
       streamed (Kept schema text tables p)
       (s schema text tables (give schema text g) room 0 p
-      (top-reading x t p (h .words-are) (h .inside) schema text tables (h .fit) y room (alike ∙ h .all) (omega (arith, h .inside, alike))))
+      (top-reading x t p (h .words-are) (h .inside) schema text tables (h .fit) y room (alike ∙ h .all) (omega (arith, short, alike)) (omega (arith, h .inside, alike))))
       e
 
 -- ---- folding
@@ -140,19 +141,19 @@ module _ {widths names columns x y : List ℕ} {t : ℕ} (alike : length y ≡ l
               room = at .room;
               rest = 0;
               p = at .p;
-              reading = top-reading x t (at .p) (p .words-are) (p .inside) (at .schema) (at .text) (at .tables) (p .fit) y (at .room) (alike ∙ p .all) (omega (arith, p .inside, alike));
+              reading = top-reading x t (at .p) (p .words-are) (p .inside) (at .schema) (at .text) (at .tables) (p .fit) y (at .room) (alike ∙ p .all) (omega (arith, at .short, alike)) (omega (arith, p .inside, alike));
               short = at .short;
               short-out = omega (arith, at .short, alike);
             };
         named = at .given .1;
       }
 
-  pub circuited : {n : ℕ} {d : List ℕ} {r : Folded} → Circuits widths names columns x 0 t 0 y 0 n d → Ends d n r
+  pub circuited : length x ≤ most-words → {n : ℕ} {d : List ℕ} {r : Folded} → Circuits widths names columns x 0 t 0 y 0 n d → Ends d n r
       → Runs (For-labels widths names columns) (λ room schema p. ShortCircuit room schema 0 p) x t d r
-  circuited s e schema text tables room p g h =
+  circuited short s e schema text tables room p g h =
       streamed (Kept schema text tables p)
       (s schema text tables (g .0) (g .1) room 0 p
-      (top-reading x t p (h .words-are) (h .inside) schema text tables (h .fit) y room (alike ∙ h .all) (omega (arith, h .inside, alike))))
+      (top-reading x t p (h .words-are) (h .inside) schema text tables (h .fit) y room (alike ∙ h .all) (omega (arith, short, alike)) (omega (arith, h .inside, alike))))
       e
 
 -- ---- filters pushed down, in place, and copied
@@ -172,7 +173,7 @@ module _ {widths x : List ℕ} {t : ℕ} where
             record {
               room = at .room;
               rest = 0;
-              shares = record { all = at .plan .all; outside = refl };
+              shares = record { all = at .plan .all; short = omega (arith, at .short); outside = refl };
               pre = [];
               post = [];
               p = at .p;
@@ -182,24 +183,24 @@ module _ {widths x : List ℕ} {t : ℕ} where
         short = at .short;
       }
 
-  pushed : (f : ℕ → Schema → ℕ → Node → Answer Node) {n : ℕ} {x′ : List ℕ} → Passes f widths x t 0 0 n x′ → (schema : Schema) (text : List ℕ) (tables room : ℕ) (p : Node)
+  pushed : length x ≤ most-words → (f : ℕ → Schema → ℕ → Node → Answer Node) {n : ℕ} {x′ : List ℕ} → Passes f widths x t 0 0 n x′ → (schema : Schema) (text : List ℕ) (tables room : ℕ) (p : Node)
       → Tables schema widths → Plan-in schema text tables x t room p → Edit.Left (Kept schema text tables p) x′ n [] [] (f room schema 0 p)
-  pushed f h schema text tables room p given at =
-      h schema text tables given room 0 (record { all = at .all; outside = refl }) [] [] p (at .fit) (top-holds p (at .words-are) (at .inside))
+  pushed short f h schema text tables room p given at =
+      h schema text tables given room 0 (record { all = at .all; short = omega (arith, short); outside = refl }) [] [] p (at .fit) (top-holds p (at .words-are) (at .inside))
 
-  pub push-left : (f : ℕ → Schema → ℕ → Node → Answer Node) {n : ℕ} {x′ : List ℕ} {r : Folded} → Passes f widths x t 0 0 n x′ → Ends x′ n r
+  pub push-left : length x ≤ most-words → (f : ℕ → Schema → ℕ → Node → Answer Node) {n : ℕ} {x′ : List ℕ} {r : Folded} → Passes f widths x t 0 0 n x′ → Ends x′ n r
       → Runs (For-tables widths) (λ room schema p. f room schema 0 p) x t x′ r
-  push-left f h e schema text tables room p given at = edited (Kept schema text tables p) (pushed f h schema text tables room p given at) e
+  push-left short f h e schema text tables room p given at = edited (Kept schema text tables p) (pushed short f h schema text tables room p given at) e
 
 -- What a pass leaves in x′ is copied to d.
-pub copied : (schema : Schema) (text : List ℕ) (tables : ℕ) (p : Node) {answer : Answer Node} (x′ y : List ℕ) (n m : ℕ) (d : List ℕ) → length y ≡ length x′ → length d ≡ length y
+pub copied : (schema : Schema) (text : List ℕ) (tables : ℕ) (p : Node) {answer : Answer Node} (x′ y : List ℕ) (n m : ℕ) (d : List ℕ) → Short y → length y ≡ length x′ → length d ≡ length y
     → Copies x′ 0 n y 0 m d → Leaves (Kept schema text tables p) x′ answer (Folded.Done n) → Leaves (Kept schema text tables p) d answer (Folded.Done m)
-copied schema text tables p {answer} x′ y n m d alike same c h = record { is = go answer (h .is) }
+copied schema text tables p {answer} x′ y n m d short alike same c h = record { is = go answer (h .is) }
   where
     go : (answer : Answer Node) → Left (Kept schema text tables p) x′ answer (Folded.Done n) → Left (Kept schema text tables p) d answer (Folded.Done m)
     go (refused number place) l = absurd l
     go (done q) l =
         let long : length (node-words q) ≡ n = ap length (sym (l .1 .0)) ∙ length-take-le n x′ (l .0) in
         let w = c (node-words q) (top-here x′ n q (l .1 .0) (l .0) .part) in
-        let (i, j) = w .fits (omega (arith, long, l .0, alike)) in
+        let (i, j) = fits w short (omega (arith, long, l .0, alike)) in
         (omega (arith, i, long, l .0, alike, same), (j, l .1 .1))

@@ -11,7 +11,7 @@ use Rattle.kept.specs.Kept.{Kept, kept}
 use Rattle.fold_operator.specs.declared.Folded.{Folded}
 use Rattle.fold_operator.specs.declared.Folded.the-variants as Folded
 use Rattle.passes.specs.Passes.{Plan-in, PlanAt, Left, Leaves, Runs}
-use Rattle.cells.specs.Room.{Copies}
+use Rattle.cells.specs.Room.{Short, Copies}
 use Rattle.passes.proofs.Running.{after, stop, copied}
 
 abbrev pub Gives : (G H : Schema → List ℕ → Type 0) → Type 0
@@ -90,9 +90,9 @@ runs-end f x t d r h schema text tables room p g at =
 
 -- What a pass leaves in x′ is copied to d, or it is refused all the same.
 pub runs-copied : {G : Schema → List ℕ → Type 0} (f : ℕ → Schema → Node → Answer Node) (x : List ℕ) (t : ℕ) (x′ y : List ℕ) (n m : ℕ) (r : Folded) (d : List ℕ)
-    → r ≡ Folded.Done n → Runs G f x t x′ r → length y ≡ length x′ → length d ≡ length y → Copies x′ 0 n y 0 m d → Runs G f x t d (Folded.Done m)
-runs-copied f x t x′ y n m r d e h alike same c schema text tables room p g at =
-    copied schema text tables p x′ y n m d alike same c (subst (Leaves (Kept schema text tables p) x′ (f room schema p)) e (h schema text tables room p g at))
+    → r ≡ Folded.Done n → Runs G f x t x′ r → Short y → length y ≡ length x′ → length d ≡ length y → Copies x′ 0 n y 0 m d → Runs G f x t d (Folded.Done m)
+runs-copied f x t x′ y n m r d e h short alike same c schema text tables room p g at =
+    copied schema text tables p x′ y n m d short alike same c (subst (Leaves (Kept schema text tables p) x′ (f room schema p)) e (h schema text tables room p g at))
 
 elsewhere : (Fit : Node → Type 0) (x′ d : List ℕ) (number place : ℕ) (answer : Answer Node) → Left Fit x′ answer (Folded.Refused number place) → Left Fit d answer (Folded.Refused number place)
 elsewhere Fit x′ d number place (done q) h = h

@@ -8,12 +8,14 @@ use Rattle.sql.specs.Plan.{Node}
 use Rattle.sql.specs.Answer.{Answer, done, refused}
 use Rattle.words.specs.Words.{node-words}
 use Rattle.sound.specs.Sound.{Named}
+use Rattle.cells.specs.Room.{most-words}
 use Rattle.nodes.specs.Columns.{Tables}
 use Rattle.labels.specs.Names.{Names}
 use Rattle.indexes.specs.Indexes.{Indexes}
 use Rattle.kept.specs.Kept.{Kept}
 use Rattle.fold_operator.specs.declared.Folded.{Folded}
 use Rattle.fold_operator.specs.declared.Folded.the-variants as Folded
+use Rattle.cells.specs.Cells.{cell-words}
 
 -- What the code is lent of a schema: for names, which lie in the text, and for lookups.
 pub record Lent (schema : Schema) (text widths names columns keys : List ℕ) : Type 0 where
@@ -26,7 +28,7 @@ pub record Plan-in (schema : Schema) (text : List ℕ) (tables : ℕ) (x : List 
   pub fit : Kept schema text tables p p
   pub words-are : take t x ≡ node-words p
   pub inside : t ≤ length x
-  pub all : length x ≡ 6 * room
+  pub all : length x ≡ cell-words * room
 
 -- Some such plan of a schema that is lent: `Given schema text` says what of the schema and the text. Columns and words can be counted without overflow.
 pub record PlanAt (Given : Schema → List ℕ → Type 0) (x : List ℕ) (t : ℕ) : Type 0 where
@@ -37,7 +39,7 @@ pub record PlanAt (Given : Schema → List ℕ → Type 0) (x : List ℕ) (t : �
   pub p : Node
   pub given : Given schema text
   pub plan : Plan-in schema text tables x t room p
-  pub short : length x ≤ 16777216
+  pub short : length x ≤ most-words
 
 -- The slices that a pass works in have the same length.
 pub record Alike (x y z w : List ℕ) : Type 0 where

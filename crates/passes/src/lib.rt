@@ -10,7 +10,7 @@ ghost use Rattle.sql.specs.Room;
 ghost use Rattle.passes.specs.Passes.{PlanAt, Alike, Runs, Ends, For-folding, For-tables, For-lookups, For-labels};
 
 // What stands in the first n words of d, or refusal 14 where n is past its end.
-fn in_room(d: &[usize], n: usize) -> Folded
+fn in_room(d: &[u32], n: usize) -> Folded
     ensures { λ r. ⌜ Ends (now (d .entry)) n r ⌝ }
 {
     if d.len() < n {
@@ -20,7 +20,7 @@ fn in_room(d: &[usize], n: usize) -> Folded
 }
 
 // Pass 1, from x to y.
-pub fn fold(text: &[u8], x: &[usize], y: &mut [usize], t: usize) -> Folded
+pub fn fold(text: &[u8], x: &[u32], y: &mut [u32], t: usize) -> Folded
     requires { ⌜ PlanAt (For-folding (now text)) (now x) t ⌝ }
     requires { ⌜ length (now y) ≡ length (now x) ⌝ }
     ensures { λ r. ⌜ Runs (For-folding (now (text .entry))) (λ room schema p. Optimizer.ConstantFolding 0 p) (now (x .entry)) t (now (y .exit)) r ⌝ }
@@ -30,10 +30,10 @@ pub fn fold(text: &[u8], x: &[usize], y: &mut [usize], t: usize) -> Folded
 
 // Pass 2, in x. y, z and w are scratch.
 pub fn push_down_in_place(
-    x: &mut [usize],
-    y: &mut [usize],
-    z: &mut [usize],
-    w: &mut [usize],
+    x: &mut [u32],
+    y: &mut [u32],
+    z: &mut [u32],
+    w: &mut [u32],
     t: usize,
     widths: &[usize],
 ) -> Folded
@@ -47,10 +47,10 @@ pub fn push_down_in_place(
 
 // Pass 2, in x, and then copied to y.
 pub fn push_down(
-    x: &mut [usize],
-    y: &mut [usize],
-    z: &mut [usize],
-    w: &mut [usize],
+    x: &mut [u32],
+    y: &mut [u32],
+    z: &mut [u32],
+    w: &mut [u32],
     t: usize,
     widths: &[usize],
 ) -> Folded
@@ -66,10 +66,10 @@ pub fn push_down(
 
 // Pass 3, from x to y.
 pub fn look_up(
-    x: &[usize],
-    y: &mut [usize],
-    z: &mut [usize],
-    w: &mut [usize],
+    x: &[u32],
+    y: &mut [u32],
+    z: &mut [u32],
+    w: &mut [u32],
     t: usize,
     widths: &[usize],
     keys: &[usize],
@@ -84,7 +84,7 @@ pub fn look_up(
 }
 
 // Pass 4, from x to y.
-pub fn hash_join(x: &[usize], y: &mut [usize], t: usize, widths: &[usize]) -> Folded
+pub fn hash_join(x: &[u32], y: &mut [u32], t: usize, widths: &[usize]) -> Folded
     requires { ⌜ PlanAt (For-tables (now widths)) (now x) t ⌝ }
     requires { ⌜ length (now y) ≡ length (now x) ⌝ }
     ensures { λ r. ⌜ Runs (For-tables (now (widths .entry))) (λ room schema p. done (Optimizer.HashJoin schema p)) (now (x .entry)) t (now (y .exit)) r ⌝ }
@@ -95,12 +95,12 @@ pub fn hash_join(x: &[usize], y: &mut [usize], t: usize, widths: &[usize]) -> Fo
 
 // Pass 5, from x to y.
 pub fn short_circuit(
-    x: &[usize],
-    y: &mut [usize],
-    z: &mut [usize],
+    x: &[u32],
+    y: &mut [u32],
+    z: &mut [u32],
     t: usize,
     widths: &[usize],
-    names: &[usize],
+    names: &[u32],
     columns: &[u8],
 ) -> Folded
     requires { ⌜ PlanAt (For-labels (now widths) (now names) (now columns)) (now x) t ⌝ }

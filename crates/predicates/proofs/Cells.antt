@@ -1,5 +1,5 @@
 -- The cells of a plan tell what its nodes are: a test that no part's cell passes is passed by one of a plan's cells if and only if a node's own cell passes it.
-use Prim.Native.Nat.{ℕ, _<_}
+use Prim.Native.Nat.{ℕ, _%_, _<_}
 use native.Mathlib.Omega.{arith}
 use mathlib.Core.Bool.{Bool, true, false, _&&_, _||_}
 use mathlib.Core.Path.{_≡_, refl, sym, ap, _∙_}
@@ -14,7 +14,7 @@ use Rattle.sql.specs.Plan.{Label, unlabelled, unqualified, qualified, by-key, b
 use Rattle.sheet.specs.Cell.{Cell}
 use Rattle.sheet.specs.Content.{Content, cell-of, constant-as-cell, unary-tag, binary-tag, labelled, target-as-cell, bit0, constant-cell, column-cell, unary-cell, binary-cell, label-cell, item-cell, key-cell, target-cell, agg-cell, row-cell, aggregate-cell, filter-cell, limit-cell, offset-cell, order-cell, projection-cell, remap-cell, scan-cell, nothing-cell, values-cell, nested-loop-join-cell, hash-join-cell}
 use Rattle.sheet.specs.Cells.{all-cells, alone, present, lookup-content, expression-cells, optional-cells, constant-cells, label-cells, target-cells, item-cells, key-cells, agg-cells, row-cells, leaf-cells, other-cells, over-cells, join-cells, cells}
-use Rattle.predicates.specs.Predicates.{leaf-has-filter, has-scan-filter, join-has-predicate, has-join-predicate, is-filter, has-predicate, any-cell, flagged, predicated}
+use Rattle.predicates.specs.Predicates.{leaf-has-filter, join-has-predicate, is-filter, has-predicate, any-cell, predicated}
 
 or-assoc : (a b c : Bool) → (a || b) || c ≡ a || (b || c)
 or-assoc true b c = refl
@@ -173,88 +173,18 @@ module _ (test : Cell → Bool) (no-part : (k : Cell) → k .tag < 50 → test k
       both : {a b c a′ b′ c′ : Bool} → a ≡ a′ → b ≡ b′ → c ≡ c′ → a || (b || c) ≡ a′ || (b′ || c′)
       both x y z = cc
 
--- ---- 62 Scan
+-- ---- predicates
 
 no-part-is : (tag : ℕ) → 50 < tag → (k : Cell) → k .tag < 50 → eqb (k .tag) tag ≡ false
 no-part-is tag h k l = ne-eqb (k .tag) tag (λ e. omega arith)
 
-no-part-flagged : (tag : ℕ) → 50 < tag → (k : Cell) → k .tag < 50 → flagged tag k ≡ false
-no-part-flagged tag h k l = ap (λ (b : Bool). b && bit0 k) (no-part-is tag h k l)
-
-scan-flagged : (l : Leaf) → flagged 62 (cell-of (leaf-own l)) ≡ leaf-has-filter l
-scan-flagged (scan t none none) = refl
-scan-flagged (scan t none (some e)) = refl
-scan-flagged (scan t (some r) none) = refl
-scan-flagged (scan t (some r) (some e)) = refl
-scan-flagged (lookup by-key t none vs) = refl
-scan-flagged (lookup by-key t (some r) vs) = refl
-scan-flagged (lookup (by-index i) t none vs) = refl
-scan-flagged (lookup (by-index i) t (some r) vs) = refl
-scan-flagged (nothing ls) = refl
-scan-flagged (values rs) = refl
-
-over-unflagged : (tag : ℕ) → ((o : Over) → eqb (cell-of (over-own o) .tag) tag ≡ false) → (o : Over) (b : Bool) → b || flagged tag (cell-of (over-own o)) ≡ b
-over-unflagged tag h o b = ap (λ (c : Bool). b || (c && bit0 (cell-of (over-own o)))) (h o) ∙ or-false b
-
-over-62 : (o : Over) → eqb (cell-of (over-own o) .tag) 62 ≡ false
-over-62 (filter e) = refl
-over-62 (other (limit n)) = refl
-over-62 (other (offset n)) = refl
-over-62 (other (order ks)) = refl
-over-62 (other (projection is)) = refl
-over-62 (other (remap ts)) = refl
-over-62 (other (aggregate es gs)) = refl
-
-join-62 : (outer : Bool) (j : Join) (a b : Bool) → a || (b || flagged 62 (cell-of (join-own outer j))) ≡ a || b
-join-62 outer (nested-loop p) a b = ap (λ (c : Bool). a || c) (or-false b)
-join-62 outer (hash l r) a b = ap (λ (c : Bool). a || c) (or-false b)
-
-pub scan-filter-told : (p : Node) → any-cell (flagged 62) (cells p) ≡ has-scan-filter p
-scan-filter-told =
-    told (flagged 62) (no-part-flagged 62 (omega arith)) has-scan-filter scan-flagged (λ o n. over-unflagged 62 over-62 o (has-scan-filter n))
-    (λ outer j l r. join-62 outer j (has-scan-filter l) (has-scan-filter r))
-
--- ---- 56 NestedLoopJoin
-
-leaf-56 : (l : Leaf) → flagged 56 (cell-of (leaf-own l)) ≡ false
-leaf-56 (scan t none f) = refl
-leaf-56 (scan t (some r) f) = refl
-leaf-56 (lookup by-key t none vs) = refl
-leaf-56 (lookup by-key t (some r) vs) = refl
-leaf-56 (lookup (by-index i) t none vs) = refl
-leaf-56 (lookup (by-index i) t (some r) vs) = refl
-leaf-56 (nothing ls) = refl
-leaf-56 (values rs) = refl
-
-over-56 : (o : Over) → eqb (cell-of (over-own o) .tag) 56 ≡ false
-over-56 (filter e) = refl
-over-56 (other (limit n)) = refl
-over-56 (other (offset n)) = refl
-over-56 (other (order ks)) = refl
-over-56 (other (projection is)) = refl
-over-56 (other (remap ts)) = refl
-over-56 (other (aggregate es gs)) = refl
-
-join-flagged : (outer : Bool) (j : Join) → flagged 56 (cell-of (join-own outer j)) ≡ join-has-predicate j
-join-flagged true (nested-loop none) = refl
-join-flagged false (nested-loop none) = refl
-join-flagged true (nested-loop (some e)) = refl
-join-flagged false (nested-loop (some e)) = refl
-join-flagged outer (hash l r) = refl
-
-pub join-predicate-told : (p : Node) → any-cell (flagged 56) (cells p) ≡ has-join-predicate p
-join-predicate-told =
-    told (flagged 56) (no-part-flagged 56 (omega arith)) has-join-predicate leaf-56 (λ o n. over-unflagged 56 over-56 o (has-join-predicate n))
-    (λ outer j l r. ap (λ (b : Bool). has-join-predicate l || (has-join-predicate r || b)) (join-flagged outer j))
-
--- ---- any predicate
-
 no-part-predicated : (k : Cell) → k .tag < 50 → predicated k ≡ false
 no-part-predicated k h =
     let a = no-part-is 51 (omega arith) k h in
-    let b = no-part-flagged 56 (omega arith) k h in
-    let c = no-part-flagged 62 (omega arith) k h in
-    ap (λ (z : Bool). z || (flagged 56 k || flagged 62 k)) a ∙ ap (λ (z : Bool). z || flagged 62 k) b ∙ c
+    let b = no-part-is 56 (omega arith) k h in
+    let c = no-part-is 62 (omega arith) k h in
+    ap (λ (z : Bool). z || ((eqb (k .tag) 56 || eqb (k .tag) 62) && eqb (k .flag % 2) 1)) a ∙ ap (λ (z : Bool). (z || eqb (k .tag) 62) && eqb (k .flag % 2) 1) b
+    ∙ ap (λ (z : Bool). z && eqb (k .flag % 2) 1) c
 
 leaf-predicated : (l : Leaf) → predicated (cell-of (leaf-own l)) ≡ leaf-has-filter l
 leaf-predicated (scan t none none) = refl

@@ -21,28 +21,48 @@ use Rattle.encode.specs.Encode.{cells-in, as-cell}
 use Rattle.encode.proofs.Says.{node-cells}
 use Rattle.encode.proofs.Laws.{next-cell}
 use Rattle.sheet_laws.specs.Size.{node-length}
-use Rattle.predicates.specs.Predicates.{any-cell, flagged, WholeCells, has-scan-filter, has-join-predicate}
-use Rattle.predicates.proofs.Cells.{scan-filter-told, join-predicate-told}
+use Rattle.predicates.specs.Predicates.{any-cell, says-predicate, predicated, has-predicate, HasPredicate}
+use Rattle.predicates.proofs.Cells.{predicate-told}
 
 -- ---- one cell
 
-pub same-tag : (t flag tag : ℕ) → t ≡ tag → eqb (flag % 2) 1 ≡ (eqb t tag && eqb (flag % 2) 1)
-same-tag t flag tag e = ap (λ (b : Bool). b && eqb (flag % 2) 1) (sym (eq-eqb t tag e))
+module _ (tag flag : ℕ) where
+  abbrev bit : Bool
+  bit = eqb (flag % 2) 1
 
-pub other-tag : (t flag tag : ℕ) → (t ≡ tag → ⊥) → false ≡ (eqb t tag && eqb (flag % 2) 1)
-other-tag t flag tag h = ap (λ (b : Bool). b && eqb (flag % 2) 1) (sym (ne-eqb t tag h))
+  pub part-isnt : tag < 51 → false ≡ says-predicate tag flag
+  part-isnt h =
+      let a = ne-eqb tag 51 (λ e. omega arith) in
+      let b = ne-eqb tag 56 (λ e. omega arith) in
+      let c = ne-eqb tag 62 (λ e. omega arith) in
+      sym (ap (λ (z : Bool). z || ((eqb tag 56 || eqb tag 62) && bit)) a ∙ ap (λ (z : Bool). (z || eqb tag 62) && bit) b ∙ ap (λ (z : Bool). z && bit) c)
+
+  pub filter-is : tag ≡ 51 → true ≡ says-predicate tag flag
+  filter-is e = sym (ap (λ (z : Bool). z || ((eqb tag 56 || eqb tag 62) && bit)) (eq-eqb tag 51 e))
+
+  no-filter : (tag ≡ 51 → ⊥) → says-predicate tag flag ≡ (eqb tag 56 || eqb tag 62) && bit
+  no-filter h = ap (λ (z : Bool). z || ((eqb tag 56 || eqb tag 62) && bit)) (ne-eqb tag 51 h)
+
+  pub join-by-bit : (tag ≡ 51 → ⊥) → tag ≡ 56 → bit ≡ says-predicate tag flag
+  join-by-bit h e = sym (no-filter h ∙ ap (λ (z : Bool). (z || eqb tag 62) && bit) (eq-eqb tag 56 e))
+
+  no-join : (tag ≡ 51 → ⊥) → (tag ≡ 56 → ⊥) → says-predicate tag flag ≡ eqb tag 62 && bit
+  no-join h i = no-filter h ∙ ap (λ (z : Bool). (z || eqb tag 62) && bit) (ne-eqb tag 56 i)
+
+  pub scan-by-bit : (tag ≡ 51 → ⊥) → (tag ≡ 56 → ⊥) → tag ≡ 62 → bit ≡ says-predicate tag flag
+  scan-by-bit h i e = sym (no-join h i ∙ ap (λ (z : Bool). z && bit) (eq-eqb tag 62 e))
+
+  pub another-isnt : (tag ≡ 51 → ⊥) → (tag ≡ 56 → ⊥) → (tag ≡ 62 → ⊥) → false ≡ says-predicate tag flag
+  another-isnt h i j = sym (no-join h i ∙ ap (λ (z : Bool). z && bit) (ne-eqb tag 62 j))
 
 -- ---- the loop: the cells from word i on decide
 
-pub record Undecided (x : List ℕ) (n tag i : ℕ) : Type 0 where
+pub record Undecided (x : List ℕ) (n i : ℕ) : Type 0 where
   pub inside : n ≤ length x
   pub whole : n ≡ i + 6 * length (cells-in (drop i (take n x)))
-  pub same : any-cell (flagged tag) (cells-in (take n x)) ≡ any-cell (flagged tag) (cells-in (drop i (take n x)))
+  pub same : any-cell predicated (cells-in (take n x)) ≡ any-cell predicated (cells-in (drop i (take n x)))
 
-pub undecided-all : {x : List ℕ} {n : ℕ} (tag : ℕ) → WholeCells x n → Undecided x n tag 0
-undecided-all tag w = record { inside = w .inside; whole = omega (arith, w .whole); same = refl }
-
-module _ {x : List ℕ} {n tag i : ℕ} (u : Undecided x n tag i) where
+module _ {x : List ℕ} {n i : ℕ} (u : Undecided x n i) where
   pub next-inside : i < n → (i + 6 ≤ n) × (n ≤ length x)
   next-inside h = (omega (arith, u .whole), u .inside)
 
@@ -50,26 +70,26 @@ module _ {x : List ℕ} {n tag i : ℕ} (u : Undecided x n tag i) where
     next : cells-in (drop i (take n x)) ≡ as-cell k ∷ cells-in (drop (i + 6) (take n x))
     next = next-cell x n i (next-inside h .0) (u .inside) ∙ ap (λ (c : Cell). as-cell c ∷ cells-in (drop (i + 6) (take n x))) (sym e)
 
-    first : any-cell (flagged tag) (cells-in (take n x)) ≡ flagged tag (as-cell k) || any-cell (flagged tag) (cells-in (drop (i + 6) (take n x)))
-    first = u .same ∙ ap (any-cell (flagged tag)) next
+    first : any-cell predicated (cells-in (take n x)) ≡ predicated (as-cell k) || any-cell predicated (cells-in (drop (i + 6) (take n x)))
+    first = u .same ∙ ap (any-cell predicated) next
 
-    pub decided : flagged tag (as-cell k) ≡ true → true ≡ any-cell (flagged tag) (cells-in (take n x))
-    decided f = sym (first ∙ ap (λ (b : Bool). b || any-cell (flagged tag) (cells-in (drop (i + 6) (take n x)))) f)
+    decided : predicated (as-cell k) ≡ true → any-cell predicated (cells-in (take n x)) ≡ true
+    decided f = first ∙ ap (λ (b : Bool). b || any-cell predicated (cells-in (drop (i + 6) (take n x)))) f
 
-    pub undecided-next : flagged tag (as-cell k) ≡ false → Undecided x n tag (i + 6)
+    pub undecided-next : predicated (as-cell k) ≡ false → Undecided x n (i + 6)
     undecided-next f =
         record {
           inside = u .inside;
           whole = omega (arith, u .whole, ap length next);
-          same = first ∙ ap (λ (b : Bool). b || any-cell (flagged tag) (cells-in (drop (i + 6) (take n x)))) f;
+          same = first ∙ ap (λ (b : Bool). b || any-cell predicated (cells-in (drop (i + 6) (take n x)))) f;
         }
 
-  pub none-flagged : n ≤ i → false ≡ any-cell (flagged tag) (cells-in (take n x))
-  none-flagged h = sym (u .same ∙ ap (any-cell (flagged tag)) (none-left (cells-in (drop i (take n x))) (omega (arith, u .whole))))
-    where
-      none-left : (ks : List Sheet.Cell) → length ks ≡ 0 → ks ≡ []
-      none-left [] e = refl
-      none-left (k ∷ ks) e = absurd (omega arith)
+  none-left : (ks : List Sheet.Cell) → length ks ≡ 0 → ks ≡ []
+  none-left [] e = refl
+  none-left (k ∷ ks) e = absurd (omega arith)
+
+  none-found : n ≤ i → any-cell predicated (cells-in (take n x)) ≡ false
+  none-found h = u .same ∙ ap (any-cell predicated) (none-left (cells-in (drop i (take n x))) (omega (arith, u .whole)))
 
 -- ---- the plan
 
@@ -80,17 +100,21 @@ module _ {x : List ℕ} {n : ℕ} (p : Node) (here : NodeHere x 0 n p) where
   plan-cells : cells-in (take n x) ≡ cells p
   plan-cells = ap cells-in plan-words ∙ node-cells p
 
-  pub scan-filter-found : {r : Bool} → r ≡ any-cell (flagged 62) (cells-in (take n x)) → r ≡ has-scan-filter p
-  scan-filter-found e = e ∙ ap (any-cell (flagged 62)) plan-cells ∙ scan-filter-told p
+  told : any-cell predicated (cells-in (take n x)) ≡ has-predicate p
+  told = ap (any-cell predicated) plan-cells ∙ predicate-told p
 
-  pub join-predicate-found : {r : Bool} → r ≡ any-cell (flagged 56) (cells-in (take n x)) → r ≡ has-join-predicate p
-  join-predicate-found e = e ∙ ap (any-cell (flagged 56)) plan-cells ∙ join-predicate-told p
-
-pub whole-cells : {x : List ℕ} {n : ℕ} → NodeAt x 0 n → WholeCells x n
-whole-cells {x} {n} at =
+pub undecided-all : {x : List ℕ} {n : ℕ} → NodeAt x 0 n → Undecided x n 0
+undecided-all {x} {n} at =
     let w = plan-words (at .p) (at .here) in
     let i = part-in (at .here .part) .1 in
     record {
       inside = i;
       whole = omega (arith, length-take-le n x i, ap length w, words-long (at .p), ap length (plan-cells (at .p) (at .here)), node-length (at .p));
+      same = refl;
     }
+
+pub found : {x : List ℕ} {n i : ℕ} → Undecided x n i → i < n → {k : Cell} → k ≡ cell-at x (i + 6) → predicated (as-cell k) ≡ true → HasPredicate x n true
+found u h e f p here = sym (decided u h e f) ∙ told p here
+
+pub not-found : {x : List ℕ} {n i : ℕ} → Undecided x n i → n ≤ i → HasPredicate x n false
+not-found u h p here = sym (none-found u h) ∙ told p here

@@ -1,5 +1,5 @@
--- What a pass leaves as it is: IndexLookup rewrites only Scans that have a filter, and HashJoin only joins that have a predicate. FilterPushdown, which rewrites
--- Filters and joins that have a predicate, leaves a plan as it is that has no predicate at all.
+-- FilterPushdown, IndexLookup and HashJoin leave a plan as it is that has no predicate: they rewrite only Filters, Scans that have a filter and joins that have a
+-- predicate.
 use Prim.Native.Nat.{ℕ, zero, suc, _+_, _≤_}
 use native.Mathlib.Omega.{arith}
 use mathlib.Core.Bool.{Bool, true, false, _||_}
@@ -13,16 +13,16 @@ use Rattle.sql.specs.Answer.{Answer, done, _>>=_}
 use Rattle.sql.specs.Optimizer.{HashJoin}
 use Rattle.sql.specs.Optimizer
 use Rattle.sql.specs.Room
-use Rattle.predicates.specs.Predicates.{leaf-has-filter, has-scan-filter, join-has-predicate, has-join-predicate, is-filter, has-predicate}
+use Rattle.predicates.specs.Predicates.{leaf-has-filter, join-has-predicate, is-filter, has-predicate}
 
-pub clash : {A : Type 0} → _≡_ {A = Bool} true false → A
+clash : {A : Type 0} → _≡_ {A = Bool} true false → A
 clash e = absurd (let z : _≡_ {A = ℕ} 0 1 = cc in omega arith)
 
-pub left-false : (a b : Bool) → a || b ≡ false → a ≡ false
+left-false : (a b : Bool) → a || b ≡ false → a ≡ false
 left-false true b e = e
 left-false false b e = refl
 
-pub right-false : (a b : Bool) → a || b ≡ false → b ≡ false
+right-false : (a b : Bool) → a || b ≡ false → b ≡ false
 right-false true b e = clash e
 right-false false b e = e
 
@@ -38,17 +38,19 @@ module _ (room : ℕ) (schema : Schema) where
   leaf-idle rest (nothing labels) e h = fits rest (leaf (nothing labels)) h
   leaf-idle rest (values rows) e h = fits rest (leaf (values rows)) h
 
-  -- A plan without a Scan with a filter, for which there is room.
-  pub lookup-idle : (rest : ℕ) (p : Node) → has-scan-filter p ≡ false → rest + node-size p ≤ room → Room.IndexLookup room schema rest p ≡ done p
+  -- A plan without a predicate, for which there is room.
+  pub lookup-idle : (rest : ℕ) (p : Node) → has-predicate p ≡ false → rest + node-size p ≤ room → Room.IndexLookup room schema rest p ≡ done p
   unfolding Room.IndexLookup
   lookup-idle rest (leaf l) e h = leaf-idle rest l e h
   lookup-idle rest (over o source) e h =
-      ap (λ (a : Answer Node). a >>= λ s. done (over o s)) (lookup-idle (rest + over-size o) source e (omega arith))
+      ap (λ (a : Answer Node). a >>= λ s. done (over o s))
+      (lookup-idle (rest + over-size o) source (left-false (has-predicate source) (is-filter o) e) (omega arith))
   lookup-idle rest (join outer j left right) e h =
+      let f = right-false (has-predicate left) (has-predicate right || join-has-predicate j) e in
       ap (λ (a : Answer Node). a >>= λ l. Room.IndexLookup room schema (rest + (node-size l + join-size j)) right >>= λ r. done (join outer j l r))
-      (lookup-idle (rest + (node-size right + join-size j)) left (left-false (has-scan-filter left) (has-scan-filter right) e) (omega arith))
+      (lookup-idle (rest + (node-size right + join-size j)) left (left-false (has-predicate left) (has-predicate right || join-has-predicate j) e) (omega arith))
       ∙ ap (λ (a : Answer Node). a >>= λ r. done (join outer j left r))
-      (lookup-idle (rest + (node-size left + join-size j)) right (right-false (has-scan-filter left) (has-scan-filter right) e) (omega arith))
+      (lookup-idle (rest + (node-size left + join-size j)) right (left-false (has-predicate right) (join-has-predicate j) f) (omega arith))
 
   -- ---- FilterPushdown
 
@@ -112,33 +114,12 @@ join-idle schema outer (nested-loop none) e left right left′ right′ l r = cc
 join-idle schema outer (nested-loop (some predicate)) e left right left′ right′ l r = clash e
 join-idle schema outer (hash left-column right-column) e left right left′ right′ l r = cc
 
--- A plan without a join with a predicate.
-pub hash-idle : (schema : Schema) (p : Node) → has-join-predicate p ≡ false → HashJoin schema p ≡ p
+-- A plan without a predicate.
+pub hash-idle : (schema : Schema) (p : Node) → has-predicate p ≡ false → HashJoin schema p ≡ p
 hash-idle schema (leaf l) e = refl
-hash-idle schema (over o source) e = ap (over o) (hash-idle schema source e)
+hash-idle schema (over o source) e = ap (over o) (hash-idle schema source (left-false (has-predicate source) (is-filter o) e))
 hash-idle schema (join outer j left right) e =
-    let f = right-false (has-join-predicate left) (has-join-predicate right || join-has-predicate j) e in
-    join-idle schema outer j (right-false (has-join-predicate right) (join-has-predicate j) f) left right (HashJoin schema left) (HashJoin schema right)
-    (hash-idle schema left (left-false (has-join-predicate left) (has-join-predicate right || join-has-predicate j) e))
-    (hash-idle schema right (left-false (has-join-predicate right) (join-has-predicate j) f))
-
--- ---- no predicate at all
-
-or-left : (a b c d : Bool) → (a ≡ false → c ≡ false) → (b ≡ false → d ≡ false) → a || b ≡ false → c || d ≡ false
-or-left a b c d f g e =
-    ap (λ (z : Bool). z || d) (f (left-false a b e)) ∙ g (right-false a b e)
-
-pub no-scan-filter : (p : Node) → has-predicate p ≡ false → has-scan-filter p ≡ false
-no-scan-filter (leaf l) e = e
-no-scan-filter (over o source) e = no-scan-filter source (left-false (has-predicate source) (is-filter o) e)
-no-scan-filter (join outer j left right) e =
-    or-left (has-predicate left) (has-predicate right || join-has-predicate j) (has-scan-filter left) (has-scan-filter right) (no-scan-filter left)
-    (λ f. no-scan-filter right (left-false (has-predicate right) (join-has-predicate j) f)) e
-
-pub no-join-predicate : (p : Node) → has-predicate p ≡ false → has-join-predicate p ≡ false
-no-join-predicate (leaf l) e = refl
-no-join-predicate (over o source) e = no-join-predicate source (left-false (has-predicate source) (is-filter o) e)
-no-join-predicate (join outer j left right) e =
-    or-left (has-predicate left) (has-predicate right || join-has-predicate j) (has-join-predicate left) (has-join-predicate right || join-has-predicate j)
-    (no-join-predicate left)
-    (or-left (has-predicate right) (join-has-predicate j) (has-join-predicate right) (join-has-predicate j) (no-join-predicate right) (λ f. f)) e
+    let f = right-false (has-predicate left) (has-predicate right || join-has-predicate j) e in
+    join-idle schema outer j (right-false (has-predicate right) (join-has-predicate j) f) left right (HashJoin schema left) (HashJoin schema right)
+    (hash-idle schema left (left-false (has-predicate left) (has-predicate right || join-has-predicate j) e))
+    (hash-idle schema right (left-false (has-predicate right) (join-has-predicate j) f))

@@ -12,8 +12,8 @@ use Rattle.sql.specs.Plan.{filter, other, Node, leaf, over, join, node-size}
 use Rattle.sql.specs.Answer.{Answer, done}
 use Rattle.sql.specs.Room.{maybe-push-join, maybe-push-filter, push-filters}
 use Rattle.cells.specs.Cells.{words, sized, tag-at}
-use Rattle.cells.specs.Room.{Wrote, Seals, Copies}
-use Rattle.cells.proofs.Laws.{then}
+use Rattle.cells.specs.Room.{Short, Wrote, Seals, Copies}
+use Rattle.cells.proofs.Laws.{then, fits-to}
 use Rattle.words.specs.Words.{cell, expression-words, over-cell, node-words}
 use Rattle.words.specs.Place.{NodeHere, NodeAt}
 use Rattle.words.proofs.Sizes.{sized-long, words-long}
@@ -72,12 +72,12 @@ own-ends o g =
 
 -- a node that isn't larger has room in the place of another
 placed-holds : {x₁ : List ℕ} {t lo tail u : ℕ} {pre post : List ℕ} (p q : Node) → lo + length (node-words p) + tail ≤ t → t ≤ length x₁
-    → length pre ≡ lo → length post ≡ tail → node-size q ≤ node-size p → Placed x₁ u pre post (node-words q) → Holds x₁ u lo tail pre post q
-placed-holds {x₁ = x₁} {pre = pre} {post = post} p q a i b c s f =
+    → length pre ≡ lo → length post ≡ tail → node-size q ≤ node-size p → Short x₁ → Placed x₁ u pre post (node-words q) → Holds x₁ u lo tail pre post q
+placed-holds {x₁ = x₁} {pre = pre} {post = post} p q a i b c s k f =
     let l = length-append (node-words q) post in
     let r : length pre + length (node-words q ++ post) ≤ length x₁ = omega (arith, words-long p, words-long q) in
-    let (m, w) = f .fits r in
-    record { whole = w; low = b; high = c; inside = omega arith }
+    let h = f .room k r in
+    record { whole = f .is h .1; low = b; high = c; inside = h }
 
 -- ---- a Filter that was gathered
 module _ {x y : List ℕ} {at end t lo tail : ℕ} {pre post : List ℕ} {e : Expression} {source : Node} (g : Gathered x y at end t lo tail pre post e source) where
@@ -96,7 +96,7 @@ module _ {x y : List ℕ} {at end t lo tail : ℕ} {pre post : List ℕ} {e : Ex
   gathered-in = omega (arith, filter-long e source, total below-holds, length-append (g .gone) post, g .high, g .fits, g .long)
 
   gathered-wrote : Wrote y 0 (expression-words e) at y
-  gathered-wrote = record { fits = λ h. (omega (arith, g .long), g .predicate); full = λ h. omega (arith, g .long) }
+  gathered-wrote = record { is = λ h. (omega (arith, g .long), g .predicate); room = λ s h. omega (arith, g .long) }
 
 -- ---- the node that stands there
 module _ {x y : List ℕ} {at end t lo tail : ℕ} {pre post : List ℕ} where
@@ -140,7 +140,7 @@ pub record Merged (p : Node) (Next : Node → Type 0) : Type 0 where
 
 abbrev pub Merges : (x y : List ℕ) (at end t lo tail : ℕ) (x₁ y₁ : List ℕ) (at₁ end₁ t₁ : ℕ) → Type 0
 Merges x y at end t lo tail x₁ y₁ at₁ end₁ t₁ =
-    (pre post : List ℕ) (p : Node) → Stands x y at end t lo tail pre post p → Merged p (Stands x₁ y₁ at₁ end₁ t₁ lo tail pre post)
+    Short x → (pre post : List ℕ) (p : Node) → Stands x y at end t lo tail pre post p → Merged p (Stands x₁ y₁ at₁ end₁ t₁ lo tail pre post)
 
 module _ {x y : List ℕ} {at end t lo tail : ℕ} (z : at ≡ 0 → ⊥) where
   -- what is below the Filter
@@ -154,15 +154,16 @@ module _ {x y : List ℕ} {at end t lo tail : ℕ} (z : at ≡ 0 → ⊥) where
 
   -- another Filter: it is gathered
   gathers-next : {e q : Expression} {p : Node} {pre post : List ℕ} → Gathered x y at end t lo tail pre post e (over (filter q) p) → {own : ℕ} → OwnStart x lo end own
-      → length y ≡ length x → {more : ℕ} {y₁ : List ℕ} → Gathers x own (end - 6) y at more y₁ → Gathered x y₁ more own t lo tail pre post (and e q) p
-  gathers-next {e} {q} {p} {pre} {post} h {own} o k c =
+      → length y ≡ length x → Short x → {more : ℕ} {y₁ : List ℕ} → Gathers x own (end - 6) y at more y₁ → Gathered x y₁ more own t lo tail pre post (and e q) p
+  gathers-next {e} {q} {p} {pre} {post} h {own} o k s c =
       let f = over (filter q) p in
       let i = o f (below-here h) in
       let w = c e q (record { part = own-part f (below-here h) i }) (gathered-wrote h) in
       let l = and-long e q in
       let lg = length-append (expression-words q) (last q p ++ h .gone) in
       let ll = length-append (last q p) (h .gone) in
-      let (a, b) = w .fits (omega (arith, gathered-in h, filter-long e f, filter-long q p, h .inside)) in
+      let n : length (expression-words (and e q)) ≤ length x = omega (arith, gathered-in h, filter-long e f, filter-long q p, h .inside) in
+      let (a, b) = fits-to w (omega arith) (omega arith) in
       record {
         gone = expression-words q ++ (last q p ++ h .gone);
         whole = h .whole ∙ ap (λ (v : List ℕ). pre ++ (v ++ (h .gone ++ post))) (filter-words q p) ∙ simp append-assoc;
@@ -177,16 +178,16 @@ module _ {x y : List ℕ} {at end t lo tail : ℕ} (z : at ≡ 0 → ⊥) where
 
   pub merges-filter : tag-at x end ≡ 51 → {own : ℕ} → OwnStart x lo end own → length y ≡ length x → {more : ℕ} {y₁ : List ℕ} → Gathers x own (end - 6) y at more y₁
       → Merges x y at end t lo tail x y₁ more own t
-  merges-filter i {own} o k {more} {y₁} c pre post =
+  merges-filter i {own} o k {more} {y₁} c short pre post =
       when-gathered z (λ p. Merged p (Stands x y₁ more own t lo tail pre post)) (λ e source h.
       by-filter (λ source. Gathered x y at end t lo tail pre post e source → Merged (over (filter e) source) (Stands x y₁ more own t lo tail pre post))
-      (λ q p g. record { q = over (filter (and e q)) p; is = refl; stands = record { is = gathers-next g o k c } })
+      (λ q p g. record { q = over (filter (and e q)) p; is = refl; stands = record { is = gathers-next g o k short c } })
       source (sym (tagged source) ∙ sym (node-tag source (below-here h)) ∙ i) h)
 
   -- a node that takes the predicate, and is no Filter
   pub merges-into : (tag-at x end ≡ 51 → ⊥) → {b : Bool} → Takes x lo end b → b ≡ true → {u : ℕ} {x₁ : List ℕ} → length x₁ ≡ length x
       → PushesInPlace x y at t lo end tail u x₁ → (y₁ : List ℕ) (end₁ : ℕ) → Merges x y at end t lo tail x₁ y₁ 0 end₁ u
-  merges-into i a j {u} {x₁} k f y₁ end₁ pre post =
+  merges-into i a j {u} {x₁} k f y₁ end₁ short pre post =
       when-gathered z (λ p. Merged p (Stands x₁ y₁ 0 end₁ u lo tail pre post)) (λ e source h.
       let o = taken e source (sym (a source e (below-here h)) ∙ j) in
       let v = f e source (o .pushed) pre (h .gone) post (h .whole) (h .low) (h .below) (h .high) (o .is) y refl (gathered-wrote h) in
@@ -198,7 +199,7 @@ module _ {x y : List ℕ} {at end t lo tail : ℕ} (z : at ≡ 0 → ⊥) where
         q = o .pushed;
         is = o .is;
         stands =
-            stands-plain (o .pushed) no-filter refl (placed-holds p (o .pushed) (gathered-in h) (omega (arith, h .inside)) (h .low) (h .high) (merge-smaller p (o .pushed) (o .is)) v);
+            stands-plain (o .pushed) no-filter refl (placed-holds p (o .pushed) (gathered-in h) (omega (arith, h .inside)) (h .low) (h .high) (merge-smaller p (o .pushed) (o .is)) (omega arith) v);
       })
 
   -- the Filter stays: it takes its place
@@ -211,7 +212,7 @@ module _ {x y : List ℕ} {at end t lo tail : ℕ} (z : at ≡ 0 → ⊥) where
         let p = over (filter e) source in
         let v = f e source pre (h .gone) post (h .whole) (h .low) (h .below) (h .high) (gathered-wrote h) in
         subst (Left (Kept schema text tables p) x′ r pre post) (sym (same room schema rest e source (below-here h)))
-        (left-done p fit (placed-holds p p (gathered-in h) (omega (arith, h .inside)) (h .low) (h .high) (omega arith) v)))
+        (left-done p fit (placed-holds p p (gathered-in h) (omega (arith, h .inside)) (h .low) (h .high) (omega arith) (omega (arith, s .short)) v)))
         p h fit
 
     pub filter-last : n ≡ 0 → Tries (λ room schema. maybe-push-filter room schema n) widths x y at end t lo tail r x′
@@ -232,7 +233,7 @@ module _ {widths x y : List ℕ} {at end t lo tail : ℕ} (z : at ≡ 0 → ⊥)
     (m : Merges x y at end t lo tail x₁ y₁ at₁ end₁ t₁) where
   pub merged-at : TriedAt widths x y at end t lo tail → TriedAt widths x₁ y₁ at₁ end₁ t₁ lo tail
   merged-at g =
-      let n = m (g .pre) (g .post) (g .p) (g .stands) in
+      let n = m (g .shares .short) (g .pre) (g .post) (g .p) (g .stands) in
       record {
         schema = g .schema;
         text = g .text;
@@ -252,7 +253,7 @@ module _ {widths x y : List ℕ} {at end t lo tail : ℕ} (z : at ≡ 0 → ⊥)
   pub merged-tries : (n : ℕ) → (n ≡ 0 → ⊥) → {r : ℕ} {x′ : List ℕ} → Tries (λ room schema. push-filters room schema (n - 1)) widths x₁ y₁ at₁ end₁ t₁ lo tail r x′
       → Tries (λ room schema. maybe-push-filter room schema n) widths x y at end t lo tail r x′
   merged-tries n i {r} {x′} a schema text tables given room rest s pre post p fit h =
-      let b = m pre post p h in
+      let b = m (s .short) pre post p h in
       let c = merge-keeps schema text tables p (b .q) (b .is) fit in
       let fits = kept schema text tables in
       let enough : rest + node-size p ≤ room = when-gathered z (λ p. rest + node-size p ≤ room) (λ e source g. omega (arith, gathered-in g, g .inside, words-long (over (filter e) source), s .all, s .outside)) p h in
@@ -304,21 +305,22 @@ module _ (n : ℕ) {widths x y : List ℕ} {at end t lo tail u : ℕ} {x₁ : Li
 
 -- ---- the start: the node stands in x, and a Filter's predicate is gathered
 abbrev pub Starts : (x : List ℕ) (t lo tail : ℕ) (y : List ℕ) (at end : ℕ) → Type 0
-Starts x t lo tail y at end = (pre post : List ℕ) (p : Node) → Holds x t lo tail pre post p → Stands x y at end t lo tail pre post p
+Starts x t lo tail y at end = Short x → (pre post : List ℕ) (p : Node) → Holds x t lo tail pre post p → Stands x y at end t lo tail pre post p
 
 module _ {x : List ℕ} {t lo tail : ℕ} where
   pub starts-plain : (tag-at x (t - tail) ≡ 51 → ⊥) → (y : List ℕ) (end : ℕ) → Starts x t lo tail y 0 end
-  starts-plain i y end pre post p h = stands-plain p (λ m. i (node-tag p (holds-here h) ∙ tagged p ∙ m)) refl h
+  starts-plain i y end short pre post p h = stands-plain p (λ m. i (node-tag p (holds-here h) ∙ tagged p ∙ m)) refl h
 
   pub starts-filter : tag-at x (t - tail) ≡ 51 → {own : ℕ} → OwnStart x lo (t - tail) own → {y y₁ : List ℕ} → length y ≡ length x → {at : ℕ}
       → Copies x own (t - tail - 6) y 0 at y₁ → Starts x t lo tail y₁ at own
-  starts-filter i {own} o {y} {y₁} k {at} c pre post p h =
+  starts-filter i {own} o {y} {y₁} k {at} c short pre post p h =
       by-filter (λ p. Holds x t lo tail pre post p → Stands x y₁ at own t lo tail pre post p)
       (λ e source h.
       let f = over (filter e) source in
       let j = o f (holds-here h) in
       let l = filter-long e source in
-      let (a, b) = c (expression-words e) (own-part f (holds-here h) j) .fits (omega (arith, total h, h .inside)) in
+      let n : length (expression-words e) ≤ length x = omega (arith, total h, h .inside) in
+      let (a, b) = fits-to (c (expression-words e) (own-part f (holds-here h) j)) (omega arith) (omega arith) in
       record {
         is = record {
           gone = expression-words e ++ last e source;
@@ -351,8 +353,8 @@ module _ {x : List ℕ} {t lo tail : ℕ} where
           post = d .post;
           p = d .p;
           fit = d .fit;
-          stands = m (d .pre) (d .post) (d .p) (d .holds);
+          stands = m (d .shares .short) (d .pre) (d .post) (d .p) (d .holds);
         }
 
     pub starts-passes : (f : ℕ → Schema → ℕ → Node → Answer Node) {r : ℕ} {x′ : List ℕ} → Tries f widths x y at end t lo tail r x′ → Passes f widths x t lo tail r x′
-    starts-passes f a schema text tables given room rest s pre post p fit h = a schema text tables given room rest s pre post p fit (m pre post p h)
+    starts-passes f a schema text tables given room rest s pre post p fit h = a schema text tables given room rest s pre post p fit (m (s .short) pre post p h)

@@ -9,12 +9,13 @@ use Rattle.sql.specs.Schema.{Schema}
 use Rattle.sql.specs.Expression.{Expression, and}
 use Rattle.sql.specs.Plan.{filter, other, Node, leaf, over, join}
 use Rattle.sql.specs.Answer.{Answer}
-use Rattle.cells.specs.Room.{Wrote}
+use Rattle.cells.specs.Room.{most-words, Wrote}
 use Rattle.words.specs.Words.{expression-words, node-words}
 use Rattle.words.specs.Place.{ExpressionHere}
 use Rattle.nodes.specs.Columns.{Tables}
 use Rattle.edit.specs.Edit.{Holds, Shares, Left, Placed}
 use Rattle.kept.specs.Kept.{Kept}
+use Rattle.cells.specs.Cells.{cell-words}
 
 -- A Filter whose predicate is the first `at` words of y, and whose source stands in x from lo up to `end`. The words of x behind its source, up to t − tail,
 -- are gone once the Filter is placed; it has no more words than they leave.
@@ -27,7 +28,7 @@ pub record Gathered (x y : List ℕ) (at end t lo tail : ℕ) (pre post : List �
   pub inside : t ≤ length x
   pub long : at ≡ length (expression-words e)
   pub predicate : take at y ≡ expression-words e
-  pub fits : at + 6 ≤ length gone
+  pub fits : at + cell-words ≤ length gone
 
 -- A Filter stands there so; any other node stands in x, from lo up to t − tail, and nothing is gathered.
 abbrev pub StandsAs : (x y : List ℕ) (at end t lo tail : ℕ) (pre post : List ℕ) → Node → Type 0
@@ -47,7 +48,7 @@ pub record TriedAt (widths x y : List ℕ) (at end t lo tail : ℕ) : Type 0 whe
   pub text : List ℕ
   pub tables : ℕ
   pub given : Tables schema widths
-  pub short : length x ≤ 16777216
+  pub short : length x ≤ most-words
   pub room : ℕ
   pub rest : ℕ
   pub shares : Shares x lo tail room rest

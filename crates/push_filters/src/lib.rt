@@ -13,7 +13,7 @@ ghost use Rattle.push_filters.specs.Buffers.{Buffers};
 ghost use Rattle.push_filters.specs.Tried.{TriedAt, Tries, Gathers, Filters};
 
 // The predicate of x from lo to hi is gathered behind the one in the first `at` words of y, with an And over both.
-fn gather(x: &[usize], lo: usize, hi: usize, y: &mut [usize], at: usize) -> usize
+fn gather(x: &[u32], lo: usize, hi: usize, y: &mut [u32], at: usize) -> usize
     requires { ⌜ (lo ≤ hi) × (hi ≤ length (now x)) ⌝ }
     ensures { λ r. ⌜ Gathers (now (x .entry)) lo hi (now (y .entry)) at r (now (y .exit)) ⌝ }
 {
@@ -23,7 +23,7 @@ fn gather(x: &[usize], lo: usize, hi: usize, y: &mut [usize], at: usize) -> usiz
         0,
         m,
         cells::Cell {
-            tag: 10,
+            tag: tags::AND,
             flag: 0,
             a: 0,
             b: 0,
@@ -34,8 +34,8 @@ fn gather(x: &[usize], lo: usize, hi: usize, y: &mut [usize], at: usize) -> usiz
 
 // A Filter with the predicate in the first n words of y, over the node of x from lo up to `end`, takes the place of all from lo up to t - tail.
 fn filter_over(
-    x: &mut [usize],
-    y: &mut [usize],
+    x: &mut [u32],
+    y: &mut [u32],
     n: usize,
     t: usize,
     lo: usize,
@@ -52,7 +52,7 @@ fn filter_over(
         0,
         n,
         cells::Cell {
-            tag: 51,
+            tag: tags::FILTER,
             flag: 0,
             a: 0,
             b: 0,
@@ -64,10 +64,10 @@ fn filter_over(
 
 // A Filter that its source takes is gone, and push_filters goes on with the source. No merge makes the plan larger: there is room for it.
 fn maybe_push_filter(
-    x: &mut [usize],
-    y: &mut [usize],
-    z: &mut [usize],
-    w: &mut [usize],
+    x: &mut [u32],
+    y: &mut [u32],
+    z: &mut [u32],
+    w: &mut [u32],
     n: usize,
     at: usize,
     end: usize,
@@ -86,9 +86,9 @@ fn maybe_push_filter(
     if n == 0 {
         return filter_over(x, y, at, t, lo, end, tail);
     }
-    if cells::tag_at(x, end) == 51 {
+    if cells::tag_at(x, end) == tags::FILTER {
         let own = nodes::own_start(x, lo, end);
-        let more = gather(x, own, end - 6, y, at);
+        let more = gather(x, own, end - cells::CELL_WORDS, y, at);
         return push_filters(x, y, z, w, n - 1, more, own, t, lo, tail, widths);
     }
     if push_into::takes(x, lo, end) {
@@ -100,10 +100,10 @@ fn maybe_push_filter(
 
 // maybe_push_filter, then the join rule.
 fn push_filters(
-    x: &mut [usize],
-    y: &mut [usize],
-    z: &mut [usize],
-    w: &mut [usize],
+    x: &mut [u32],
+    y: &mut [u32],
+    z: &mut [u32],
+    w: &mut [u32],
     n: usize,
     at: usize,
     end: usize,
@@ -125,10 +125,10 @@ fn push_filters(
 
 // push_filters of the node that stands in x from lo up to t - tail.
 pub fn push_filters_in_place(
-    x: &mut [usize],
-    y: &mut [usize],
-    z: &mut [usize],
-    w: &mut [usize],
+    x: &mut [u32],
+    y: &mut [u32],
+    z: &mut [u32],
+    w: &mut [u32],
     n: usize,
     t: usize,
     lo: usize,
@@ -140,9 +140,9 @@ pub fn push_filters_in_place(
     ensures { λ r. ⌜ Passes (λ room schema. Room.push-filters room schema n) (now (widths .entry)) (now (x .entry)) t lo tail r (now (x .exit)) ⌝ }
 {
     let hi = t - tail;
-    if cells::tag_at(x, hi) == 51 {
+    if cells::tag_at(x, hi) == tags::FILTER {
         let own = nodes::own_start(x, lo, hi);
-        let at = cells::copy(x, own, hi - 6, y, 0);
+        let at = cells::copy(x, own, hi - cells::CELL_WORDS, y, 0);
         return push_filters(x, y, z, w, n, at, own, t, lo, tail, widths);
     }
     push_filters(x, y, z, w, n, 0, hi, t, lo, tail, widths)

@@ -8,7 +8,7 @@ use lib.ListN.{length, take}
 use Rattle.sql.specs.Expression.{Expression}
 use Rattle.sql.specs.Plan.{Node}
 use Rattle.sql.specs.Optimizer.{push-into}
-use Rattle.cells.specs.Cells.{sized}
+use Rattle.cells.specs.Cells.{cell-words, sized}
 use Rattle.cells.specs.Room.{Wrote}
 use Rattle.words.specs.Words.{cell, expression-words, node-words, own-words, node-cell}
 use Rattle.words.specs.Place.{NodeHere}
@@ -32,7 +32,7 @@ pub record TakerAt (s : List ℕ) (lo hi : ℕ) : Type 0 where
 -- words and the cell of the node with the predicate pushed into it stand behind the words now, up to r, and the cell is over them all; or there is no room,
 -- and r is past the end. Where the words are those of the node's sources, that is the whole node.
 pub record Pushes (s : List ℕ) (lo hi : ℕ) (d : List ℕ) (from mid at r : ℕ) (d′ : List ℕ) : Type 0 where
-  pub long : from ≡ 0 → r ≤ length d → 6 ≤ r
+  pub long : from ≡ 0 → r ≤ length d → cell-words ≤ r
   pub writes : (e : Expression) (source pushed : Node) → NodeHere s lo hi source → push-into e source ≡ some pushed
       → (d₀ d₁ b : List ℕ) → length d₁ ≡ length d₀ → length d ≡ length d₁ → Wrote d₀ from b mid d₁ → Wrote d₁ mid (expression-words e) at d
       → Wrote d₀ from (sized (b ++ own-words pushed) (cell (node-cell pushed))) r d′

@@ -7,18 +7,18 @@ ghost use Rattle.words.specs.Place.{NodeAt};
 ghost use Rattle.push_into.specs.Push.{Takes, TakerAt, Pushes, PushesInPlace};
 
 // Whether the node from lo to hi can take a predicate: a Filter, a NestedLoopJoin or a Scan.
-pub fn takes(s: &[usize], lo: usize, hi: usize) -> bool
+pub fn takes(s: &[u32], lo: usize, hi: usize) -> bool
     requires { ⌜ NodeAt (now s) lo hi ⌝ }
     ensures { λ r. ⌜ Takes (now (s .entry)) lo hi r ⌝ }
 {
     let tag = cells::tag_at(s, hi);
-    if tag == 51 {
+    if tag == tags::FILTER {
         return true;
     }
-    if tag == 56 {
+    if tag == tags::NESTED_LOOP_JOIN {
         return true;
     }
-    if tag == 62 {
+    if tag == tags::SCAN {
         return true;
     }
     false
@@ -28,10 +28,10 @@ pub fn takes(s: &[usize], lo: usize, hi: usize) -> bool
 // which is over all words of d from `from` on: the words of the node's sources stand before the predicate, or the caller seals the node. The flag of a node
 // that had no predicate now says that there is one.
 pub fn with_predicate(
-    s: &[usize],
+    s: &[u32],
     lo: usize,
     hi: usize,
-    d: &mut [usize],
+    d: &mut [u32],
     from: usize,
     mid: usize,
     at: usize,
@@ -41,7 +41,7 @@ pub fn with_predicate(
 {
     let k = cells::cell_at(s, hi);
     let own = nodes::own_start(s, lo, hi);
-    let end = hi - 6;
+    let end = hi - cells::CELL_WORDS;
     if own == end {
         return cells::put(
             d,
@@ -62,7 +62,7 @@ pub fn with_predicate(
         mid,
         m,
         cells::Cell {
-            tag: 10,
+            tag: tags::AND,
             flag: 0,
             a: 0,
             b: 0,
@@ -74,8 +74,8 @@ pub fn with_predicate(
 
 // The predicate in the first n words of y goes into the node of x from lo up to `end`, which takes one. What stands behind the node, up to t - tail, is gone.
 pub fn push_into(
-    x: &mut [usize],
-    y: &mut [usize],
+    x: &mut [u32],
+    y: &mut [u32],
     n: usize,
     t: usize,
     lo: usize,

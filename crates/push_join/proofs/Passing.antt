@@ -20,7 +20,7 @@ use Rattle.sheet.specs.Content.{bit}
 use Rattle.sheet.specs.Cells.{present}
 use Rattle.cells.specs.declared.Cell.{Cell}
 use Rattle.cells.specs.Cells.{cell-at}
-use Rattle.cells.specs.Room.{Wrote}
+use Rattle.cells.specs.Room.{Short, Wrote}
 use Rattle.cells.proofs.Laws.{lt-or-ge, wrote-up}
 use Rattle.words.specs.Words.{expression-words, node-words}
 use Rattle.words.specs.Place.{ExpressionHere, ExpressionAt, Maps, NodeHere, NodeAt}
@@ -62,10 +62,10 @@ module _ {s : List ℕ} {lo hi : ℕ} {c : Cell} (q : c ≡ cell-at s hi) where
 -- ---- room for a normal form
 
 module _ (room : ℕ) {d : List ℕ} {n : ℕ} {d′ : List ℕ} (l : length d ≡ 6 * room) (e : Expression) (w : Wrote d 0 (expression-words e) n d′) where
-  form-over : length d < n → leb (size e) room ≡ false
-  form-over h =
+  form-over : Short d → length d < n → leb (size e) room ≡ false
+  form-over s h =
       lt-leb (size e) room
-      (⊎-elim (λ (z : room < size e). z) (λ (z : size e ≤ room). absurd (let (a, b) = w .fits (omega (arith, expression-long e)) in omega (arith, expression-long e)))
+      (⊎-elim (λ (z : room < size e). z) (λ (z : size e ≤ room). absurd (let f = w .room (omega (arith, expression-long e)) (omega (arith, expression-long e)) in omega arith))
       (lt-or-ge room (size e)))
 
   form-fits : n ≤ length d → leb (size e) room ≡ true
@@ -155,13 +155,13 @@ module _ {x : List ℕ} {t lo tail : ℕ} (f : HasPredicate x lo (t - tail) true
 
   -- a normal form that has no room
   refuse : {widths : List ℕ} {n : ℕ} → length x < n
-      → ((room : ℕ) (schema : Schema) → length x ≡ 6 * room → (outer : Bool) (q : Expression) (l r : Node) → NodeHere x lo (t - tail) (join outer (nested-loop (some q)) l r)
+      → ((room : ℕ) (schema : Schema) → length x ≡ 6 * room → Short x → (outer : Bool) (q : Expression) (l r : Node) → NodeHere x lo (t - tail) (join outer (nested-loop (some q)) l r)
       → normal-forms-fit room schema (some q) ≡ false)
       → Passes Room.maybe-push-join widths x t lo tail n x
   refuse {n = n} i g schema text tables given room rest s pre post p fit h =
       when-split (λ p. Left (Kept schema text tables p) x n pre post (Room.maybe-push-join room schema rest p))
       (λ outer q l r u. subst (λ (a : Answer Node). Left (Kept schema text tables (join outer (nested-loop (some q)) l r)) x n pre post a)
-      (sym (answered room schema rest outer q l r false (g room schema (s .all) outer q l r (holds-here u)))) (left-refused i))
+      (sym (answered room schema rest outer q l r false (g room schema (s .all) (s .short) outer q l r (holds-here u)))) (left-refused i))
       p h
 
   module _ {m : ℕ} (own : OwnStart x lo (t - tail) m) {z z₁ : List ℕ} {k : ℕ} (az : length z ≡ length x) (lz : length z₁ ≡ length z)
@@ -169,16 +169,16 @@ module _ {x : List ℕ} {t lo tail : ℕ} (f : HasPredicate x lo (t - tail) true
     pub nnf-over : {widths : List ℕ} → length z₁ < k → Passes Room.maybe-push-join widths x t lo tail k x
     nnf-over i =
         refuse (omega arith)
-        (λ room schema a outer q l r u. ap (λ (c : Bool). c && leb (size (into-cnf q)) room)
-        (form-over room (az ∙ a) (into-nnf q) (nnf q (predicate-here own outer q l r u)) (omega arith)))
+        (λ room schema a s outer q l r u. ap (λ (c : Bool). c && leb (size (into-cnf q)) room)
+        (form-over room (az ∙ a) (into-nnf q) (nnf q (predicate-here own outer q l r u)) (omega arith) (omega arith)))
 
     module _ (i : k ≤ length z₁) {w w₁ : List ℕ} {end : ℕ} (aw : length w ≡ length x) (lw : length w₁ ≡ length w) (cnf : Maps distribute z₁ 0 k w 0 end w₁) where
       pub cnf-over : {widths : List ℕ} → length w₁ < end → Passes Room.maybe-push-join widths x t lo tail end x
       unfolding into-cnf
       cnf-over j =
           refuse (omega arith)
-          (λ room schema a outer q l r u. ap (λ (c : Bool). leb (size (into-nnf q)) room && c)
-          (form-over room (aw ∙ a) (distribute (into-nnf q)) (cnf (into-nnf q) (nnf-here own lz nnf i outer q l r u)) (omega arith))
+          (λ room schema a s outer q l r u. ap (λ (c : Bool). leb (size (into-nnf q)) room && c)
+          (form-over room (aw ∙ a) (distribute (into-nnf q)) (cnf (into-nnf q) (nnf-here own lz nnf i outer q l r u)) (omega arith) (omega arith))
           ∙ and-false (leb (size (into-nnf q)) room))
 
       module _ (j : end ≤ length w₁) {widths x′ : List ℕ} {r : ℕ} (lx : length x′ ≡ length x) (g : Splits widths x t lo tail w₁ end r x′) where

@@ -6,26 +6,27 @@ ghost use Rattle.sql.specs.Room;
 ghost use Rattle.words.specs.Place.{NodeAt};
 ghost use Rattle.kept.specs.Pass.{PassAt, Passes};
 ghost use Rattle.split_join.specs.Split.{HasPredicate};
+ghost use Rattle.push_join.specs.Below.{Passes-below};
 
 // Whether the node from lo to hi is a NestedLoopJoin with a predicate.
-fn has_predicate(s: &[usize], lo: usize, hi: usize) -> bool
+fn has_predicate(s: &[u32], lo: usize, hi: usize) -> bool
     requires { ⌜ NodeAt (now s) lo hi ⌝ }
     ensures { λ r. ⌜ HasPredicate (now (s .entry)) lo hi r ⌝ }
 {
     let c = cells::cell_at(s, hi);
-    if c.tag == 56 {
+    if c.tag == tags::NESTED_LOOP_JOIN {
         return c.flag % 2 == 1;
     }
     false
 }
 
 // One split of the predicate of the node there, if it is a join with a predicate. The results of into_nnf and into_cnf go to z and w, and y is scratch; each has
-// room for as many cells as x. A result past the end of x is refusal 14.
+// room for as many cells as x. A result past the end of x is refusal 14. What column numbers these arrays hold is said in specs/Below.antt.
 pub fn maybe_push_join(
-    x: &mut [usize],
-    y: &mut [usize],
-    z: &mut [usize],
-    w: &mut [usize],
+    x: &mut [u32],
+    y: &mut [u32],
+    z: &mut [u32],
+    w: &mut [u32],
     t: usize,
     lo: usize,
     tail: usize,
@@ -36,11 +37,12 @@ pub fn maybe_push_join(
     requires { ⌜ length (now z) ≡ length (now x) ⌝ }
     requires { ⌜ length (now w) ≡ length (now x) ⌝ }
     ensures { λ r. ⌜ Passes Room.maybe-push-join (now (widths .entry)) (now (x .entry)) t lo tail r (now (x .exit)) ⌝ }
+    ensures { λ r. ⌜ Passes-below (now (x .entry)) lo tail r (now (x .exit)) ⌝ }
 {
     let hi = t - tail;
     if has_predicate(x, lo, hi) {
         let m = nodes::own_start(x, lo, hi);
-        let k = nnf::into_nnf(x, m, hi - 6, z, 0);
+        let k = nnf::into_nnf(x, m, hi - cells::CELL_WORDS, z, 0);
         if z.len() < k {
             return k;
         }

@@ -6,18 +6,18 @@ use mathlib.Core.Option.{Option, none, some}
 use mathlib.Core.Path.{_≡_, refl, sym, ap, _∙_, subst}
 use mathlib.Core.List.{List, [], _∷_, _++_, append-assoc, append-nil}
 use lib.ListN.{length, length-append}
-use Rattle.sql.specs.Expression.{Expression, ands, and-vec}
+use Rattle.sql.specs.Expression.{Expression, and, ands, and-vec}
 use Rattle.sql.specs.Plan.{scan, lookup, nothing, values, filter, other, nested-loop, hash, Node, leaf, over, join}
 use Rattle.sql.specs.Optimizer.{for-left, for-right, push-into, pushed-or-back, push-part}
 use Rattle.cells.specs.Cells.{words, Part}
 use Rattle.cells.specs.Room.{Wrote, Copies}
-use Rattle.cells.proofs.Laws.{part-right, nothing as no-words, then, wrote-up, full-already}
+use Rattle.cells.proofs.Laws.{part-right, nothing as no-words, then, wrote-up, fits-to, no-more, full-already}
 use Rattle.words.specs.Words.{cell, expression-words, optional-words, node-words, source-words, own-words, node-cell}
 use Rattle.words.specs.Place.{ExpressionHere, ExpressionAt, NodeHere, NodeAt}
 use Rattle.words.proofs.Nodes.{node-shape, node-in, node-long, source-part}
 use Rattle.words.proofs.Sizes
 use Rattle.nodes.specs.Own.{OwnStart}
-use Rattle.conjuncts.specs.Conjuncts.{Appends, Joins, OptionalHere, OptionalAt}
+use Rattle.conjuncts.specs.Conjuncts.{and-then, Appends, Joins, OptionalHere, OptionalAt}
 use Rattle.conjuncts.proofs.Appending.{words-long, join-full, appends-none, appends-one}
 use Rattle.copied_lookups.specs.declared.Source.{Source}
 use Rattle.copied_lookups.specs.declared.Source.the-variants as Source
@@ -92,7 +92,7 @@ module _ {s : List ℕ} {lo hi : ℕ} {d : List ℕ} {from mid at : ℕ} where
       let f = then l₁ v w in
       let k = closed-long o p h in
       let j = length-append (source-words p) (optional-words o) in
-      record { fits = λ i. absurd (let (a, b) = f .fits (omega arith) in omega arith); full = λ i. omega arith }
+      no-more (omega arith) (omega arith) f
 
   module _ (z : at ≤ length d) where
     pub close-none : at ≡ mid → {m : ℕ} → OwnStart s lo hi m → {r : ℕ} {d′ : List ℕ} → Copies s m hi d at r d′ → Closes s lo hi d from mid at r d′
@@ -155,7 +155,7 @@ module _ (into : Source) (n shift : ℕ) {s : List ℕ} {lo hi : ℕ} {cnf : Lis
     own-taken z i k {r} {d₂} g = record { same = λ j p u e v. absurd (omega (arith, wrote-up (wrote p u e v) (omega arith), own-end-long (push-part (part-for into n shift (ands e)) p .0))); own = λ j. wrote }
       where
         go : (p : Node) → NodeHere s lo hi p → (o : Option Expression) → Wrote d 0 (optional-words o) m d₁ → Wrote d 0 (own-end (push-part o p .0)) r d₂
-        go p u none j = absurd (i (let (c, e) = j .fits (omega arith) in omega arith))
+        go p u none j = absurd (i (let (c, e) = fits-to j (omega arith) (omega arith) in omega arith))
         go p u (some a) j =
             let q = taken a p (sym (f p a u) ∙ z) in
             subst (λ (t : Node). Wrote d 0 (own-end t) r d₂) (sym (pushed-is a p (q .pushed) (q .is)))
@@ -177,6 +177,11 @@ back-none (some e) p h = ap (λ (q : Option Node). pushed-or-back e p q .1) (tak
 pub back-is : (o : Option Expression) (p : Node) → ((e : Expression) → is-some (push-into e p) ≡ false) → push-part o p .1 ≡ optional-list o
 back-is none p h = refl
 back-is (some e) p h = ap (λ (q : Option Node). pushed-or-back e p q .1) (not-taken e p (h e))
+
+and-then-holds : (acc : Option Expression) (x : Expression) → length (optional-words acc ++ expression-words x) ≤ length (optional-words (and-then acc x))
+and-then-holds none x = omega arith
+and-then-holds (some a) x =
+    omega (arith, length-append (expression-words a) (expression-words x), Sizes.expression-long a, Sizes.expression-long x, Sizes.expression-long (and a x))
 
 module _ (into : Source) (n : ℕ) {s : List ℕ} {lo hi : ℕ} {cnf : List ℕ} {end : ℕ} {b : Bool} (f : Takes s lo hi b) {d : List ℕ} {from at : ℕ} where
   pub back-taken : b ≡ true → ComesBack into n s lo hi cnf end d from at at d
@@ -205,9 +210,16 @@ module _ (into : Source) (n : ℕ) {s : List ℕ} {lo hi : ℕ} {cnf : List ℕ}
               (subst (λ (x : List ℕ). Wrote d₀ from x m d₁) (append-nil (optional-words acc)) (then l v g))
           go (some x) g = absurd (omega (arith, wrote-up g (omega arith), words-long x))
 
-      pub back-one : (m ≡ at → ⊥) → {r : ℕ} {d₂ : List ℕ} → Joins d₁ from at m r d₂ → ComesBack into n s lo hi cnf end d from at r d₂
-      back-one i {r} {d₂} j = by-part (λ e v. go (part-for into n 0 (ands e)) (w e v))
+      pub back-long : length d < m → ComesBack into n s lo hi cnf end d from at m d₁
+      back-long i = by-part (λ e v. go (part-for into n 0 (ands e)) (w e v))
+        where
+          go : (o : Option Expression) → Wrote d at (optional-words o) m d₁ → Appends d from at (optional-list o) m d₁
+          go none g = λ d₀ acc l v. subst (λ (x : List ℕ). Wrote d₀ from x m d₁) (append-nil (optional-words acc)) (then l v g)
+          go (some x) g = λ d₀ acc l v. no-more (omega arith) (and-then-holds acc x) (then l v g)
+
+      pub back-one : (m ≡ at → ⊥) → m ≤ length d → {r : ℕ} {d₂ : List ℕ} → Joins d₁ from at m r d₂ → ComesBack into n s lo hi cnf end d from at r d₂
+      back-one i f {r} {d₂} j = by-part (λ e v. go (part-for into n 0 (ands e)) (w e v))
         where
           go : (o : Option Expression) → Wrote d at (optional-words o) m d₁ → Appends d from at (optional-list o) r d₂
-          go none g = absurd (i (let (a, b) = g .fits (omega arith) in omega arith))
+          go none g = absurd (i (omega (arith, wrote-up g f)))
           go (some x) g = appends-one k x g j

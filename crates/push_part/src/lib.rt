@@ -10,10 +10,10 @@ ghost use Rattle.push_part.specs.Part.{WritesPart, WritesOwn, Closes, Pu
 
 // The part of the predicate that is for a source, with the right source's columns `shift` lower. The left source has n columns.
 fn part(
-    cnf: &[usize],
+    cnf: &[u32],
     end: usize,
-    g: &mut [usize],
-    d: &mut [usize],
+    g: &mut [u32],
+    d: &mut [u32],
     at: usize,
     into: Source,
     n: usize,
@@ -38,13 +38,13 @@ fn part(
 // The own words and the cell of the source from lo to hi with its part of the predicate, in the first words of d. 0 if it takes none. The left source has n
 // columns; the right source's part has its columns n lower, which is its `shift`. The caller seals the source.
 pub fn own_part(
-    s: &[usize],
+    s: &[u32],
     lo: usize,
     hi: usize,
-    cnf: &[usize],
+    cnf: &[u32],
     end: usize,
-    g: &mut [usize],
-    d: &mut [usize],
+    g: &mut [u32],
+    d: &mut [u32],
     into: Source,
     n: usize,
     shift: usize,
@@ -67,11 +67,11 @@ pub fn own_part(
 // The node from lo to hi, whose own words start at m: its sources stand in d from word `from` up to mid, and from there up to at an expression that goes into
 // its predicate, or nothing.
 fn close(
-    s: &[usize],
+    s: &[u32],
     lo: usize,
     hi: usize,
     m: usize,
-    d: &mut [usize],
+    d: &mut [u32],
     from: usize,
     mid: usize,
     at: usize,
@@ -91,13 +91,13 @@ fn close(
 
 // The whole source from lo to hi with its part of the predicate, if it takes one.
 pub fn push_part(
-    s: &[usize],
+    s: &[u32],
     lo: usize,
     hi: usize,
-    cnf: &[usize],
+    cnf: &[u32],
     end: usize,
-    g: &mut [usize],
-    d: &mut [usize],
+    g: &mut [u32],
+    d: &mut [u32],
     at: usize,
     into: Source,
     n: usize,
@@ -120,13 +120,13 @@ pub fn push_part(
 // What comes back from the source from lo to hi, if it takes nothing, as one more of the conjuncts that stand in d from word `from` up to at. Its columns are
 // the joined row's.
 pub fn come_back(
-    s: &[usize],
+    s: &[u32],
     lo: usize,
     hi: usize,
-    cnf: &[usize],
+    cnf: &[u32],
     end: usize,
-    g: &mut [usize],
-    d: &mut [usize],
+    g: &mut [u32],
+    d: &mut [u32],
     from: usize,
     at: usize,
     into: Source,
@@ -146,6 +146,9 @@ pub fn come_back(
     let m = part(cnf, end, g, d, at, into, n, 0);
     if m == at {
         return at;
+    }
+    if d.len() < m {
+        return m;
     }
     conjuncts::and_over(d, from, at, m)
 }

@@ -1,5 +1,5 @@
 -- What stands in a list and what is written to it.
-use Prim.Native.Nat.{ℕ, _+_, _≤_}
+use Prim.Native.Nat.{_<_, ℕ, _+_, _≤_}
 use native.Mathlib.Omega.{arith}
 use mathlib.Core.Path.{_≡_, sym, ap, _∙_}
 use mathlib.Core.List.{List, _++_, append-assoc}
@@ -23,9 +23,9 @@ part-wrote {y} {lo} {hi} {w} p =
     done (omega (arith, p .high)) (sym (p .high)) (f ∙ ap (λ (l : List ℕ). l ++ w) (sym e))
 
 -- What was written stands there.
-pub wrote-part : {y : List ℕ} {lo r : ℕ} {w y′ : List ℕ} → length y′ ≡ length y → lo + length w ≤ length y → Wrote y lo w r y′ → Part y′ lo r w
-wrote-part {y} {lo} {r} {w} {y′} k h a =
-    let (e, t) = a .fits h in
+pub wrote-part : {y : List ℕ} {lo r : ℕ} {w y′ : List ℕ} → length y′ ≡ length y → lo + length w < 4294967296 → lo + length w ≤ length y → Wrote y lo w r y′ → Part y′ lo r w
+wrote-part {y} {lo} {r} {w} {y′} k s h a =
+    let (e, t) = a .is (a .room s h) in
     record {
       before = take lo y;
       after = drop r y′;
@@ -37,6 +37,6 @@ wrote-part {y} {lo} {r} {w} {y′} k h a =
 pub here-wrote : {y : List ℕ} {lo hi : ℕ} (p : Node) → NodeHere y lo hi p → Wrote y lo (node-words p) hi y
 here-wrote p u = part-wrote (u .part)
 
-pub wrote-here : {y : List ℕ} {lo r : ℕ} {y′ : List ℕ} (p : Node) → length y′ ≡ length y → lo + length (node-words p) ≤ length y → Wrote y lo (node-words p) r y′
+pub wrote-here : {y : List ℕ} {lo r : ℕ} {y′ : List ℕ} (p : Node) → length y′ ≡ length y → lo + length (node-words p) < 4294967296 → lo + length (node-words p) ≤ length y → Wrote y lo (node-words p) r y′
     → NodeHere y′ lo r p
-wrote-here p k h a = record { part = wrote-part k h a }
+wrote-here p k s h a = record { part = wrote-part k s h a }

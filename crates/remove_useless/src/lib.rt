@@ -9,19 +9,19 @@ ghost use Rattle.labels.specs.Labels.{ExpressionEnds, ItemEnds};
 ghost use Rattle.remove_useless.specs.RemoveUseless.{AlwaysTrue, OptionalAt, OptionalTrue, ItemPasses, ItemsAt, PassesThrough, Rewrites, Stays, Projects, Removes};
 
 // Whether the expression that ends before hi is the constant true.
-fn is_always(s: &[usize], hi: usize) -> bool
+fn is_always(s: &[u32], hi: usize) -> bool
     requires { ⌜ ExpressionEnds (now s) hi ⌝ }
     ensures { λ r. ⌜ AlwaysTrue (now (s .entry)) hi r ⌝ }
 {
     let c = cells::cell_at(s, hi);
-    if c.tag == 2 {
+    if c.tag == tags::BOOLEAN {
         return c.a == 1;
     }
     false
 }
 
 // The same of a predicate from lo to hi, which may be absent.
-fn optional_is_always(s: &[usize], lo: usize, hi: usize) -> bool
+fn optional_is_always(s: &[u32], lo: usize, hi: usize) -> bool
     requires { ⌜ OptionalAt (now s) lo hi ⌝ }
     ensures { λ r. ⌜ OptionalTrue (now (s .entry)) lo hi r ⌝ }
 {
@@ -32,15 +32,15 @@ fn optional_is_always(s: &[usize], lo: usize, hi: usize) -> bool
 }
 
 // A Scan, without a predicate that is always true.
-fn scan_without_true(y: &mut [usize], lo: usize, hi: usize) -> usize
+fn scan_without_true(y: &mut [u32], lo: usize, hi: usize) -> usize
     requires { ⌜ NodeAt (now y) lo hi ⌝ }
     requires { ⌜ tag-at (now y) hi ≡ 62 ⌝ }
     ensures { λ r. ⌜ Rewrites (now (y .entry)) lo hi r (now (y .exit)) ⌝ }
 {
-    if optional_is_always(y, lo, hi - 6) {
+    if optional_is_always(y, lo, hi - cells::CELL_WORDS) {
         let c = cells::cell_at(y, hi);
         let k = cells::Cell {
-            tag: 62,
+            tag: tags::SCAN,
             flag: c.flag - 1,
             a: c.a,
             b: c.b,
@@ -52,16 +52,16 @@ fn scan_without_true(y: &mut [usize], lo: usize, hi: usize) -> usize
 }
 
 // A NestedLoopJoin, without a predicate that is always true.
-fn join_without_true(y: &mut [usize], lo: usize, hi: usize) -> usize
+fn join_without_true(y: &mut [u32], lo: usize, hi: usize) -> usize
     requires { ⌜ NodeAt (now y) lo hi ⌝ }
     requires { ⌜ tag-at (now y) hi ≡ 56 ⌝ }
     ensures { λ r. ⌜ Rewrites (now (y .entry)) lo hi r (now (y .exit)) ⌝ }
 {
     let m = nodes::own_start(y, lo, hi);
-    if optional_is_always(y, m, hi - 6) {
+    if optional_is_always(y, m, hi - cells::CELL_WORDS) {
         let c = cells::cell_at(y, hi);
         let k = cells::Cell {
-            tag: 56,
+            tag: tags::NESTED_LOOP_JOIN,
             flag: c.flag - 1,
             a: 0,
             b: 0,
@@ -73,19 +73,19 @@ fn join_without_true(y: &mut [usize], lo: usize, hi: usize) -> usize
 }
 
 // A Filter, or its source alone if the predicate is always true.
-fn filter_or_source(y: &[usize], lo: usize, hi: usize) -> usize
+fn filter_or_source(y: &[u32], lo: usize, hi: usize) -> usize
     requires { ⌜ NodeAt (now y) lo hi ⌝ }
     requires { ⌜ tag-at (now y) hi ≡ 51 ⌝ }
     ensures { λ r. ⌜ Stays (now (y .entry)) lo hi r ⌝ }
 {
-    if is_always(y, hi - 6) {
+    if is_always(y, hi - cells::CELL_WORDS) {
         return nodes::own_start(y, lo, hi);
     }
     hi
 }
 
 // Whether the Item that ends before hi is column i without a label.
-fn item_passes(s: &[usize], hi: usize, i: usize) -> bool
+fn item_passes(s: &[u32], hi: usize, i: usize) -> bool
     requires { ⌜ ItemEnds (now s) hi ⌝ }
     ensures { λ r. ⌜ ItemPasses (now (s .entry)) hi i r ⌝ }
 {
@@ -93,15 +93,15 @@ fn item_passes(s: &[usize], hi: usize, i: usize) -> bool
     if 0 < c.flag {
         return false;
     }
-    let e = cells::cell_at(s, hi - 6);
-    if e.tag == 6 {
-        return e.a == i;
+    let e = cells::cell_at(s, hi - cells::CELL_WORDS);
+    if e.tag == tags::COLUMN {
+        return e.a as usize == i;
     }
     false
 }
 
 // Whether the n Items from lo to hi are columns 0, 1, .., without labels. The Items are met from the last to the first.
-pub fn pass_through(s: &[usize], lo: usize, hi: usize, n: usize) -> bool
+pub fn pass_through(s: &[u32], lo: usize, hi: usize, n: usize) -> bool
     requires { ⌜ ItemsAt (now s) lo hi n ⌝ }
     ensures { λ r. ⌜ PassesThrough (now (s .entry)) lo hi n r ⌝ }
 {
@@ -110,7 +110,7 @@ pub fn pass_through(s: &[usize], lo: usize, hi: usize, n: usize) -> bool
     while 0 < i {
         i -= 1;
         if item_passes(s, end, i) {
-            end -= 12;
+            end -= 2 * cells::CELL_WORDS;
             continue;
         }
         return false;
@@ -119,16 +119,16 @@ pub fn pass_through(s: &[usize], lo: usize, hi: usize, n: usize) -> bool
 }
 
 // A Projection, or its source alone if it passes the source's columns through. These are counted only for one that passes its first columns through.
-fn projection_or_source(y: &[usize], lo: usize, hi: usize, widths: &[usize]) -> usize
+fn projection_or_source(y: &[u32], lo: usize, hi: usize, widths: &[usize]) -> usize
     requires { ⌜ ColumnsAt (now widths) (now y) lo hi ⌝ }
     requires { ⌜ tag-at (now y) hi ≡ 60 ⌝ }
     ensures { λ r. ⌜ Projects (now (widths .entry)) (now (y .entry)) lo hi r ⌝ }
 {
     let m = nodes::own_start(y, lo, hi);
     let c = cells::cell_at(y, hi);
-    if pass_through(y, m, hi - 6, c.a) {
+    if pass_through(y, m, hi - cells::CELL_WORDS, c.a as usize) {
         let n = nodes::columns(y, lo, m, widths);
-        if n == c.a {
+        if n == c.a as usize {
             return m;
         }
     }
@@ -136,21 +136,21 @@ fn projection_or_source(y: &[usize], lo: usize, hi: usize, widths: &[usize]) -> 
 }
 
 // The first match of short_circuit, by the node's tag: a Scan, a NestedLoopJoin, a Filter or a Projection may lose something, every other node stays.
-pub fn remove_useless(y: &mut [usize], lo: usize, hi: usize, widths: &[usize]) -> usize
+pub fn remove_useless(y: &mut [u32], lo: usize, hi: usize, widths: &[usize]) -> usize
     requires { ⌜ ColumnsAt (now widths) (now y) lo hi ⌝ }
     ensures { λ r. ⌜ Removes (now (widths .entry)) (now (y .entry)) lo hi r (now (y .exit)) ⌝ }
 {
     let t = cells::tag_at(y, hi);
-    if t == 62 {
+    if t == tags::SCAN {
         return scan_without_true(y, lo, hi);
     }
-    if t == 56 {
+    if t == tags::NESTED_LOOP_JOIN {
         return join_without_true(y, lo, hi);
     }
-    if t == 51 {
+    if t == tags::FILTER {
         return filter_or_source(y, lo, hi);
     }
-    if t == 60 {
+    if t == tags::PROJECTION {
         return projection_or_source(y, lo, hi, widths);
     }
     hi

@@ -12,7 +12,7 @@ use Rattle.value.specs.Comparison.{compare-integers, compare-floats, compare-by
 use Rattle.sql.specs.Schema.{Schema, Integer, table-of}
 use Rattle.sql.specs.Expression.{Expression, constant, column, unary, function, Identity, Row}
 use Rattle.sql.specs.Plan.{unlabelled, by-key, by-index, scan, lookup, nothing, values, limit, offset, order, projection, remap, aggregate, filter, other, nested-loop, hash, Node, leaf, over, join, up-to}
-use Rattle.sql.specs.Worked.{number, equals, A, B}
+use Rattle.sql.specs.Samples.{number, equals, A, B}
 use Rattle.rows.specs.Database.{Wide, no-rows, and-row, Database}
 use Rattle.rows.specs.Reading.{read}
 

@@ -16,7 +16,7 @@ use Rattle.sql.specs.Optimizer.{maybe-push-join, maybe-push-filter, push-filter
 use Rattle.rows.specs.Database.{Wide, no-rows, and-row, Database}
 use Rattle.rows.specs.Reading.{read}
 use Rattle.rows.specs.Equalities.{equalities, of-one-kind, all}
-use Rattle.sql.specs.Worked.{A, B, number, equals}
+use Rattle.sql.specs.Samples.{A, B, number, equals}
 
 -- Two tables of one column, their key: in the first a Float 2 ^ 53 (4340000000000000 is that), in the second an Integer one above.
 abbrev one-column : Schema

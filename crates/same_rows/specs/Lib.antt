@@ -17,4 +17,3 @@ pub mod SameRows
 pub mod Proof
 pub mod Values
 pub mod Columns
-pub mod Instance

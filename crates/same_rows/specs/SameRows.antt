@@ -1,10 +1,10 @@
--- Point 3 in words and as a theorem: the passes change no row.
+-- Point 3: the passes change no row. Proved in Proof.antt as `same-rows`; crate theorems states it from bytes to rows, and has a sheet and tables that meet it.
 --
 -- Document 01                                                        here
 -- tables as wide as declared, with figures of any kind               database: its tables
 -- any Order rule and any Aggregate function, one choice for all six  database: its arrangement and aggregated
--- the plan handed in, and the plan after each of the five passes     plan 0, and plan 1 to plan 5
--- no step is refused (by 11 to 14)                                   not-refused
+-- the plan handed in, and the plan after each of the five passes     plans 0, and plans 1 to plans 5
+-- no step is refused (by 11 to 14)                                   not-refused, which also says what the six plans are
 -- no join in the plan handed in is outer                             inner
 -- none of the six plans meets a failing expression                   reads, which also names the rows that are read
 -- every equality of two columns (Equal of two Columns, HashJoin)     one-kind
@@ -12,7 +12,7 @@
 -- equal column counts                                                same-columns
 -- equal row counts, and the same figure in each place, to the bit    same-rows: equal lists, where a Float is its 64-bit pattern
 use Prim.Native.Nat.{ℕ, suc, _≤_, _<_}
-use mathlib.Core.Bool.{Bool, true}
+use mathlib.Core.Bool.{true}
 use mathlib.Core.List.{List}
 use mathlib.Core.Path.{_≡_}
 use Rattle.value.specs.Value.{ok}
@@ -20,25 +20,25 @@ use Rattle.sql.specs.Schema.{Schema}
 use Rattle.sql.specs.Expression.{Row}
 use Rattle.sql.specs.Plan.{Node, columns}
 use Rattle.sql.specs.Answer.{done}
-use Rattle.sql.specs.Optimizer.{Optimizer}
+use Rattle.sql.specs.Room.{max-cells, pass}
 use Rattle.rows.specs.Database.{Database}
 use Rattle.rows.specs.Reading.{read}
 use Rattle.rows.specs.Equalities.{equalities, of-one-kind, all}
 use Rattle.rows.specs.Premises.{no-outer}
 
--- `pass` is one optimizer by its number: Room.pass with document 01's room, or Optimizer.pass, which knows no limit of size.
-pub record Premises (pass : ℕ → Optimizer) (database : Database) (plan : ℕ → Node) (rows : ℕ → List Row) : Type 0 where
-  pub not-refused : (k : ℕ) → k < 5 → pass (suc k) (plan k) ≡ done (plan (suc k))
-  pub inner : no-outer (plan 0) ≡ true
-  pub reads : (k : ℕ) → k ≤ 5 → read database (plan k) ≡ ok (rows k)
-  pub one-kind : (k : ℕ) → k ≤ 5 → all of-one-kind (equalities database (plan k)) ≡ true
+-- Document 01's four premises, on six plans read in one database. Plan k + 1 is what pass k + 1 makes of plan k with room for 2,048 cells; rows k are plan k's.
+pub record Premises (database : Database) (plans : ℕ → Node) (rows : ℕ → List Row) : Type 0 where
+  pub not-refused : (k : ℕ) → k < 5 → pass max-cells (database .schema) (suc k) (plans k) ≡ done (plans (suc k))
+  pub inner : no-outer (plans 0) ≡ true
+  pub reads : (k : ℕ) → k ≤ 5 → read database (plans k) ≡ ok (rows k)
+  pub one-kind : (k : ℕ) → k ≤ 5 → all of-one-kind (equalities database (plans k)) ≡ true
 
 pub record Same (schema : Schema) (plan other : Node) (rows others : List Row) : Type 0 where
   pub same-columns : columns schema other ≡ columns schema plan
   pub same-rows : others ≡ rows
 
--- The rows of each of the six plans are those of the plan handed in. Point 3 is SameRows of Room.pass with document 01's room: `same-rows` in
--- Proof.antt proves it, and Instance.antt applies it to a plan and tables.
-abbrev pub SameRows : (Database → ℕ → Optimizer) → Type 0
-SameRows pass = (database : Database) (plan : ℕ → Node) (rows : ℕ → List Row) → Premises (pass database) database plan rows
-    → (k : ℕ) → k ≤ 5 → Same (database .schema) (plan 0) (plan k) (rows 0) (rows k)
+-- Each of the six plans has the columns and the rows of the plan handed in.
+abbrev pub SameRows : Type 0
+SameRows =
+    (database : Database) (plans : ℕ → Node) (rows : ℕ → List Row) → Premises database plans rows
+    → (k : ℕ) → k ≤ 5 → Same (database .schema) (plans 0) (plans k) (rows 0) (rows k)

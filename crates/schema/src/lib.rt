@@ -110,6 +110,19 @@ fn record_words(s: &[u8], from: usize, count: usize, k: usize, out: &mut [usize]
     i
 }
 
+// The same, as words of the working form.
+fn record_names(s: &[u8], from: usize, count: usize, k: usize, out: &mut [u32]) -> usize
+    requires { ⌜ (from + count * 16 ≤ length (now s)) × ((k ≤ 12) × (count ≤ length (now out))) ⌝ }
+    ensures { λ r. ⌜ Filled (map (λ i. word (now (s .entry)) (from + i * 16 + k)) (up-to 0 count)) r (now (out .exit)) ⌝ }
+{
+    let mut n: usize = 0;
+    while n < count {
+        out[n] = layout::word_at(s, from + n * 16 + k) as u32;
+        n += 1;
+    }
+    n
+}
+
 // The number of columns of each table.
 pub fn widths(s: &[u8], out: &mut [usize]) -> usize
     requires { ⌜ Whole (now s) × (table-count (now s) ≤ length (now out)) ⌝ }
@@ -120,12 +133,12 @@ pub fn widths(s: &[u8], out: &mut [usize]) -> usize
 }
 
 // The name of each table.
-pub fn table_names(s: &[u8], out: &mut [usize]) -> usize
+pub fn table_names(s: &[u8], out: &mut [u32]) -> usize
     requires { ⌜ Whole (now s) × (table-count (now s) ≤ length (now out)) ⌝ }
     ensures { λ r. ⌜ Filled (map (λ (t : Schema.Table). t .name) (Sheet.schema (now (s .entry)))) r (now (out .exit)) ⌝ }
 {
     let p = layout::parts_of(s);
-    record_words(s, p.tables.at, p.tables.count, 0, out)
+    record_names(s, p.tables.at, p.tables.count, 0, out)
 }
 
 // The primary key of each table.

@@ -44,7 +44,7 @@ fn outside_in(s: &[u8], widths: &mut [usize]) -> Scope
     let mut i: usize = 0;
     while i < count {
         let k = cell_at(s, i);
-        if k.tag < 50 {
+        if k.tag < tags::NODES {
             i += 1;
             continue;
         }

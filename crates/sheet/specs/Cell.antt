@@ -9,6 +9,7 @@ use lib.ListN.{length, getD}
 use Rattle.value.specs.Value.{the-nan}
 use Rattle.sheet.specs.Bytes.{byte, half, word}
 use Rattle.sheet.specs.Parts.{cells-at, tables-at, table-count, cell-count, record-at, inside, first-failing}
+use Rattle.sheet.specs.Tags
 
 pub record Cell : Type 0 where
   pub tag : ℕ
@@ -104,7 +105,7 @@ wide low high = low + 4294967296 * high
 
 -- A Float is no NaN but the one.
 abbrev pub float-ok : Cell → Bool
-float-ok k = not (eqb (k .tag) 4) || (not (Ieee.nanBits Ieee.binary64 (wide (k .a) (k .b))) || eqb (wide (k .a) (k .b)) the-nan)
+float-ok k = not (eqb (k .tag) Tags.float) || (not (Ieee.nanBits Ieee.binary64 (wide (k .a) (k .b))) || eqb (wide (k .a) (k .b)) the-nan)
 
 unfoldable pub cell-ok : (bytes tables : ℕ) → Cell → Bool
 unfolding tag-of

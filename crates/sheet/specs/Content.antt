@@ -10,6 +10,7 @@ use Rattle.value.specs.Meaning.{integer-bits, integer-of-bits, bytes-at}
 use Rattle.sql.specs.Expression.{Logical, And, Or, Function1, IsNull, IsNaN, Identity, Negate, Function2, GreaterThan, LessThan, Add, Divide, Unary, Not, function, Binary, logical, Equal}
 use Rattle.sql.specs.Plan.{Label, unlabelled, unqualified, qualified}
 use Rattle.sheet.specs.Cell.{Cell, wide}
+use Rattle.sheet.specs.Tags
 
 -- A cell's content, with the number of children where it says one.
 pub data Content : Type 0 where
@@ -54,28 +55,28 @@ abbrev with : (tag flag a b c : ℕ) → Cell
 with t f a b c = record { tag = t; flag = f; zeros = 0; a = a; b = b; c = c }
 
 abbrev pub unary-tag : Unary → ℕ
-unary-tag Not = 30
-unary-tag (function IsNull) = 31
-unary-tag (function IsNaN) = 32
-unary-tag (function Identity) = 33
-unary-tag (function Negate) = 34
+unary-tag Not = Tags.not
+unary-tag (function IsNull) = Tags.is-null
+unary-tag (function IsNaN) = Tags.is-nan
+unary-tag (function Identity) = Tags.identity
+unary-tag (function Negate) = Tags.negate
 
 abbrev pub binary-tag : Binary → ℕ
-binary-tag (logical And) = 10
-binary-tag (logical Or) = 11
-binary-tag Equal = 12
-binary-tag (function GreaterThan) = 13
-binary-tag (function LessThan) = 14
-binary-tag (function Add) = 15
-binary-tag (function Divide) = 16
+binary-tag (logical And) = Tags.and
+binary-tag (logical Or) = Tags.or
+binary-tag Equal = Tags.equal
+binary-tag (function GreaterThan) = Tags.greater-than
+binary-tag (function LessThan) = Tags.less-than
+binary-tag (function Add) = Tags.add
+binary-tag (function Divide) = Tags.divide
 
 abbrev pub constant-as-cell : Value → Cell
-constant-as-cell (truth Unknown) = with 1 0 0 0 0
-constant-as-cell (truth False) = with 2 0 0 0 0
-constant-as-cell (truth True) = with 2 0 1 0 0
-constant-as-cell (datum (integer n)) = with 3 0 (low (integer-bits n)) (high (integer-bits n)) 0
-constant-as-cell (datum (float b)) = with 4 0 (low b) (high b) 0
-constant-as-cell (datum (string r s)) = with 5 0 r 0 0
+constant-as-cell (truth Unknown) = with Tags.null 0 0 0 0
+constant-as-cell (truth False) = with Tags.boolean 0 0 0 0
+constant-as-cell (truth True) = with Tags.boolean 0 1 0 0
+constant-as-cell (datum (integer n)) = with Tags.integer 0 (low (integer-bits n)) (high (integer-bits n)) 0
+constant-as-cell (datum (float b)) = with Tags.float 0 (low b) (high b) 0
+constant-as-cell (datum (string r s)) = with Tags.string 0 r 0 0
 
 -- 40 Label and 41 Item say their label in the same way.
 abbrev pub labelled : ℕ → Label → Cell
@@ -84,8 +85,8 @@ labelled t (unqualified n) = with t 1 n 0 0
 labelled t (qualified q n) = with t 2 q n 0
 
 abbrev pub target-as-cell : Option ℕ → Cell
-target-as-cell none = with 43 0 0 0 0
-target-as-cell (some i) = with 43 1 i 0 0
+target-as-cell none = with Tags.target 0 0 0 0
+target-as-cell (some i) = with Tags.target 1 i 0 0
 
 -- a lookup's flag, and the alias beside it
 abbrev pub lookup-as-cell : (tag table : ℕ) (alias : Option ℕ) (c : ℕ) → Cell
@@ -93,34 +94,34 @@ lookup-as-cell t table none c = with t 0 table 0 c
 lookup-as-cell t table (some r) c = with t 1 table r c
 
 abbrev pub scan-as-cell : Bool → ℕ → Option ℕ → Cell
-scan-as-cell f table none = with 62 (bit f) table 0 0
-scan-as-cell f table (some r) = with 62 (bit f + 2) table r 0
+scan-as-cell f table none = with Tags.scan (bit f) table 0 0
+scan-as-cell f table (some r) = with Tags.scan (bit f + 2) table r 0
 
 abbrev pub cell-of : Content → Cell
 cell-of (constant-cell v) = constant-as-cell v
-cell-of (column-cell i) = with 6 0 i 0 0
+cell-of (column-cell i) = with Tags.column 0 i 0 0
 cell-of (unary-cell o) = with (unary-tag o) 0 0 0 0
 cell-of (binary-cell o) = with (binary-tag o) 0 0 0 0
-cell-of (label-cell l) = labelled 40 l
-cell-of (item-cell l) = labelled 41 l
-cell-of (key-cell d) = with 42 (bit d) 0 0 0
+cell-of (label-cell l) = labelled Tags.label l
+cell-of (item-cell l) = labelled Tags.item l
+cell-of (key-cell d) = with Tags.key (bit d) 0 0 0
 cell-of (target-cell t) = target-as-cell t
-cell-of (agg-cell f) = with 44 f 0 0 0
-cell-of (row-cell n) = with 45 0 n 0 0
-cell-of (aggregate-cell n m) = with 50 0 n m 0
-cell-of filter-cell = with 51 0 0 0 0
-cell-of (hash-join-cell o l r) = with 52 (bit o) l r 0
-cell-of (index-lookup-cell t al i n) = lookup-as-cell 53 t al (i + 65536 * n)
-cell-of (key-lookup-cell t al n) = lookup-as-cell 54 t al n
-cell-of (limit-cell n) = with 55 0 (low n) (high n) 0
-cell-of (offset-cell n) = with 58 0 (low n) (high n) 0
-cell-of (nested-loop-join-cell p o) = with 56 (bit p + 2 * bit o) 0 0 0
-cell-of (nothing-cell n) = with 57 0 n 0 0
-cell-of (order-cell n) = with 59 0 n 0 0
-cell-of (projection-cell n) = with 60 0 n 0 0
-cell-of (remap-cell n) = with 61 0 n 0 0
+cell-of (agg-cell f) = with Tags.agg f 0 0 0
+cell-of (row-cell n) = with Tags.row 0 n 0 0
+cell-of (aggregate-cell n m) = with Tags.aggregate 0 n m 0
+cell-of filter-cell = with Tags.filter 0 0 0 0
+cell-of (hash-join-cell o l r) = with Tags.hash-join (bit o) l r 0
+cell-of (index-lookup-cell t al i n) = lookup-as-cell Tags.index-lookup t al (i + 65536 * n)
+cell-of (key-lookup-cell t al n) = lookup-as-cell Tags.key-lookup t al n
+cell-of (limit-cell n) = with Tags.limit 0 (low n) (high n) 0
+cell-of (offset-cell n) = with Tags.offset 0 (low n) (high n) 0
+cell-of (nested-loop-join-cell p o) = with Tags.nested-loop-join (bit p + 2 * bit o) 0 0 0
+cell-of (nothing-cell n) = with Tags.nothing 0 n 0 0
+cell-of (order-cell n) = with Tags.order 0 n 0 0
+cell-of (projection-cell n) = with Tags.projection 0 n 0 0
+cell-of (remap-cell n) = with Tags.remap 0 n 0 0
 cell-of (scan-cell f t al) = scan-as-cell f t al
-cell-of (values-cell n) = with 63 0 n 0 0
+cell-of (values-cell n) = with Tags.values 0 n 0 0
 
 -- ---- reading, of a cell whose layout is right
 

@@ -1,6 +1,7 @@
 pub mod Bytes
 pub mod Parts
 pub mod Cell
+pub mod Tags
 pub mod Content
 pub mod Cells
 pub mod Tree
@@ -9,4 +10,4 @@ pub mod Check
 pub mod Write
 pub mod Operations
 pub mod Listing
-pub mod Worked
+pub mod Examples

@@ -1,5 +1,5 @@
 -- The column numbers and counts of a plan that is in scope and has at most 2,048 cells fit their fields.
-use Prim.Native.Nat.{ℕ, _+_, _*_, _^_, _≤_}
+use Prim.Native.Nat.{ℕ, _+_, _*_, _/_, _^_, _≤_}
 use native.Mathlib.Omega.{arith}
 use borrow.Author.Tests.{ltb-true}
 use mathlib.Core.Path.{_≡_, refl}
@@ -11,7 +11,7 @@ use lib.ListN.{length}
 use Rattle.value.specs.Value.{Value}
 use Rattle.sql.specs.Schema.{Schema, table-of}
 use Rattle.sql.specs.Expression.{Expression, constant, column, unary, binary, size}
-use Rattle.sql.specs.Plan.{by-key, by-index, Leaf, scan, lookup, nothing, values, limit, offset, order, projection, remap, aggregate, Over, filter, other, Join, nested-loop, hash, Node, leaf, over, join, remap-columns, values-columns, columns, sum, row-size, item-size, key-size, aggregate-size, leaf-size, over-size, node-size}
+use Rattle.sql.specs.Plan.{by-key, by-index, Leaf, scan, lookup, nothing, values, limit, offset, order, projection, remap, aggregate, Over, filter, other, Join, nested-loop, hash, Node, leaf, over, join, remap-columns, values-columns, columns, sum, row-size, item-size, key-size, aggregate-size, leaf-size, over-size, join-size, node-size}
 use Rattle.sheet.specs.Content.{Content, constant-cell, label-cell, target-cell}
 use Rattle.sheet.specs.Scope.{first-of, unless, in-each, column-outside, optional-outside, expressions-outside, leaf-outside, over-outside, join-outside, outside}
 use Rattle.sheet_laws.specs.Fits.{All, Optional, Each-expression, Each-item, Each-key, Each-agg, Each-row, Each-leaf, Each-over, Each-join, Each, Content-fits, Exact-cell}
@@ -47,6 +47,10 @@ size-positive (column i) = omega arith
 size-positive (unary o x) = omega arith
 size-positive (binary o l r) = omega arith
 
+join-positive : (j : Join) → 1 ≤ join-size j
+join-positive (nested-loop p) = omega arith
+join-positive (hash l r) = omega arith
+
 -- There are no more parts than they have cells.
 pub count-bound : {A : Type 0} (g : A → ℕ) → ((x : A) → 1 ≤ g x) → (xs : List A) → length xs ≤ sum g xs
 count-bound g p [] = omega arith
@@ -55,6 +59,11 @@ count-bound g p (x ∷ xs) = omega (arith, p x, count-bound g p xs)
 pub values-bound : (rs : List (List Expression)) → values-columns rs ≤ sum row-size rs
 values-bound [] = omega arith
 values-bound (r ∷ rs) = omega (arith, count-bound size size-positive r)
+
+-- The most columns of a plan with so many cells: 256 for each two of them, and for one that is left over. Joins of Scans of 256 columns have them: k Scans and the
+-- k - 1 joins over them are 2 k - 1 cells with 256 k columns.
+abbrev pub most-columns : (cells : ℕ) → ℕ
+most-columns cells = 256 * ((cells + 1) / 2)
 
 module _ (schema : Schema) (narrow : (t : ℕ) → length (table-of schema t .columns) ≤ 256) where
   module _ (text : List ℕ) (bytes tables : ℕ) where
@@ -70,7 +79,8 @@ module _ (schema : Schema) (narrow : (t : ℕ) → length (table-of schema t .co
     targets-bound (none ∷ ts) x = targets-bound ts (x .1)
     targets-bound (some t ∷ ts) x = omega (arith, x .0, targets-bound ts (x .1))
 
-    over-bound : (o : Over) (s : Node) → Each-over F o → columns schema s ≤ 256 * node-size s → columns schema (over o s) ≤ 256 * node-size (over o s)
+    over-bound : (o : Over) (s : Node) → Each-over F o → columns schema s ≤ most-columns (node-size s)
+        → columns schema (over o s) ≤ most-columns (node-size (over o s))
     over-bound (filter e) s x h = omega arith
     over-bound (other (limit n)) s x h = omega arith
     over-bound (other (offset n)) s x h = omega arith
@@ -80,14 +90,14 @@ module _ (schema : Schema) (narrow : (t : ℕ) → length (table-of schema t .co
     over-bound (other (aggregate es gs)) s x h =
         omega (arith, count-bound size size-positive es, count-bound aggregate-size (λ g. omega arith) gs)
 
-    -- A plan has at most 256 columns for each of its cells, if its tables have no more.
-    pub columns-bound : (n : Node) → Each F n → columns schema n ≤ 256 * node-size n
+    -- A plan has at most 256 columns for each two of its cells, if its tables have no more.
+    pub columns-bound : (n : Node) → Each F n → columns schema n ≤ most-columns (node-size n)
     columns-bound (leaf (scan t al p)) x = omega (arith, narrow t)
     columns-bound (leaf (lookup a t al vs)) x = omega (arith, narrow t)
     columns-bound (leaf (nothing ls)) x = omega arith
     columns-bound (leaf (values rs)) x = omega (arith, values-bound rs)
     columns-bound (over o s) x = over-bound o s (x .1) (columns-bound s (x .0))
-    columns-bound (join outer j l r) x = omega (arith, columns-bound l (x .0), columns-bound r (x .1 .0))
+    columns-bound (join outer j l r) x = omega (arith, columns-bound l (x .0), columns-bound r (x .1 .0), join-positive j)
 
     -- ---- exact, in turn
 

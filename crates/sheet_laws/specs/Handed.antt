@@ -299,7 +299,7 @@ pub record Can-hold (s : List ℕ) (m : Node) : Type 0 where
   pub targets : target-repeated 0 m ≡ none
   pub room : node-size m ≤ 2048
 
-node-size-positive : (m : Node) → 1 ≤ node-size m
+pub node-size-positive : (m : Node) → 1 ≤ node-size m
 node-size-positive (leaf l) = leaf-positive l
   where
     leaf-positive : (l : Leaf) → 1 ≤ leaf-size l

@@ -11,4 +11,5 @@ pub mod Plan
 pub mod Bytes
 pub mod Same
 pub mod Handed
+pub mod Widest
 pub mod Examples

@@ -15,7 +15,8 @@ use Rattle.sound.specs.Sound.{Sound}
 use Rattle.sound.specs.HandedOut.{names-inside}
 use Rattle.sound.specs.Checks.{passes-sound}
 use Rattle.layout.specs.Layout.{Whole}
-use Rattle.cells.specs.Room.{Wrote}
+use Rattle.cells.specs.Room.{most-words, Wrote}
+use Rattle.cells.proofs.Laws.{fits as room-for}
 use Rattle.words.specs.Words.{node-words}
 use Rattle.words.proofs.Sizes.{words-long}
 use Rattle.kept.specs.Kept.{Kept}
@@ -51,11 +52,11 @@ module _ (s : List ℕ) (b : Bytes s) (n : Node) (h : plan s ≡ done n) where
       }
 
   -- decoded, the plan is in x
-  pub decoded : (x : List ℕ) (t : ℕ) (x′ : List ℕ) (room : ℕ) → Decodes s x t x′ → length x′ ≡ length x → length x ≡ 6 * room → node-size n ≤ room
+  pub decoded : (x : List ℕ) (t : ℕ) (x′ : List ℕ) (room : ℕ) → Decodes s x t x′ → length x′ ≡ length x → length x ≤ most-words → length x ≡ 6 * room → node-size n ≤ room
       → Plan-in (schema s) (text s) (table-count s) x′ t room n
-  decoded x t x′ room d same all fits =
+  decoded x t x′ room d same short all fits =
       let long = words-long n in
-      let (e, w) = d n h .fits (omega (arith, long, all, fits)) in
+      let (e, w) = room-for (d n h) (omega (arith, short)) (omega (arith, long, all, fits)) in
       record { fit = fit; words-are = w; inside = omega (arith, e, long, same, all, fits); all = same ∙ all }
 
   few-tables : table-count s ≤ 16
@@ -77,14 +78,14 @@ module _ (s : List ℕ) (b : Bytes s) {x y z w : List ℕ} (at : RunAt s x y z w
         room = at .room;
         p = at .node;
         given = given s b (at .node) (at .is) text′ e l;
-        plan = decoded s b (at .node) (at .is) x t x′ (at .room) d same (at .all) (at .fits);
+        plan = decoded s b (at .node) (at .is) x t x′ (at .room) d same (at .short) (at .all) (at .fits);
         short = omega (arith, at .short, same);
       }
 
   -- The working form has the sheet's cells.
   pub cells-decoded : cells-in (take t x′) ≡ cells-of s
   cells-decoded =
-      ap cells-in (decoded s b (at .node) (at .is) x t x′ (at .room) d same (at .all) (at .fits) .words-are)
+      ap cells-in (decoded s b (at .node) (at .is) x t x′ (at .room) d same (at .short) (at .all) (at .fits) .words-are)
       ∙ node-cells (at .node) ∙ sym (plan-cells s b (at .node) (at .is))
 
   pub still-alike : Alike x′ y z w
@@ -96,7 +97,7 @@ module _ (s : List ℕ) (b : Bytes s) {x y z w : List ℕ} (at : RunAt s x y z w
     left : (node : Node) (room : ℕ) → plan s ≡ done node → node-size node ≤ room → length x ≡ 6 * room
         → Leaves (Fit s node) y′ (chosen c room (schema s) node) r
     left node room is fits all =
-        run (schema s) (text s) (table-count s) room node (given s b node is text′ e l) (decoded s b node is x t x′ room d same all fits)
+        run (schema s) (text s) (table-count s) room node (given s b node is text′ e l) (decoded s b node is x t x′ room d same (at .short) all fits)
 
     pub answered : AnsweredAt s y′ r
     answered =

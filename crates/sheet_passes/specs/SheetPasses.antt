@@ -9,21 +9,23 @@ use Rattle.sql.specs.Answer.{done}
 use Rattle.sheet.specs.Check.{schema, plan}
 use Rattle.sheet.specs.Operations.{hand-out}
 use Rattle.checker.specs.declared.Answer as Code
+use Rattle.cells.specs.Room.{most-words}
 use Rattle.schema.specs.Schema.{column-records}
 use Rattle.passes.specs.Passes.{Alike}
 use Rattle.optimizer.specs.Choices.{chosen}
 use Rattle.optimizer.specs.declared.Chosen.{Chosen}
 use Rattle.hand_out.specs.HandOut.{outcome}
+use Rattle.cells.specs.Cells.{cell-words}
 
 -- s stands for a plan that fits into x. Each buffer has six words for each cell that there is room for.
 pub record RunAt (s x y z w : List ℕ) : Type 0 where
   pub node : Node
   pub is : plan s ≡ done node
   pub room : ℕ
-  pub all : length x ≡ 6 * room
+  pub all : length x ≡ cell-words * room
   pub fits : node-size node ≤ room
   pub alike : Alike x y z w
-  pub short : length x ≤ 16777216
+  pub short : length x ≤ most-words
 
 -- The slices hold what the schema of s says: its tables' numbers of columns, their names, the records of all columns, and the primary keys.
 pub record Lends (s widths names columns keys : List ℕ) : Type 0 where
@@ -35,5 +37,5 @@ pub record Lends (s widths names columns keys : List ℕ) : Type 0 where
 -- What is answered and put out is that of the definition, with the buffers' room. `count` is the number of columns of the plan handed in.
 abbrev pub RunsOn : (s : List ℕ) → Chosen → (count : ℕ) (x out : List ℕ) → Code.Answer → List ℕ → Type 0
 RunsOn s c count x out a out′ =
-    (node : Node) (room : ℕ) → plan s ≡ done node → node-size node ≤ room → length x ≡ 6 * room → count ≡ columns (schema s) node
+    (node : Node) (room : ℕ) → plan s ≡ done node → node-size node ≤ room → length x ≡ cell-words * room → count ≡ columns (schema s) node
     → outcome a out′ ≡ hand-out s out (chosen c room (schema s) node)

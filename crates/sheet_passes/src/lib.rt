@@ -9,13 +9,13 @@ fn run_with(
     s: &[u8],
     c: Chosen,
     count: usize,
-    x: &mut [usize],
-    y: &mut [usize],
-    z: &mut [usize],
-    w: &mut [usize],
+    x: &mut [u32],
+    y: &mut [u32],
+    z: &mut [u32],
+    w: &mut [u32],
     out: &mut [u8],
     widths: &[usize],
-    names: &[usize],
+    names: &[u32],
     columns: &[u8],
     keys: &[usize],
 ) -> Answer
@@ -35,10 +35,10 @@ pub fn run(
     s: &[u8],
     c: Chosen,
     count: usize,
-    x: &mut [usize],
-    y: &mut [usize],
-    z: &mut [usize],
-    w: &mut [usize],
+    x: &mut [u32],
+    y: &mut [u32],
+    z: &mut [u32],
+    w: &mut [u32],
     out: &mut [u8],
 ) -> Answer
     requires { ⌜ Choice c ⌝ }
@@ -46,7 +46,7 @@ pub fn run(
     ensures { λ a. ⌜ RunsOn (now (s .entry)) c count (now (x .entry)) (now (out .entry)) a (now (out .exit)) ⌝ }
 {
     let mut widths = [0usize; 16];
-    let mut names = [0usize; 16];
+    let mut names = [0u32; 16];
     let mut keys = [0usize; 16];
     let i = schema::widths(s, &mut widths);
     let j = schema::table_names(s, &mut names);

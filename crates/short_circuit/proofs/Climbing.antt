@@ -4,6 +4,7 @@ use native.Mathlib.Omega.{arith}
 use mathlib.Core.Path.{_≡_, refl, sym, _∙_, subst}
 use mathlib.Core.List.{List}
 use lib.ListN.{length}
+use Rattle.cells.specs.Room.{most-words}
 use Rattle.nodes.specs.Own.{OwnStart, SourceCount}
 use Rattle.nodes.specs.Columns.{ColumnsAt}
 use Rattle.labels.specs.Names.{NamesAt}
@@ -59,9 +60,9 @@ module _ {widths names columns x : List ℕ} {lo end hi tail : ℕ} {y₀ : List
         go (no-more e) = absurd (omega arith)
         go (one-more c own b) = f c own b
 
-    pub climb-in : (end + 6 ≤ hi) × ((hi ≤ length x) × ((length x ≤ 16777216) × (tail + (hi - end) ≤ 16777216)))
+    pub climb-in : (end + 6 ≤ hi) × ((hi ≤ length x) × ((length x ≤ most-words) × (tail + (hi - end) ≤ most-words)))
     climb-in =
-        by-next ((end + 6 ≤ hi) × ((hi ≤ length x) × ((length x ≤ 16777216) × (tail + (hi - end) ≤ 16777216))))
+        by-next ((end + 6 ≤ hi) × ((hi ≤ length x) × ((length x ≤ most-words) × (tail + (hi - end) ≤ most-words))))
         (λ c own b. (
           bare-in b,
           (
@@ -71,9 +72,9 @@ module _ {widths names columns x : List ℕ} {lo end hi tail : ℕ} {y₀ : List
         ))
 
     module _ (z : u ≤ length y) {v : ℕ} {y₁ : List ℕ} (k : length y₁ ≡ length y) (f : Finishes x end (end + 6) y at u v y₁) where
-      pub climb-ready : ColumnsAt widths y₁ at v × ((v + (tail + (hi - (end + 6))) ≤ length y₁) × (length y₁ ≤ 16777216))
+      pub climb-ready : ColumnsAt widths y₁ at v × ((v + (tail + (hi - (end + 6))) ≤ length y₁) × (length y₁ ≤ most-words))
       climb-ready =
-          by-next (ColumnsAt widths y₁ at v × ((v + (tail + (hi - (end + 6))) ≤ length y₁) × (length y₁ ≤ 16777216)))
+          by-next (ColumnsAt widths y₁ at v × ((v + (tail + (hi - (end + 6))) ≤ length y₁) × (length y₁ ≤ most-words)))
           (λ c own b. over-ready (below-at b (g .given)) c own (g .long) (circuits-as refl (sym (behind end hi tail (bare-in b))) (g .below)) z k f)
 
       pub climb-next : {n : ℕ} {y₂ : List ℕ} → length y₂ ≡ length y₁ → CircuitsNode widths names columns y₁ at v (tail + (hi - (end + 6))) n y₂

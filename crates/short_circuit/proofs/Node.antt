@@ -14,7 +14,8 @@ use Rattle.sql.specs.Optimizer.{verdict, optional-verdict, is-always, remove-tr
 use Rattle.sheet.specs.Content.{nothing-cell}
 use Rattle.sheet_laws.specs.Layout.{length-up-to}
 use Rattle.cells.specs.Cells.{sized, Part}
-use Rattle.cells.specs.Room.{Wrote, Seals, Copies}
+use Rattle.cells.specs.Room.{Short, most-words, Wrote, Seals, Copies}
+use Rattle.cells.proofs.Laws.{fits}
 use Rattle.words.specs.Words.{cell, all-words, label-words, node-words}
 use Rattle.words.specs.Place.{NodeHere}
 use Rattle.words.proofs.Nodes.{node-in}
@@ -30,13 +31,13 @@ use Rattle.short_circuit.specs.ShortCircuit.{Fitted, Empties, CircuitsNo
 
 -- ---- what is written, with room behind it
 
-pub wrote-fitted : {y : List ℕ} {at : ℕ} {w : List ℕ} {tail n : ℕ} {y′ : List ℕ} → at + length w + tail ≤ length y → Wrote y at w n y′ → Fitted y at w tail n y′
-wrote-fitted h a = record { fits = λ i. a .fits (omega arith); full = λ i. absurd (omega arith) }
+pub wrote-fitted : {y : List ℕ} {at : ℕ} {w : List ℕ} {tail n : ℕ} {y′ : List ℕ} → at + length w + tail ≤ length y → Short y → Wrote y at w n y′ → Fitted y at w tail n y′
+wrote-fitted h s a = record { fits = λ i. fits a s (omega arith); full = λ i. absurd (omega arith) }
 
 -- what was written before `at` stays
-wrote-before : {y : List ℕ} {at : ℕ} {w : List ℕ} {n : ℕ} {y′ : List ℕ} → at + length w ≤ length y → Wrote y at w n y′ → take at y′ ≡ take at y
-wrote-before {y} {at} {w} {n} {y′} h a =
-    let (e, t) = a .fits h in
+wrote-before : {y : List ℕ} {at : ℕ} {w : List ℕ} {n : ℕ} {y′ : List ℕ} → at + length w ≤ length y → Short y → Wrote y at w n y′ → take at y′ ≡ take at y
+wrote-before {y} {at} {w} {n} {y′} h s a =
+    let (e, t) = fits a s h in
     sym (take-take at n y′ (omega arith)) ∙ ap (take at) t ∙ take-at (take at y) w at (length-take-le at y (omega arith))
 
 pub fitted-over : {y y₁ : List ℕ} {at : ℕ} {w : List ℕ} {tail n : ℕ} {y₂ : List ℕ} → length y₁ ≡ length y → take at y₁ ≡ take at y → Fitted y₁ at w tail n y₂
@@ -70,24 +71,25 @@ module _ {widths y : List ℕ} {lo hi n : ℕ} (c : ColumnCount widths y lo hi n
   pub count-few : ColumnsAt widths y lo hi → n ≤ 4294967296
   count-few t = omega (arith, few-columns t, c (t .schema) (t .p) (t .tables) (t .here))
 
-  module _ {names columns′ z : List ℕ} {end : ℕ} {z₁ : List ℕ} (k₁ : length z₁ ≡ length z) (f : WritesLabels widths names columns′ y lo hi z 0 end z₁) (h : 6 * n ≤ length z) where
+  module _ {names columns′ z : List ℕ} {end : ℕ} {z₁ : List ℕ} (k₁ : length z₁ ≡ length z) (f : WritesLabels widths names columns′ y lo hi z 0 end z₁) (h : 6 * n ≤ length z)
+      (s : length z ≤ most-words) where
     labels-part : (schema : Schema) (p : Node) → Names schema widths names columns′ → NodeHere y lo hi p → Part z₁ 0 end (all-words label-words (column-labels schema p))
-    labels-part schema p g u = wrote-part k₁ (omega (arith, c schema p (g .tables) u, labels-long schema p)) (f schema p g u)
+    labels-part schema p g u = wrote-part k₁ (omega (arith, c schema p (g .tables) u, labels-long schema p)) (omega (arith, c schema p (g .tables) u, labels-long schema p)) (f schema p g u)
 
     pub labels-end : NamesAt widths names columns′ → ColumnsAt widths y lo hi → end ≤ length z₁
     labels-end g t =
         let p = labels-part (g .schema) (t .p) (g .given) (t .here) in
         omega (arith, k₁, h, p .high, labels-long (g .schema) (t .p), c (g .schema) (t .p) (g .given .tables) (t .here))
 
-    pub emptied : {tail : ℕ} → lo + (6 * n + 6) + tail ≤ length y → {at r : ℕ} {y₁ y₂ : List ℕ} → length y₁ ≡ length y → Copies z₁ 0 end y lo at y₁
+    pub emptied : {tail : ℕ} → lo + (6 * n + 6) + tail ≤ length y → length y ≤ most-words → {at r : ℕ} {y₁ y₂ : List ℕ} → length y₁ ≡ length y → Copies z₁ 0 end y lo at y₁
         → Seals y₁ lo at (record { tag = 57; flag = 0; a = n; b = 0; c = 0 }) r y₂ → Empties widths names columns′ y lo hi tail r y₂
     unfolding cell node-words
-    emptied {tail} i {at} {r} {y₁} {y₂} k₂ a s schema p g u =
+    emptied {tail} i j {at} {r} {y₁} {y₂} k₂ a b schema p g u =
         let w = all-words label-words (column-labels schema p) in
         let e : n ≡ length (column-labels schema p) = c schema p (g .tables) u ∙ sym (labels-count schema p) in
-        wrote-fitted (omega (arith, nothing-long schema p, c schema p (g .tables) u))
+        wrote-fitted (omega (arith, nothing-long schema p, c schema p (g .tables) u)) (omega arith)
         (subst (λ (m : ℕ). Wrote y lo (sized w (record { tag = 57; flag = 0; a = m; b = 0; c = 0 })) r y₂) e
-        (s y w k₂ (a w (labels-part schema p g u))))
+        (b y w k₂ (a w (labels-part schema p g u))))
 
 -- ---- without what is useless
 
@@ -137,14 +139,14 @@ module _ (schema : Schema) where
   useless-narrow (join outer (nested-loop q) l r) k = k
   useless-narrow (join outer (hash i j) l r) k = k
 
-module _ {widths y : List ℕ} {lo hi end : ℕ} {y₁ : List ℕ} (k₁ : length y₁ ≡ length y) (f : Removes widths y lo hi end y₁) where
+module _ {widths y : List ℕ} {lo hi end : ℕ} {y₁ : List ℕ} (k₁ : length y₁ ≡ length y) (f : Removes widths y lo hi end y₁) (s : length y ≤ most-words) where
   removed-fits : (schema : Schema) (p : Node) → NodeHere y lo hi p → lo + length (node-words (remove-useless schema p)) ≤ hi
   removed-fits schema p u = omega (arith, useless-size schema p, words-long (remove-useless schema p), words-long p, u .part .high)
 
   removed-here : (schema : Schema) (p : Node) → Tables schema widths → NodeHere y lo hi p → NodeHere y₁ lo end (remove-useless schema p)
   removed-here schema p g u =
       let (a, b) = node-in p u in
-      wrote-here (remove-useless schema p) k₁ (omega (arith, removed-fits schema p u)) (f schema p g u)
+      wrote-here (remove-useless schema p) k₁ (omega (arith, removed-fits schema p u)) (omega (arith, removed-fits schema p u)) (f schema p g u)
 
   pub removed-in : ColumnsAt widths y lo hi → end ≤ hi
   removed-in t = omega (arith, removed-here (t .schema) (t .p) (t .tables) (t .here) .part .high, removed-fits (t .schema) (t .p) (t .here))
@@ -161,14 +163,14 @@ module _ {widths y : List ℕ} {lo hi end : ℕ} {y₁ : List ℕ} (k₁ : lengt
       }
 
   before-same : (schema : Schema) (p : Node) → Tables schema widths → NodeHere y lo hi p → take lo y₁ ≡ take lo y
-  before-same schema p g u = wrote-before (omega (arith, removed-fits schema p u, node-in p u .1)) (f schema p g u)
+  before-same schema p g u = wrote-before (omega (arith, removed-fits schema p u, node-in p u .1)) (omega arith) (f schema p g u)
 
   module _ {names columns′ : List ℕ} {tail : ℕ} (h : hi + tail ≤ length y) {b : Bool} (e : IsEmpty y₁ lo end b) where
     pub circuit-stays : b ≡ false → CircuitsNode widths names columns′ y lo hi tail end y₁
     circuit-stays i schema p g u =
         subst (λ (t : Bool). Fitted y lo (node-words (empty-or-node schema t (remove-useless schema p))) tail end y₁)
         (sym i ∙ e (remove-useless schema p) (removed-here schema p (g .tables) u))
-        (wrote-fitted (omega (arith, removed-fits schema p u)) (f schema p (g .tables) u))
+        (wrote-fitted (omega (arith, removed-fits schema p u)) (omega arith) (f schema p (g .tables) u))
 
     pub circuit-empties : b ≡ true → {n : ℕ} {y₂ : List ℕ} → Empties widths names columns′ y₁ lo end tail n y₂ → CircuitsNode widths names columns′ y lo hi tail n y₂
     circuit-empties i {n} {y₂} a schema p g u =

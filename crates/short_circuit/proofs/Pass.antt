@@ -20,7 +20,7 @@ use Rattle.sound.specs.Sound.{Named}
 use Rattle.sound.specs.Keeps.{keeps-next}
 use Rattle.sound.specs.Circuit.{one-keeps}
 use Rattle.cells.specs.Cells.{tag-at, start-at}
-use Rattle.cells.specs.Room.{Copies}
+use Rattle.cells.specs.Room.{most-words, Copies}
 use Rattle.cells.proofs.Laws.{lt-or-ge}
 use Rattle.words.specs.Words.{node-words}
 use Rattle.words.specs.Place.{NodeAt}
@@ -54,7 +54,7 @@ fitted-step {room = room} {rest = rest} q i s k a =
 module _ {widths names columns′ : List ℕ} {schema : Schema} {text : List ℕ} {tables : ℕ} (g : Names schema widths names columns′)
     {y : List ℕ} {at tail v : ℕ} {y₁ : List ℕ} (p q : Node) (h : at ≤ length y) (k : length y₁ ≡ length y)
     (s : Streamed (Kept schema text tables p) y at tail v y₁ (done q)) where
-  pub written-at : length y ≤ 16777216 → ColumnsAt widths y₁ at v
+  pub written-at : length y ≤ most-words → ColumnsAt widths y₁ at v
   written-at i =
       record {
         schema = schema;
@@ -124,13 +124,13 @@ module _ {widths names columns′ x : List ℕ} {lo hi tail : ℕ} {y : List ℕ
   -- a node that was written is ready for short_circuit
   ready : {v : ℕ} {y₁ : List ℕ} (p q : Node) → at ≤ length y → length y₁ ≡ length y
       → Streamed (Kept (d .stream .schema) (d .stream .text) (d .stream .tables) p) y at tail v y₁ (done q)
-      → ColumnsAt widths y₁ at v × ((v + tail ≤ length y₁) × (length y₁ ≤ 16777216))
+      → ColumnsAt widths y₁ at v × ((v + tail ≤ length y₁) × (length y₁ ≤ most-words))
   ready p q h k s = (written-at (d .stream .lent) p q h k s (d .stream .short-out), (s .is .0, omega (arith, d .stream .short-out)))
 
   pub leaf-ready : SourceCount x lo hi 0 → {v : ℕ} {y₁ : List ℕ} → length y₁ ≡ length y → Copies x lo hi y at v y₁
-      → ColumnsAt widths y₁ at v × ((v + tail ≤ length y₁) × (length y₁ ≤ 16777216))
+      → ColumnsAt widths y₁ at v × ((v + tail ≤ length y₁) × (length y₁ ≤ most-words))
   leaf-ready c {v} {y₁} k a =
-      with-leaf c (ColumnsAt widths y₁ at v × ((v + tail ≤ length y₁) × (length y₁ ≤ 16777216)))
+      with-leaf c (ColumnsAt widths y₁ at v × ((v + tail ≤ length y₁) × (length y₁ ≤ most-words)))
       (λ l h. ready (leaf l) (leaf l) (omega (arith, h .fits)) k (copied-done (leaf l) h k a))
 
   module _ (c : SourceCount x lo hi 1) {m : ℕ} (own : OwnStart x lo hi m) where
@@ -139,13 +139,13 @@ module _ {widths names columns′ x : List ℕ} {lo hi tail : ℕ} {y : List ℕ
 
     pub over-ready : {u : ℕ} {y₁ : List ℕ} → length y₁ ≡ length y → Circuits widths names columns′ x lo m (tail + (hi - m)) y at u y₁ → u ≤ length y₁
         → {v : ℕ} {y₂ : List ℕ} → length y₂ ≡ length y₁ → Finishes x m hi y₁ at u v y₂
-        → ColumnsAt widths y₂ at v × ((v + tail ≤ length y₂) × (length y₂ ≤ 16777216))
+        → ColumnsAt widths y₂ at v × ((v + tail ≤ length y₂) × (length y₂ ≤ most-words))
     over-ready {u} {y₁} k₁ a z {v} {y₂} k₂ f =
-        with-over c (ColumnsAt widths y₂ at v × ((v + tail ≤ length y₂) × (length y₂ ≤ 16777216)))
+        with-over c (ColumnsAt widths y₂ at v × ((v + tail ≤ length y₂) × (length y₂ ≤ most-words)))
         (λ o n h.
         streamed-with (ShortCircuit (d .stream .room) (d .stream .schema) (d .stream .rest + over-size o) n)
         (a (d .stream .schema) (d .stream .text) (d .stream .tables) (d .stream .lent) (d .named) (d .stream .room) (d .stream .rest + over-size o) n (source-reading own o n h)) z
-        (ColumnsAt widths y₂ at v × ((v + tail ≤ length y₂) × (length y₂ ≤ 16777216)))
+        (ColumnsAt widths y₂ at v × ((v + tail ≤ length y₂) × (length y₂ ≤ most-words)))
         (λ q s. ready (over o n) (over o q) (omega (arith, h .fits)) (k₂ ∙ k₁) (over-done own o n h k₁ q s k₂ f)))
 
   module _ (c : SourceCount x lo hi 2) {m : ℕ} (own : OwnStart x lo hi m) {mid : ℕ} (st : mid ≡ start-at x m) where
@@ -172,14 +172,14 @@ module _ {widths names columns′ x : List ℕ} {lo hi tail : ℕ} {y : List ℕ
 
       pub join-ready : {v : ℕ} {y₂ : List ℕ} → length y₂ ≡ length y₁ → Circuits widths names columns′ x mid m (tail + (hi - m)) y₁ u v y₂ → v ≤ length y₂
           → {w : ℕ} {y₃ : List ℕ} → length y₃ ≡ length y₂ → Finishes x m hi y₂ at v w y₃
-          → ColumnsAt widths y₃ at w × ((w + tail ≤ length y₃) × (length y₃ ≤ 16777216))
+          → ColumnsAt widths y₃ at w × ((w + tail ≤ length y₃) × (length y₃ ≤ most-words))
       join-ready {v} {y₂} k₂ b i {w} {y₃} k₃ f =
-          with-left (ColumnsAt widths y₃ at w × ((w + tail ≤ length y₃) × (length y₃ ≤ 16777216)))
+          with-left (ColumnsAt widths y₃ at w × ((w + tail ≤ length y₃) × (length y₃ ≤ most-words)))
           (λ outer j l r h p s.
           streamed-with (ShortCircuit (d .stream .room) (d .stream .schema) (d .stream .rest + (node-size p + join-size j)) r)
           (b (d .stream .schema) (d .stream .text) (d .stream .tables) (d .stream .lent) (d .named) (d .stream .room) (d .stream .rest + (node-size p + join-size j)) r
           (right-reading own st outer j l r h k₁ p s)) i
-          (ColumnsAt widths y₃ at w × ((w + tail ≤ length y₃) × (length y₃ ≤ 16777216)))
+          (ColumnsAt widths y₃ at w × ((w + tail ≤ length y₃) × (length y₃ ≤ most-words)))
           (λ q t. ready (join outer j l r) (join outer j p q) (omega (arith, h .fits)) (k₃ ∙ k₂ ∙ k₁) (join-done own st outer j l r h k₁ p s k₂ q t k₃ f)))
 
 -- ---- what is handed out
@@ -203,7 +203,7 @@ module _ {widths names columns′ x : List ℕ} {lo hi tail : ℕ} {y : List ℕ
           → Streamed (Kept schema text tables (leaf (scan t al q))) y at tail n y₁ (ShortCircuit room schema rest (leaf (scan t al q)))
       go t al none h =
           let s = h .here .part .high in
-          fitted-step (leaf (scan t al none)) (h .fit) (h .shares) k (wrote-fitted (omega (arith, h .fits)) (a (node-words (leaf (scan t al none))) (h .here .part)))
+          fitted-step (leaf (scan t al none)) (h .fit) (h .shares) k (wrote-fitted (omega (arith, h .fits)) (h .shares .short) (a (node-words (leaf (scan t al none))) (h .here .part)))
       go t al (some f) h = absurd (omega (arith, node-long (leaf (scan t al (some f))) (h .here), expression-long f, size-positive f))
 
   module _ (c : SourceCount x lo hi 1) {m : ℕ} (own : OwnStart x lo hi m) {u : ℕ} {y₁ : List ℕ} (a : Circuits widths names columns′ x lo m (tail + (hi - m)) y at u y₁) where

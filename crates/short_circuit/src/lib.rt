@@ -3,36 +3,37 @@
 ghost use mathlib.Core.Path.{_≡_};
 ghost use Prim.Native.Nat.{_+_, _≤_};
 ghost use lib.ListN.{length};
+ghost use Rattle.cells.specs.Room.{most-words};
 ghost use Rattle.nodes.specs.Columns.{ColumnsAt};
 ghost use Rattle.labels.specs.Names.{NamesAt};
 ghost use Rattle.short_circuit.specs.ShortCircuit.{Empties, CircuitsNode, CircuitAt, Circuits, ClimbsAt, Climbs};
 
 // The node from lo to hi, which can't produce anything, becomes a Nothing that keeps its labels. Room for these is asked for before they are written.
 fn into_nothing(
-    y: &mut [usize],
+    y: &mut [u32],
     lo: usize,
     hi: usize,
     tail: usize,
-    z: &mut [usize],
+    z: &mut [u32],
     widths: &[usize],
-    names: &[usize],
+    names: &[u32],
     columns: &[u8],
 ) -> usize
     requires { ⌜ ColumnsAt (now widths) (now y) lo hi ⌝ }
     requires { ⌜ NamesAt (now widths) (now names) (now columns) ⌝ }
-    requires { ⌜ (length (now z) ≡ length (now y)) × ((hi + tail ≤ length (now y)) × (length (now y) ≤ 16777216)) ⌝ }
+    requires { ⌜ (length (now z) ≡ length (now y)) × ((hi + tail ≤ length (now y)) × (length (now y) ≤ most-words)) ⌝ }
     ensures { λ r. ⌜ Empties (now (widths .entry)) (now (names .entry)) (now (columns .entry)) (now (y .entry)) lo hi tail r (now (y .exit)) ⌝ }
 {
     let n = nodes::columns(y, lo, hi, widths);
-    if y.len() - tail - lo < 6 * n + 6 {
+    if y.len() - tail - lo < cells::CELL_WORDS * n + cells::CELL_WORDS {
         return cells::FULL;
     }
     let end = column_labels::write_labels(y, lo, hi, z, 0, widths, names, columns);
     let at = cells::copy(z, 0, end, y, lo);
     let k = cells::Cell {
-        tag: 57,
+        tag: tags::NOTHING,
         flag: 0,
-        a: n,
+        a: n as u32,
         b: 0,
         c: 0,
     };
@@ -41,18 +42,18 @@ fn into_nothing(
 
 // short_circuit of the node that stands in y from lo to hi, with room for tail words behind it.
 fn short_circuit_node(
-    y: &mut [usize],
+    y: &mut [u32],
     lo: usize,
     hi: usize,
     tail: usize,
-    z: &mut [usize],
+    z: &mut [u32],
     widths: &[usize],
-    names: &[usize],
+    names: &[u32],
     columns: &[u8],
 ) -> usize
     requires { ⌜ ColumnsAt (now widths) (now y) lo hi ⌝ }
     requires { ⌜ NamesAt (now widths) (now names) (now columns) ⌝ }
-    requires { ⌜ (length (now z) ≡ length (now y)) × ((hi + tail ≤ length (now y)) × (length (now y) ≤ 16777216)) ⌝ }
+    requires { ⌜ (length (now z) ≡ length (now y)) × ((hi + tail ≤ length (now y)) × (length (now y) ≤ most-words)) ⌝ }
     ensures { λ r. ⌜ CircuitsNode (now (widths .entry)) (now (names .entry)) (now (columns .entry)) (now (y .entry)) lo hi tail r (now (y .exit)) ⌝ }
 {
     let end = remove_useless::remove_useless(y, lo, hi, widths);
@@ -65,16 +66,16 @@ fn short_circuit_node(
 // The pass on the bare nodes (crate chain) whose cells stand in x from `end` up to hi, from the lowest on. What became of the node below them was written
 // to y from `at` up to u.
 fn climb(
-    x: &[usize],
+    x: &[u32],
     end: usize,
     hi: usize,
     tail: usize,
-    y: &mut [usize],
+    y: &mut [u32],
     at: usize,
     u: usize,
-    z: &mut [usize],
+    z: &mut [u32],
     widths: &[usize],
-    names: &[usize],
+    names: &[u32],
     columns: &[u8],
 ) -> usize
     requires { ⌜ ClimbsAt (now widths) (now names) (now columns) (now x) end hi tail (now y) at u ⌝ }
@@ -87,8 +88,8 @@ fn climb(
         if y.len() < n {
             return n;
         }
-        let v = stream::finish(x, m, m + 6, y, at, n);
-        m += 6;
+        let v = stream::finish(x, m, m + cells::CELL_WORDS, y, at, n);
+        m += cells::CELL_WORDS;
         n = short_circuit_node(y, at, v, tail + (hi - m), z, widths, names, columns);
     }
     n
@@ -97,15 +98,15 @@ fn climb(
 // The pass on the node from lo to hi of x, with tail words of the plan left to read behind it, and `at` words written to y before it.
 // A chain of bare nodes is gone through without a frame for each.
 pub fn short_circuit(
-    x: &[usize],
+    x: &[u32],
     lo: usize,
     hi: usize,
     tail: usize,
-    y: &mut [usize],
+    y: &mut [u32],
     at: usize,
-    z: &mut [usize],
+    z: &mut [u32],
     widths: &[usize],
-    names: &[usize],
+    names: &[u32],
     columns: &[u8],
 ) -> usize
     requires { ⌜ CircuitAt (now widths) (now names) (now columns) (now x) lo hi tail (now y) at ⌝ }
@@ -146,23 +147,23 @@ pub fn short_circuit(
 
 // The same for a source. A Scan without a filter, one cell alone, stays as it is, and needs no call of short_circuit.
 fn short_circuit_source(
-    x: &[usize],
+    x: &[u32],
     lo: usize,
     hi: usize,
     tail: usize,
-    y: &mut [usize],
+    y: &mut [u32],
     at: usize,
-    z: &mut [usize],
+    z: &mut [u32],
     widths: &[usize],
-    names: &[usize],
+    names: &[u32],
     columns: &[u8],
 ) -> usize
     requires { ⌜ CircuitAt (now widths) (now names) (now columns) (now x) lo hi tail (now y) at ⌝ }
     requires { ⌜ length (now z) ≡ length (now y) ⌝ }
     ensures { λ r. ⌜ Circuits (now (widths .entry)) (now (names .entry)) (now (columns .entry)) (now (x .entry)) lo hi tail (now (y .entry)) at r (now (y .exit)) ⌝ }
 {
-    if hi - lo == 6 {
-        if cells::tag_at(x, hi) == 62 {
+    if hi - lo == cells::CELL_WORDS {
+        if cells::tag_at(x, hi) == tags::SCAN {
             return cells::copy(x, lo, hi, y, at);
         }
     }

@@ -58,7 +58,7 @@ module _ (P : Value → Type 0) (C : ℕ → Type 0) where
   M = Made-of P C
 
   mutual
-    nnf : (e : Expression) → M e → M (into-nnf e)
+    pub nnf : (e : Expression) → Made-of P C e → Made-of P C (into-nnf e)
     nnf (constant v) m = m
     nnf (column c) m = m
     nnf (unary Not x) m = nnf-not x m
@@ -93,7 +93,7 @@ module _ (P : Value → Type 0) (C : ℕ → Type 0) where
   both-of (both x y) z m k = (both-of x z (m .0) k, both-of y z (m .1) k)
 
   mutual
-    distributed : (e : Expression) → M e → M (distribute e)
+    pub distributed : (e : Expression) → Made-of P C e → Made-of P C (distribute e)
     distributed (constant v) m = m
     distributed (column c) m = m
     distributed (unary o x) m = distributed x m
@@ -111,7 +111,7 @@ module _ (P : Value → Type 0) (C : ℕ → Type 0) where
     conjuncts-of (binary Equal l r) m = (distributed l (m .0), distributed r (m .1))
     conjuncts-of (binary (function f) l r) m = (distributed l (m .0), distributed r (m .1))
 
-  ands-of : (e : Expression) → M e → All M (ands e)
+  pub ands-of : (e : Expression) → Made-of P C e → All (Made-of P C) (ands e)
   ands-of (constant v) m = (m, tt)
   ands-of (column c) m = (m, tt)
   ands-of (unary o x) m = (m, tt)

@@ -34,7 +34,7 @@ pub record Handed-out (s : List ℕ) (n m : Node) : Type 0 where
   pub has-room : node-size m ≤ Room.max-cells
 
 module _ (s : List ℕ) (b : Bytes s) (n : Node) (h : plan s ≡ done n) where
-  plan-checked : Passes-checks (schema s) (text s) (table-count s) n
+  pub plan-checked : Passes-checks (schema s) (text s) (table-count s) n
   plan-checked =
       let a = accepted s n h in
       record { fits = plan-fits s b n h; in-scope = a .scope-is; targets = a .targets-are }
@@ -46,7 +46,7 @@ module _ (s : List ℕ) (b : Bytes s) (n : Node) (h : plan s ≡ done n) where
       subst (Named (schema s)) (sym (text-length s (parts-of a)))
       (λ t c. let g = tables-good s (parts-of a) (a .records-are) t in (g .named, g .columns-named c))
 
-  plan-room : node-size n ≤ Room.max-cells
+  pub plan-room : node-size n ≤ Room.max-cells
   plan-room = let p = parts-of (accepted s n h) in omega (arith, plan-size s b n h)
 
   handed : (m : Node) → Passes-checks (schema s) (text s) (table-count s) m × (columns (schema s) m ≡ columns (schema s) n) → node-size m ≤ Room.max-cells → Handed-out s n m

@@ -14,4 +14,6 @@ pub mod Circuit
 pub mod Passes
 pub mod Refusals
 pub mod HandedOut
+pub mod Widest
+pub mod Numbers
 pub mod Operations

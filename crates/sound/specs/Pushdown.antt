@@ -54,18 +54,18 @@ module _ (P : Value → Type 0) where
     Joined c = c < n + m
 
     -- a conjunct that refers to both sides
-    abbrev Across : Expression → Type 0
-    Across e = Made-of P Joined e × ((ref-left n e ≡ true) × (ref-right n e ≡ true))
+    abbrev pub Across : Expression → Type 0
+    Across e = Made-of P (λ c. c < n + m) e × ((ref-left n e ≡ true) × (ref-right n e ≡ true))
 
-    left-of : (cnf : List Expression) → All (Made-of P Joined) cnf → All (Made-of P Left) (for-left n cnf)
+    pub left-of : (cnf : List Expression) → All (Made-of P (λ c. c < n + m)) cnf → All (Made-of P (λ c. c < n)) (for-left n cnf)
     left-of = keep-of (λ e. not (ref-right n e)) (Made-of P Joined) (Made-of P Left)
         (λ e x h. without P (λ c. not (ltb c n)) Joined Left (λ c y k. ltb-true c n (not-false (ltb c n) k)) e (not-true (ref-right n e) h) x)
 
-    right-of : (cnf : List Expression) → All (Made-of P Joined) cnf → All (Made-of P On-right) (for-right n cnf)
+    pub right-of : (cnf : List Expression) → All (Made-of P (λ c. c < n + m)) cnf → All (Made-of P (Right n m)) (for-right n cnf)
     right-of = keep-of (λ e. not (ref-left n e)) (Made-of P Joined) (Made-of P On-right)
         (λ e x h. right-only P n m e (not-true (ref-left n e) h) x)
 
-    across-of : (cnf : List Expression) → All (Made-of P Joined) cnf → All Across (for-both n cnf)
+    pub across-of : (cnf : List Expression) → All (Made-of P (λ c. c < n + m)) cnf → All Across (for-both n cnf)
     across-of = keep-of (λ e. ref-left n e && ref-right n e) (Made-of P Joined) Across
         (λ e x h. (x, (and-left (ref-left n e) (ref-right n e) h, and-right (ref-left n e) (ref-right n e) h)))
 
@@ -85,12 +85,12 @@ module _ (P : Value → Type 0) where
             let q = pair-of P Joined n e p h (x .0) in
             copied-of Left On-right (p .0) (p .1) (q .right (x .1 .1), q .higher) (last-lookup (p .0) lookups) (last-of Left (p .0) lookups ls)
 
-    push-left-of : (cnf : List Expression) → All (Made-of P Joined) cnf → All (Made-of P Left) (push-left n cnf)
+    pub push-left-of : (cnf : List Expression) → All (Made-of P (λ c. c < n + m)) cnf → All (Made-of P (λ c. c < n)) (push-left n cnf)
     push-left-of cnf x =
         all-append (Made-of P Left) (for-left n cnf) (flat-map (λ e. copy-down (for-right n cnf) (equijoin e)) (for-both n cnf)) (left-of cnf x)
         (flat-map-of (λ e. copy-down (for-right n cnf) (equijoin e)) Across (Made-of P Left) (copy-down-of (for-right n cnf) (right-of cnf x)) (for-both n cnf) (across-of cnf x))
 
-    push-right-of : (cnf : List Expression) → All (Made-of P Joined) cnf → All (Made-of P On-right) (push-right n cnf)
+    pub push-right-of : (cnf : List Expression) → All (Made-of P (λ c. c < n + m)) cnf → All (Made-of P (Right n m)) (push-right n cnf)
     push-right-of cnf x =
         all-append (Made-of P On-right) (for-right n cnf) (flat-map (λ e. copy-up (for-left n cnf) (equijoin e)) (for-both n cnf)) (right-of cnf x)
         (flat-map-of (λ e. copy-up (for-left n cnf) (equijoin e)) Across (Made-of P On-right) (copy-up-of (for-left n cnf) (left-of cnf x)) (for-both n cnf) (across-of cnf x))
@@ -121,8 +121,8 @@ module _ (schema : Schema) (text : List ℕ) (tables : ℕ) where
   into-keeps e (join outer (nested-loop p) a b) x y = ((x .0, (x .1 .0, and-with-of _ e p y (x .1 .1))), refl)
   into-keeps e (join outer (hash i j) a b) x y = tt
 
-  part-keeps : (o : Option Expression) (n : Node) → Sound schema text tables n → Optional (W (columns schema n)) o
-      → E (columns schema n) (push-part o n .0) × All (W (columns schema n)) (push-part o n .1)
+  pub part-keeps : (o : Option Expression) (n : Node) → Sound schema text tables n → Optional (Within schema text tables (columns schema n)) o
+      → Emits schema text tables (columns schema n) (push-part o n .0) × All (Within schema text tables (columns schema n)) (push-part o n .1)
   part-keeps none n x y = ((x, refl), tt)
   part-keeps (some e) n x y = go (push-into e n) (into-keeps e n x y)
     where

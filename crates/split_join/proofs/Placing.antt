@@ -2,7 +2,6 @@
 use Prim.Native.Nat.{ℕ, _+_, _-_, _≤_, _<_}
 use native.Mathlib.Omega.{arith}
 use mathlib.Core.Bool.{Bool}
-use mathlib.Core.Logic.{⊎-elim}
 use mathlib.Core.Option.{Option, some}
 use mathlib.Core.Path.{_≡_, refl, sym, ap, _∙_, subst}
 use mathlib.Core.List.{List, [], _++_, append-assoc, append-nil}
@@ -12,8 +11,8 @@ use Rattle.sql.specs.Expression.{Expression, ands}
 use Rattle.sql.specs.Plan.{nested-loop, Node, join}
 use Rattle.sql.specs.Optimizer.{split}
 use Rattle.cells.specs.Cells.{words, sized, start-at, Part, Sized}
-use Rattle.cells.specs.Room.{Wrote}
-use Rattle.cells.proofs.Laws.{part-left, part-right, lt-or-ge, nothing, then}
+use Rattle.cells.specs.Room.{Short, Wrote}
+use Rattle.cells.proofs.Laws.{part-left, part-right, nothing, then, fits-to}
 use Rattle.words.specs.Words.{cell, expression-words, optional-words, node-words, source-words, own-words, node-cell, join-cell}
 use Rattle.words.specs.Place.{ExpressionHere, ExpressionAt, NodeHere, NodeAt}
 use Rattle.words.proofs.Nodes.{node-shape, source-part, sources-sized, join-left, join-right}
@@ -31,23 +30,17 @@ use Rattle.split_join.proofs.Splitting.{split-is}
 -- ---- words that took their place, and words that had no room
 
 module _ {x : List ℕ} {r : ℕ} {pre post w : List ℕ} where
-  placed-over : Placed x r pre post w → length x < r → length x < length pre + length (w ++ post)
-  placed-over f h =
-      ⊎-elim (λ (z : length x < length pre + length (w ++ post)). z) (λ (z : length pre + length (w ++ post) ≤ length x). absurd (omega (arith, f .fits z .0)))
-      (lt-or-ge (length x) (length pre + length (w ++ post)))
-
   placed-there : Placed x r pre post w → r ≤ length x → take r x ≡ pre ++ (w ++ post)
-  placed-there f h =
-      ⊎-elim (λ (z : length x < length pre + length (w ++ post)). absurd (omega (arith, f .full z))) (λ (z : length pre + length (w ++ post) ≤ length x). f .fits z .1)
-      (lt-or-ge (length x) (length pre + length (w ++ post)))
+  placed-there f h = f .is h .1
 
-  not-placed : length x < r → length x < length pre + length (w ++ post) → Placed x r pre post w
-  not-placed h k = record { fits = λ z. absurd (omega arith); full = λ z. h }
+  -- what had no room has none with other words, if these are as many
+  still-over : {v : List ℕ} → length x < r → length v ≡ length w → Placed x r pre post v → Placed x r pre post w
+  still-over {v} h k f = record { is = λ z. absurd (omega arith); room = λ s z. f .room s (omega (arith, length-append v post, length-append w post)) }
 
   there : r ≤ length x → take r x ≡ pre ++ (w ++ post) → Placed x r pre post w
   there h e =
       let k : r ≡ length pre + length (w ++ post) = omega (arith, length-take-le r x h, ap length e, length-append pre (w ++ post)) in
-      record { fits = λ z. (k, e); full = λ z. absurd (omega arith) }
+      record { is = λ z. (k, e); room = λ s z. h }
 
 -- ---- where the join and its sources stand
 
@@ -160,11 +153,10 @@ module _ {x₁ : List ℕ} {u : ℕ} {pre post : List ℕ} (kept : List ℕ) (q 
   unfolding before after
   seal-full z =
       let k = cell (join-cell outer (nested-loop o)) in
-      not-placed z
-      (omega (arith, placed-over f z, length-append (joined before outer o) post, length-append (joined after outer o) post, sized-long (before ++ optional-words o) k, sized-long (after ++ optional-words o) k, same-long))
+      still-over z (omega (arith, sized-long (before ++ optional-words o) k, sized-long (after ++ optional-words o) k, same-long)) f
 
   module _ (z : u ≤ length x₁) {start own : ℕ} (low : length pre + length kept ≡ start) (mid : start + length (source-words q) ≡ own) {y : List ℕ} {k : ℕ} {y₁ : List ℕ}
-      (g : Wrote y 0 (own-end q) k y₁) (l : length y ≡ length x₁) where
+      (g : Wrote y 0 (own-end q) k y₁) (l : length y ≡ length x₁) (short : Short x₁) where
     total : u ≡ own + length (own-end q) + length ((more ++ (optional-words o ++ words (cell (join-cell outer (nested-loop o))) (length (before ++ optional-words o) + 6))) ++ post)
     unfolding before
     total =
@@ -174,7 +166,7 @@ module _ {x₁ : List ℕ} {u : ℕ} {pre post : List ℕ} (kept : List ℕ) (q 
         omega (arith, length-take-le u x₁ z, ap length w, length-append (pre ++ kept) (s ++ behind), length-append pre kept, length-append s behind, length-append (source-words q ++ own-words q) (words (cell (node-cell q)) (length (own-words q) + 6)), length-append (source-words q) (own-words q), sized-long (own-words q) (cell (node-cell q)))
 
     own-is : k ≡ length (own-end q)
-    own-is = let i = g .fits (omega (arith, total)) .0 in omega arith
+    own-is = let i = fits-to g (omega (arith, total)) (omega (arith, total)) .0 in omega arith
 
     seal-room : (own ≤ u) × ((k ≤ u - own) × ((start + 6 + (u - own - k) ≤ u) × (u ≤ length x₁)))
     seal-room = (omega (arith, total), (omega (arith, total, own-is), (omega (arith, total, own-is, own-end-long q), z)))
@@ -185,9 +177,10 @@ module _ {x₁ : List ℕ} {u : ℕ} {pre post : List ℕ} (kept : List ℕ) (q 
         let j = cell (join-cell outer (nested-loop o)) in
         let last = words (cell (node-cell q)) (length (own-words q) + 6) in
         let behind = (more ++ (optional-words o ++ words j (length (before ++ optional-words o) + 6))) ++ post in
-        there (omega (arith, c .same))
-        (ap (λ (i : ℕ). take i x₂) (c .same)
-        ∙ c .seal (pre ++ kept) (source-words q ++ own-words q) behind (cell (node-cell q)) (length (own-words q) + 6)
+        let same = c .room short in
+        there (omega arith)
+        (ap (λ (i : ℕ). take i x₂) same
+        ∙ c .seal (omega arith) (pre ++ kept) (source-words q ++ own-words q) behind (cell (node-cell q)) (length (own-words q) + 6)
         (placed-there f z ∙ opened pre kept (source-words q) (own-words q) last more (optional-words o) (words j (length (before ++ optional-words o) + 6)) post)
         (omega (arith, length-append pre kept)) (omega (arith, total, own-is))
         ∙ ap (λ (s : List ℕ). (pre ++ kept) ++ (s ++ behind)) (sym (node-shape q))
@@ -238,19 +231,19 @@ module _ (n : ℕ) {x : List ℕ} {t lo mid m tail : ℕ} {cnf : List ℕ} {end 
         subst (λ (w : List ℕ). Placed x₁ u pre post w) (right-shape outer p l r h e a)
         (seal-full (node-words l) (new-right n (ands e) r) [] outer (stays n (ands e) l r) (right-placed outer p l r h e a) z)
 
-    module _ (l₀ : length y ≡ length x₁) (z : u ≤ length x₁) where
+    module _ (l₀ : length y ≡ length x₁) (z : u ≤ length x₁) (short : Short x₁) where
       pub right-room : JoinAt x t lo mid m tail → ExpressionAt cnf 0 end → (own ≤ u) × ((k ≤ u - own) × ((mid + 6 + (u - own - k) ≤ u) × (u ≤ length x₁)))
       right-room h e =
           seal-room (node-words (h .l)) (new-right n (ands (e .e)) (h .r)) [] (h .outer) (stays n (ands (e .e)) (h .l) (h .r))
           (right-placed (h .outer) (h .p) (h .l) (h .r) (h .here) (e .e) (e .here)) z
           (right-low (h .outer) (h .p) (h .l) (h .r) (h .here) (e .e) (e .here)) (right-start (h .outer) (h .p) (h .l) (h .r) (h .here) (e .e) (e .here))
-          (right-own (h .outer) (h .p) (h .l) (h .r) (h .here) (e .e) (e .here)) l₀
+          (right-own (h .outer) (h .p) (h .l) (h .r) (h .here) (e .e) (e .here)) l₀ short
 
       pub right-done : {v : ℕ} {x₂ : List ℕ} → length x₂ ≡ length x₁ → Reseals x₁ u mid (u - own - k) v x₂ → SplitsRight n x t lo mid m tail cnf end v x₂
       right-done {v} {x₂} l₂ c pre post outer p l r h e a =
           subst (λ (w : List ℕ). Placed x₂ v pre post w) (right-shape outer p l r h e a)
           (sealed (node-words l) (new-right n (ands e) r) [] outer (stays n (ands e) l r) (right-placed outer p l r h e a) z (right-low outer p l r h e a)
-          (right-start outer p l r h e a) (right-own outer p l r h e a) l₀ l₂ c)
+          (right-start outer p l r h e a) (right-own outer p l r h e a) l₀ short l₂ c)
 
 -- ---- the left source's part
 
@@ -288,18 +281,18 @@ module _ (n : ℕ) {x : List ℕ} {t lo mid m tail : ℕ} {cnf : List ℕ} {end 
         subst (λ (w : List ℕ). Placed x₁ u pre post w) (left-shape outer p l r h e a)
         (seal-full [] (new-left n (ands e) l) (node-words (new-right n (ands e) r)) outer (stays n (ands e) l r) (left-placed outer p l r h e a) z)
 
-    module _ (l₀ : length y ≡ length x₁) (z : u ≤ length x₁) where
+    module _ (l₀ : length y ≡ length x₁) (z : u ≤ length x₁) (short : Short x₁) where
       pub left-room : JoinAt x t lo mid m tail → ExpressionAt cnf 0 end → (own ≤ u) × ((k ≤ u - own) × ((lo + 6 + (u - own - k) ≤ u) × (u ≤ length x₁)))
       left-room h e =
           seal-room [] (new-left n (ands (e .e)) (h .l)) (node-words (new-right n (ands (e .e)) (h .r))) (h .outer) (stays n (ands (e .e)) (h .l) (h .r))
           (left-placed (h .outer) (h .p) (h .l) (h .r) (h .here) (e .e) (e .here)) z (omega (arith, h .here .holds .low))
-          (left-start (h .outer) (h .p) (h .l) (h .r) (h .here) (e .e) (e .here)) (left-own (h .outer) (h .p) (h .l) (h .r) (h .here) (e .e) (e .here)) l₀
+          (left-start (h .outer) (h .p) (h .l) (h .r) (h .here) (e .e) (e .here)) (left-own (h .outer) (h .p) (h .l) (h .r) (h .here) (e .e) (e .here)) l₀ short
 
       pub left-done : {v : ℕ} {x₂ : List ℕ} → length x₂ ≡ length x₁ → Reseals x₁ u lo (u - own - k) v x₂ → SplitsBoth n x t lo mid m tail cnf end v x₂
       left-done {v} {x₂} l₃ c pre post outer p l r h e a =
           subst (λ (w : List ℕ). Placed x₂ v pre post w) (left-shape outer p l r h e a)
           (sealed [] (new-left n (ands e) l) (node-words (new-right n (ands e) r)) outer (stays n (ands e) l r) (left-placed outer p l r h e a) z (omega (arith, h .holds .low))
-          (left-start outer p l r h e a) (left-own outer p l r h e a) l₀ l₃ c)
+          (left-start outer p l r h e a) (left-own outer p l r h e a) l₀ short l₃ c)
 
 -- ---- the split
 
@@ -331,6 +324,7 @@ module _ {x : List ℕ} {t lo tail m : ℕ} (own : OwnStart x lo (t - tail) m) w
           l = g .l;
           r = g .r;
           here = join-here (g .outer) (g .p) (g .l) (g .r) (g .holds);
+          short = omega (arith, g .short);
         }
 
     pub left-columns : {widths : List ℕ} → SplitAt widths x t lo tail → ColumnsAt widths x lo mid

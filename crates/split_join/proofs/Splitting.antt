@@ -15,7 +15,7 @@ use Rattle.sheet.specs.Cells.{present}
 use Rattle.cells.specs.declared.Cell.{Cell}
 use Rattle.cells.specs.Cells.{sized, cell-at}
 use Rattle.cells.specs.Room.{Wrote, Seals}
-use Rattle.cells.proofs.Laws.{then, wrote-up}
+use Rattle.cells.proofs.Laws.{then, wrote-up, no-more}
 use Rattle.words.specs.Words.{cell, optional-words, join-cell}
 use Rattle.words.specs.Place.{ExpressionHere, ExpressionAt, NodeHere, NodeAt}
 use Rattle.words.proofs.Nodes.{node-cell-is, own-part, node-in}
@@ -91,7 +91,7 @@ module _ {s : List ℕ} {lo hi : ℕ} {d : List ℕ} {mid at : ℕ} where
         writes = λ outer e l r u o d₀ d₁ b k₁ k v w.
             let f = then k₁ v w in
             let i = sized-long (b ++ optional-words o) (cell (join-cell outer (nested-loop o))) in
-            record { fits = λ h. absurd (let (x, y) = f .fits (omega arith) in omega arith); full = λ h. omega arith };
+            no-more (omega arith) (omega arith) f;
       }
 
   module _ (z : at ≤ length d) {c : Cell} (q : c ≡ cell-at s hi) {n : ℕ} {d′ : List ℕ} where

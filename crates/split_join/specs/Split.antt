@@ -11,8 +11,8 @@ use Rattle.sql.specs.Plan.{nested-loop, Node, join, columns}
 use Rattle.sql.specs.Optimizer.{for-both, push-part, split}
 use Rattle.sql.specs.Room.{join-predicate}
 use Rattle.sheet.specs.Cells.{present}
-use Rattle.cells.specs.Cells.{sized}
-use Rattle.cells.specs.Room.{Wrote}
+use Rattle.cells.specs.Cells.{cell-words, sized}
+use Rattle.cells.specs.Room.{Short, most-words, Wrote}
 use Rattle.words.specs.Words.{cell, optional-words, node-words, join-cell}
 use Rattle.words.specs.Place.{ExpressionHere, NodeHere}
 use Rattle.nodes.specs.Columns.{Tables, Narrow}
@@ -43,6 +43,7 @@ pub record JoinHere (x : List ℕ) (t lo mid m tail : ℕ) (pre post : List ℕ)
   pub left : lo + length (node-words l) ≡ mid
   pub right : mid + length (node-words r) ≡ m
 
+-- Some such join stands there, in a list whose sizes fit a word.
 pub record JoinAt (x : List ℕ) (t lo mid m tail : ℕ) : Type 0 where
   pub pre : List ℕ
   pub post : List ℕ
@@ -51,6 +52,7 @@ pub record JoinAt (x : List ℕ) (t lo mid m tail : ℕ) : Type 0 where
   pub l : Node
   pub r : Node
   pub here : JoinHere x t lo mid m tail pre post outer p l r
+  pub short : Short x
 
 -- Some join with a predicate stands there.
 pub record PredicateAt (s : List ℕ) (lo hi : ℕ) : Type 0 where
@@ -72,7 +74,7 @@ pub record SplitAt (widths x : List ℕ) (t lo tail : ℕ) : Type 0 where
   pub r : Node
   pub holds : Holds x t lo tail pre post (join outer (nested-loop (some p)) l r)
   pub narrow : Narrow l
-  pub short : length x ≤ 16777216
+  pub short : length x ≤ most-words
 
 -- ---- contracts
 
@@ -87,7 +89,7 @@ Stays n s lo mid m cnf end d at q d′ = (l r : Node) → NodeHere s lo mid l �
 
 -- Whatever words were written to the first words of d, up to mid, and whatever predicate behind them, the cell of a join of the kind that stands in s is over them.
 pub record Rejoins (s : List ℕ) (lo hi : ℕ) (d : List ℕ) (mid at q : ℕ) (d′ : List ℕ) : Type 0 where
-  pub long : q ≤ length d → 6 ≤ q
+  pub long : q ≤ length d → cell-words ≤ q
   pub writes : (outer : Bool) (p : Expression) (l r : Node) → NodeHere s lo hi (join outer (nested-loop (some p)) l r)
       → (o : Option Expression) (d₀ d₁ b : List ℕ) → length d₁ ≡ length d₀ → length d ≡ length d₁ → Wrote d₀ 0 b mid d₁ → Wrote d₁ mid (optional-words o) at d
       → Wrote d₀ 0 (joined b outer o) q d′

@@ -13,14 +13,14 @@ ghost use Rattle.split_join.specs.Split.{PredicateAt, JoinAt, SplitAt, S
 // The new predicate of a join of the sources from lo to mid and from mid to m, behind the first `at` words of d: the conjuncts that stay, and behind them what
 // comes back from each source. The left source has n columns.
 fn joined_predicate(
-    s: &[usize],
+    s: &[u32],
     lo: usize,
     mid: usize,
     m: usize,
-    cnf: &[usize],
+    cnf: &[u32],
     end: usize,
-    g: &mut [usize],
-    d: &mut [usize],
+    g: &mut [u32],
+    d: &mut [u32],
     at: usize,
     n: usize,
 ) -> usize
@@ -36,7 +36,7 @@ fn joined_predicate(
 }
 
 // The cell of the join from lo to hi, which has a predicate, over the first `at` words of d: from mid on they are the new predicate, or nothing.
-fn rejoin(s: &[usize], lo: usize, hi: usize, d: &mut [usize], mid: usize, at: usize) -> usize
+fn rejoin(s: &[u32], lo: usize, hi: usize, d: &mut [u32], mid: usize, at: usize) -> usize
     requires { ⌜ PredicateAt (now s) lo hi ⌝ }
     ensures { λ r. ⌜ Rejoins (now (s .entry)) lo hi (now (d .entry)) mid at r (now (d .exit)) ⌝ }
 {
@@ -65,11 +65,11 @@ fn rejoin(s: &[usize], lo: usize, hi: usize, d: &mut [usize], mid: usize, at: us
 // The sources end at mid and at m, and the left one has n columns. The predicate's normal form stands in cnf up to word `end`; g is lent for the conjuncts of
 // one source at a time.
 fn replace_end(
-    x: &mut [usize],
-    y: &mut [usize],
-    cnf: &[usize],
+    x: &mut [u32],
+    y: &mut [u32],
+    cnf: &[u32],
     end: usize,
-    g: &mut [usize],
+    g: &mut [u32],
     t: usize,
     lo: usize,
     mid: usize,
@@ -93,11 +93,11 @@ fn replace_end(
 
 // The join with the new predicate, and with the right source's part in that source. The left source stays where it is, as it is.
 fn split_right(
-    x: &mut [usize],
-    y: &mut [usize],
-    cnf: &[usize],
+    x: &mut [u32],
+    y: &mut [u32],
+    cnf: &[u32],
     end: usize,
-    g: &mut [usize],
+    g: &mut [u32],
     t: usize,
     lo: usize,
     mid: usize,
@@ -125,11 +125,11 @@ fn split_right(
 
 // The join with the new predicate, and with each source's part in that source. If the left source takes a part, the right one is written again behind it.
 fn split_both(
-    x: &mut [usize],
-    y: &mut [usize],
-    cnf: &[usize],
+    x: &mut [u32],
+    y: &mut [u32],
+    cnf: &[u32],
     end: usize,
-    g: &mut [usize],
+    g: &mut [u32],
     t: usize,
     lo: usize,
     mid: usize,
@@ -158,11 +158,11 @@ fn split_both(
 
 // The join, whose predicate starts at m, after the split of its predicate. widths[i] is the number of columns of table i.
 pub fn split(
-    x: &mut [usize],
-    y: &mut [usize],
-    cnf: &[usize],
+    x: &mut [u32],
+    y: &mut [u32],
+    cnf: &[u32],
     end: usize,
-    g: &mut [usize],
+    g: &mut [u32],
     t: usize,
     lo: usize,
     m: usize,

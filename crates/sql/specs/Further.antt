@@ -1,4 +1,4 @@
--- Further plans, for what document 01's worked plans leave open; and the limit of size.
+-- Plans and expressions beside document 01's worked ones (crate list_plan), for what those leave open, and others of their sort; and the limit of size.
 use Prim.Native.Nat.{ℕ, zero, suc}
 use mathlib.Core.Bool.{false}
 use mathlib.Core.Path.{_≡_, refl}
@@ -10,13 +10,30 @@ use Rattle.value.specs.Value.{True, False, truth, datum, integer, null}
 use Rattle.value.specs.Comparison.{compare-integers}
 use Rattle.value.specs.Arithmetic.{checked, add-integers}
 use Rattle.sql.specs.Schema.{Column, Schema, Integer}
-use Rattle.sql.specs.Expression.{Expression, constant, column, and, or, into-cnf, into-cnf-vec}
+use Rattle.sql.specs.Expression.{Expression, constant, column, and, or, not, into-nnf, into-cnf, into-cnf-vec}
 use Rattle.sql.specs.Plan.{unlabelled, qualified, by-key, by-index, scan, lookup, nothing, values, limit, aggregate, filter, other, nested-loop, hash, Node, leaf, over, join, node-size}
 use Rattle.sql.specs.Answer.{Answer, done, refused}
 use Rattle.sql.specs.Optimizer
 use Rattle.sql.specs.Room
 use Rattle.sql.specs.Room.{max-cells}
-use Rattle.sql.specs.Worked.{keyed, scanned, one-row, number, equals, plus, A, B, Worked, plan, all-five, one-pass}
+use Rattle.sql.specs.Samples.{keyed, scanned, one-row, number, equals, plus, A, B, C, D}
+
+-- ---- normal forms
+
+-- each with its answer
+abbrev pub further-forms : List (Expression × Expression)
+further-forms =
+    -- into_nnf goes on below what two Nots have left, and so does not turn the third one round
+    (into-nnf (not (not (not (or A B)))), not (or A B))
+    -- into_cnf has passed the upper Or when the lower one becomes an And
+    ∷ (into-cnf (or D (or C (and A B))), or D (and (or C A) (or C B)))
+    ∷ []
+
+pub all-forms : map (λ (w : Expression × Expression). w .0) further-forms ≡ map (λ (w : Expression × Expression). w .1) further-forms
+unfolding into-cnf
+all-forms = refl
+
+-- ---- plans
 
 abbrev true-constant : Expression
 true-constant = constant (truth True)
@@ -31,37 +48,58 @@ mistyped = plus (number 1) true-constant
 abbrev two-values : Expression → Node
 two-values predicate = join false (nested-loop (some predicate)) (one-row (number 1 ∷ [])) (one-row (number 2 ∷ []))
 
+abbrev filtered : Expression → Node
+filtered predicate = leaf (scan 0 none (some predicate))
+
+abbrev wide-left : Node
+wide-left = join false (nested-loop (some (equals A B))) (one-row (number 1 ∷ number 2 ∷ [])) scanned
+
+abbrev after-pass : ℕ → Node → Answer Node
+after-pass = Room.pass max-cells keyed
+
 -- each with its answer
-abbrev pub further-plans : List (Worked × Worked)
+abbrev pub further-plans : List (Answer Node × Answer Node)
 further-plans =
     -- a part that the right source doesn't take comes back with its columns moved up again
-    (one-pass 2 (two-values (equals B (number 5))), plan (done (two-values (equals B (number 5)))))
+    (after-pass 2 (two-values (equals B (number 5))), done (two-values (equals B (number 5))))
     -- a conjunct without columns goes to both sides, and comes back from both
-    ∷ (one-pass 2 (two-values true-constant), plan (done (two-values (and true-constant true-constant))))
-    -- And with Null is not folded
-    ∷ (one-pass 1 (over (filter (and (constant null) A)) scanned), plan (done (over (filter (and (constant null) A)) scanned)))
-    -- the place of a refusal is the operator whose operands have become constants: cell 5, not 3
-    ∷ (one-pass 1 (over (filter (and (and A (constant (truth False))) (number 5))) scanned), plan (refused 13 5))
-    -- a node's own expressions are folded before its source's
-    ∷ (one-pass 1 (over (filter overflowing) (one-row (mistyped ∷ []))), plan (refused 11 7))
-    -- a join's before its left source's, and these before its right one's
-    ∷ (one-pass 1 (join false (nested-loop (some overflowing)) (one-row (mistyped ∷ [])) (one-row (overflowing ∷ []))), plan (refused 11 12))
-    ∷ (one-pass 1 (join false (nested-loop (some true-constant)) (one-row (mistyped ∷ [])) (one-row (overflowing ∷ []))), plan (refused 13 2))
-    ∷ (one-pass 1 (join false (nested-loop (some true-constant)) (one-row (number 1 ∷ [])) (one-row (overflowing ∷ []))), plan (refused 11 5))
-    -- an Aggregate over a Nothing stays; so does a Limit above 0, and a Limit of 0 doesn't
-    ∷ (one-pass 5 (over (other (aggregate [] ((1, A) ∷ []))) (leaf (nothing (unlabelled ∷ [])))), plan (done (over (other (aggregate [] ((1, A) ∷ []))) (leaf (nothing (unlabelled ∷ []))))))
-    ∷ (one-pass 5 (over (other (limit 1)) (leaf (nothing []))), plan (done (over (other (limit 1)) (leaf (nothing [])))))
-    ∷ (one-pass 5 (over (other (limit 0)) scanned), plan (done (leaf (nothing (qualified 7 8 ∷ [])))))
-    -- an Or of lookups of one column is one lookup
+    ∷ (after-pass 2 (two-values true-constant), done (two-values (and true-constant true-constant)))
+    -- what is copied to the left is the last lookup on the right
     ∷ (
-      one-pass 3 (leaf (scan 0 none (some (or (equals A (number 1)) (equals (number 2) A))))),
-      plan (done (leaf (lookup by-key 0 none (datum (integer (pos 1)) ∷ datum (integer (pos 2)) ∷ [])))),
+      after-pass 2 (join false (nested-loop (some (and (and (equals B (number 5)) (equals A B)) (equals B (number 6))))) scanned scanned),
+      done (join false (nested-loop (some (equals A B))) (filtered (equals A (number 6))) (filtered (and (equals A (number 5)) (equals A (number 6))))),
+    )
+    -- And with Null is not folded
+    ∷ (after-pass 1 (over (filter (and (constant null) A)) scanned), done (over (filter (and (constant null) A)) scanned))
+    -- the place of a refusal is the operator whose operands have become constants: cell 5, not 3
+    ∷ (after-pass 1 (over (filter (and (and A (constant (truth False))) (number 5))) scanned), refused 13 5)
+    -- a node's own expressions are folded before its source's
+    ∷ (after-pass 1 (over (filter overflowing) (one-row (mistyped ∷ []))), refused 11 7)
+    -- a join's before its left source's, and these before its right one's
+    ∷ (after-pass 1 (join false (nested-loop (some overflowing)) (one-row (mistyped ∷ [])) (one-row (overflowing ∷ []))), refused 11 12)
+    ∷ (after-pass 1 (join false (nested-loop (some true-constant)) (one-row (mistyped ∷ [])) (one-row (overflowing ∷ []))), refused 13 2)
+    ∷ (after-pass 1 (join false (nested-loop (some true-constant)) (one-row (number 1 ∷ [])) (one-row (overflowing ∷ []))), refused 11 5)
+    -- an Aggregate over a Nothing stays; so does a Limit above 0, and a Limit of 0 doesn't
+    ∷ (after-pass 5 (over (other (aggregate [] ((1, A) ∷ []))) (leaf (nothing (unlabelled ∷ [])))), done (over (other (aggregate [] ((1, A) ∷ []))) (leaf (nothing (unlabelled ∷ [])))))
+    ∷ (after-pass 5 (over (other (limit 1)) (leaf (nothing []))), done (over (other (limit 1)) (leaf (nothing []))))
+    ∷ (after-pass 5 (over (other (limit 0)) scanned), done (leaf (nothing (qualified 7 8 ∷ []))))
+    -- an Or of lookups of one column is one lookup, to which = NULL adds no value
+    ∷ (
+      after-pass 3 (filtered (or (equals A (number 1)) (or (equals A (constant null)) (equals (number 2) A)))),
+      done (leaf (lookup by-key 0 none (datum (integer (pos 1)) ∷ datum (integer (pos 2)) ∷ []))),
+    )
+    -- of two lookups the first is taken
+    ∷ (
+      after-pass 3 (filtered (and (equals A (number 1)) (equals A (number 2)))),
+      done (over (filter (equals A (number 2))) (leaf (lookup by-key 0 none (datum (integer (pos 1)) ∷ [])))),
     )
     -- where nothing is found, the filter stays as it was
-    ∷ (one-pass 3 (leaf (scan 0 none (some (or (and A B) A)))), plan (done (leaf (scan 0 none (some (or (and A B) A))))))
+    ∷ (after-pass 3 (filtered (or (and A B) A)), done (filtered (or (and A B) A)))
+    -- two columns of the left source make no HashJoin
+    ∷ (after-pass 4 wide-left, done wide-left)
     ∷ []
 
-pub all-further : map (λ (w : Worked × Worked). w .0) further-plans ≡ map (λ (w : Worked × Worked). w .1) further-plans
+pub all-further : map (λ (w : Answer Node × Answer Node). w .0) further-plans ≡ map (λ (w : Answer Node × Answer Node). w .1) further-plans
 unfolding into-cnf into-cnf-vec Optimizer.maybe-push-join Optimizer.index-lookup Room.maybe-push-join Room.maybe-push-filter Room.push-filters-from Room.FilterPushdown Room.index-lookup Room.IndexLookup Room.short-circuit Room.ShortCircuit checked add-integers
 all-further = refl
 

@@ -5,5 +5,5 @@ pub mod Ranges
 pub mod Answer
 pub mod Optimizer
 pub mod Room
-pub mod Worked
+pub mod Samples
 pub mod Further

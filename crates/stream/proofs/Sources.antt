@@ -10,7 +10,7 @@ use Rattle.sql.specs.Schema.{Schema}
 use Rattle.sql.specs.Plan.{Leaf, Over, Join, Node, leaf, over, join, over-size, join-size, node-size}
 use Rattle.sql.specs.Answer.{Answer, done, refused, _>>=_}
 use Rattle.cells.specs.Cells.{start-at, Sized}
-use Rattle.cells.specs.Room.{Wrote}
+use Rattle.cells.specs.Room.{most-words, Wrote}
 use Rattle.cells.proofs.Laws.{then}
 use Rattle.words.specs.Words.{cell, source-words, own-words, node-cell, node-words, source-count}
 use Rattle.words.proofs.Nodes.{node-shape, node-in, node-long, over-source, join-left, join-right, sources-sized}
@@ -32,7 +32,7 @@ module _ {Lent : Schema → Type 0} {x : List ℕ} {lo hi tail : ℕ} {y : List 
       go (join outer j l r) e = e
 
   -- the own words stand inside the node, and what is behind its sources can be counted
-  pub own-in : {m : ℕ} → OwnStart x lo hi m → (lo ≤ m) × ((m + 6 ≤ hi) × (tail + (hi - m) ≤ 16777216))
+  pub own-in : {m : ℕ} → OwnStart x lo hi m → (lo ≤ m) × ((m + 6 ≤ hi) × (tail + (hi - m) ≤ most-words))
   own-in own =
       let e = own (d .p) (d .reading .here) in
       let f = node-long (d .p) (d .reading .here) in
@@ -69,7 +69,7 @@ module _ {x : List ℕ} {lo hi m : ℕ} (own : OwnStart x lo hi m) {schema : Sch
       record {
         fit = kept schema text tables .source o n (h .fit);
         here = over-source o n (h .here) (own (over o n) (h .here));
-        shares = record { all = h .shares .all; outside = omega (arith, behind-is, h .shares .outside) };
+        shares = record { all = h .shares .all; short = h .shares .short; outside = omega (arith, behind-is, h .shares .outside) };
         fits = omega (arith, behind-is, own (over o n) (h .here), h .fits);
       }
 
@@ -90,7 +90,7 @@ module _ {x : List ℕ} {lo hi m : ℕ} (own : OwnStart x lo hi m) {schema : Sch
 
     pub over-done : {r : ℕ} {y₂ : List ℕ} → length y₂ ≡ length y₁ → Finishes x m hi y₁ at u r y₂
         → Streamed (Kept schema text tables (over o n)) y at tail r y₂ (done (over o q))
-    over-done k₂ f = written-done (over o q) over-fit (k₂ ∙ k₁) over-fits (over-written f)
+    over-done k₂ f = written-done (over o q) over-fit (k₂ ∙ k₁) over-fits (h .shares .short) (over-written f)
 
 module _ {Lent : Schema → Type 0} {x : List ℕ} {lo hi tail g m : ℕ} {y : List ℕ} {at : ℕ} (c : SourceCount x lo hi g) (one : g ≡ 1) (own : OwnStart x lo hi m) where
   pub source-at : StreamAt Lent x lo hi tail y at → StreamAt Lent x lo m (tail + (hi - m)) y at
@@ -153,7 +153,7 @@ module _ {x : List ℕ} {lo hi m mid : ℕ} (own : OwnStart x lo hi m) (st : mid
       record {
         fit = kept schema text tables .left outer j l r (h .fit);
         here = join-left outer j l r (h .here) (own (join outer j l r) (h .here)) st;
-        shares = record { all = h .shares .all; outside = omega (arith, end-is, right-is, h .shares .outside) };
+        shares = record { all = h .shares .all; short = h .shares .short; outside = omega (arith, end-is, right-is, h .shares .outside) };
         fits = omega (arith, end-is, right-is, mid-is, h .fits);
       }
 
@@ -170,7 +170,7 @@ module _ {x : List ℕ} {lo hi m mid : ℕ} (own : OwnStart x lo hi m) (st : mid
         record {
           fit = kept schema text tables .right outer j l r (h .fit);
           here = join-right outer j l r (h .here) (own (join outer j l r) (h .here)) st;
-          shares = record { all = k₁ ∙ h .shares .all; outside = omega (arith, left-end, end-is, h .shares .outside) };
+          shares = record { all = k₁ ∙ h .shares .all; short = omega (arith, k₁, h .shares .short); outside = omega (arith, left-end, end-is, h .shares .outside) };
           fits = omega (arith, end-is, right-is, s .is .0);
         }
 
@@ -197,7 +197,7 @@ module _ {x : List ℕ} {lo hi m mid : ℕ} (own : OwnStart x lo hi m) (st : mid
 
       pub join-done : {w : ℕ} {y₃ : List ℕ} → length y₃ ≡ length y₂ → Finishes x m hi y₂ at v w y₃
           → Streamed (Kept schema text tables (join outer j l r)) y at tail w y₃ (done (join outer j p q))
-      join-done k₃ f = written-done (join outer j p q) join-fit (k₃ ∙ k₂ ∙ k₁) (join-fits j (omega arith)) (join-written f)
+      join-done k₃ f = written-done (join outer j p q) join-fit (k₃ ∙ k₂ ∙ k₁) (join-fits j (omega arith)) (h .shares .short) (join-written f)
 
 module _ {Lent : Schema → Type 0} {x : List ℕ} {lo hi tail g m : ℕ} {y : List ℕ} {at : ℕ} (c : SourceCount x lo hi g) (two : g ≡ 2) (own : OwnStart x lo hi m) where
   pub right-sized : StreamAt Lent x lo hi tail y at → Sized x m
@@ -208,9 +208,9 @@ module _ {Lent : Schema → Type 0} {x : List ℕ} {lo hi tail g m : ℕ} {y : L
 
   module _ {mid : ℕ} (st : mid ≡ start-at x m) where
     -- the sources stand inside the node, and what is behind the left one can be counted
-    pub mid-in : StreamAt Lent x lo hi tail y at → (lo + 6 ≤ mid) × ((mid + 6 ≤ m) × (tail + (hi - mid) ≤ 16777216))
+    pub mid-in : StreamAt Lent x lo hi tail y at → (lo + 6 ≤ mid) × ((mid + 6 ≤ m) × (tail + (hi - mid) ≤ most-words))
     mid-in d =
-        by-join (λ p. Reading (d .schema) (d .text) (d .tables) x lo hi tail y at (d .room) (d .rest) p → (lo + 6 ≤ mid) × ((mid + 6 ≤ m) × (tail + (hi - mid) ≤ 16777216)))
+        by-join (λ p. Reading (d .schema) (d .text) (d .tables) x lo hi tail y at (d .room) (d .rest) p → (lo + 6 ≤ mid) × ((mid + 6 ≤ m) × (tail + (hi - mid) ≤ most-words)))
         (λ outer j l r h.
         let e = own (join outer j l r) (h .here) in
         let a = node-in l (join-left outer j l r (h .here) e st) in

@@ -14,8 +14,8 @@ use Rattle.sql.specs.Answer.{Answer, done, refused, _>>=_}
 use Rattle.sql.specs.Room.{if-room}
 use Rattle.cells.specs.declared.Cell.{Cell}
 use Rattle.cells.specs.Cells.{sized, cell-at}
-use Rattle.cells.specs.Room.{Wrote, Seals, Copies}
-use Rattle.cells.proofs.Laws.{then, lt-or-ge}
+use Rattle.cells.specs.Room.{most-words, Short, Wrote, Seals, Copies}
+use Rattle.cells.proofs.Laws.{then, fits, full, lt-or-ge}
 use Rattle.words.specs.Words.{cell, own-words, node-words}
 use Rattle.words.specs.Place.{NodeHere, NodeAt}
 use Rattle.words.proofs.Nodes.{own-part, node-cell-is, node-in}
@@ -42,9 +42,9 @@ module _ {Lent : Schema → Type 0} {x : List ℕ} {lo hi tail : ℕ} {y : List 
 -- ---- what is written
 module _ {Fit : Node → Type 0} {y : List ℕ} {at tail n : ℕ} {y′ : List ℕ} where
   -- a node that is written, where there is room
-  pub written-done : (q : Node) → Fit q → length y′ ≡ length y → at + length (node-words q) + tail ≤ length y → Wrote y at (node-words q) n y′
+  pub written-done : (q : Node) → Fit q → length y′ ≡ length y → at + length (node-words q) + tail ≤ length y → Short y → Wrote y at (node-words q) n y′
       → Streamed Fit y at tail n y′ (done q)
-  written-done q i k z w = let (e, f) = w .fits (omega arith) in record { is = (omega arith, (f, i)) }
+  written-done q i k z short w = let (e, f) = fits w short (omega arith) in record { is = (omega arith, (f, i)) }
 
   -- no room
   pub streamed-refused : length y′ < n → Streamed Fit y at tail n y′ (refused 14 0)
@@ -61,15 +61,15 @@ module _ {Fit : Node → Type 0} {y : List ℕ} {at tail n : ℕ} {y′ : List �
       (record {
         is = (
           ⊎-elim
-              (λ (v : length y < at + length (node-words q)). let a = w .full v in let b = g .full (omega arith) in omega arith)
+              (λ (v : length y < at + length (node-words q)). let a = full w v in let b = g .full (omega arith) in omega arith)
               (λ (v : at + length (node-words q) ≤ length y).
-              let (e, f) = w .fits v in let b = g .full (omega (arith, s .all, s .outside)) in omega arith)
+              let (e, f) = fits w (s .short) v in let b = g .full (omega (arith, s .all, s .outside)) in omega arith)
               (lt-or-ge (length y) (at + length (node-words q))),
           (refl, refl),
         );
       }))
       (λ (z : rest + node-size q ≤ room).
-      let (e, f) = w .fits (omega (arith, s .all, s .outside)) in
+      let (e, f) = fits w (s .short) (omega (arith, s .all, s .outside)) in
       let b = g .fits (omega (arith, s .all, s .outside)) in
       rw (le-leb _ _ z) (record { is = (omega (arith, s .all, s .outside), (ap (λ (m : ℕ). take m y′) b ∙ f, i)) }))
       (lt-or-ge room (rest + node-size q))
@@ -87,7 +87,7 @@ module _ {Fit : Node → Type 0} {y : List ℕ} {at tail n : ℕ} {y′ : List �
         omega (arith, s .is .0, length-take-le n y′ (omega (arith, s .is .0)), ap length (s .is .1 .0), length-append (take at y) (node-words q), length-take-le at y h)
 
     pub done-wrote : length y′ ≡ length y → Wrote y at (node-words q) n y′
-    done-wrote k = record { fits = λ i. (done-long, s .is .1 .0); full = λ i. absurd (omega (arith, done-long, s .is .0)) }
+    done-wrote k = record { is = λ i. (done-long, s .is .1 .0); room = λ _ i. omega (arith, s .is .0) }
 
     pub done-here : NodeHere y′ at n q
     done-here =
@@ -114,15 +114,15 @@ module _ {Fit : Node → Type 0} {y : List ℕ} {at tail n : ℕ} {y′ : List �
     pub written-over : length y′ ≡ length y → {w : List ℕ} {r : ℕ} {y₂ : List ℕ} → Wrote y′ at w r y₂ → Wrote y at w r y₂
     written-over k {w} a =
         record {
-          fits = λ i. let (e, f) = a .fits (omega arith) in (e, f ∙ ap (λ (l : List ℕ). l ++ w) done-before);
-          full = λ i. let z = a .full (omega arith) in omega arith;
+          is = λ i. let (e, f) = a .is (omega arith) in (e, f ∙ ap (λ (l : List ℕ). l ++ w) done-before);
+          room = λ s i. let z = a .room (omega arith) (omega arith) in omega arith;
         }
 
 -- a node that is copied as it is
 pub copied-done : {schema : Schema} {text : List ℕ} {tables : ℕ} {x : List ℕ} {lo hi tail : ℕ} {y : List ℕ} {at room rest : ℕ} (p : Node)
     → Reading schema text tables x lo hi tail y at room rest p → {n : ℕ} {y′ : List ℕ} → length y′ ≡ length y → Copies x lo hi y at n y′
     → Streamed (Kept schema text tables p) y at tail n y′ (done p)
-copied-done p h k c = written-done p (h .fit) k (reading-total h) (c (node-words p) (h .here .part))
+copied-done p h k c = written-done p (h .fit) k (reading-total h) (h .shares .short) (c (node-words p) (h .here .part))
 
 -- ---- one answer after another
 module _ {Fit : Node → Type 0} {y : List ℕ} {at tail n : ℕ} {y′ : List ℕ} (o : Answer Node) (s : Streamed Fit y at tail n y′ o) where
@@ -175,11 +175,11 @@ module _ (x : List ℕ) (t : ℕ) (p : Node) (e : take t x ≡ node-words p) (h 
             };
       }
 
-  module _ (schema : Schema) (text : List ℕ) (tables : ℕ) (fit : Kept schema text tables p p) (y : List ℕ) (room : ℕ) (a : length y ≡ 6 * room) (f : t ≤ length y) where
+  module _ (schema : Schema) (text : List ℕ) (tables : ℕ) (fit : Kept schema text tables p p) (y : List ℕ) (room : ℕ) (a : length y ≡ 6 * room) (short : Short y) (f : t ≤ length y) where
     pub top-reading : Reading schema text tables x 0 t 0 y 0 room 0 p
-    top-reading = record { fit = fit; here = top-here; shares = record { all = a; outside = refl }; fits = omega arith }
+    top-reading = record { fit = fit; here = top-here; shares = record { all = a; short = short; outside = refl }; fits = omega arith }
 
-    pub top-at : (Lent : Schema → Type 0) → Lent schema → length x ≤ 16777216 → length y ≤ 16777216 → StreamAt Lent x 0 t 0 y 0
+    pub top-at : (Lent : Schema → Type 0) → Lent schema → length x ≤ most-words → length y ≤ most-words → StreamAt Lent x 0 t 0 y 0
     top-at Lent l s u =
         record {
           schema = schema;

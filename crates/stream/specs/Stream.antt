@@ -10,7 +10,7 @@ use Rattle.sql.specs.Schema.{Schema}
 use Rattle.sql.specs.Plan.{Node}
 use Rattle.sql.specs.Answer.{Answer, done, refused}
 use Rattle.cells.specs.Cells.{sized}
-use Rattle.cells.specs.Room.{Wrote}
+use Rattle.cells.specs.Room.{most-words, Wrote}
 use Rattle.words.specs.Words.{cell, own-words, node-cell, node-words}
 use Rattle.words.specs.Place.{NodeHere}
 use Rattle.nodes.specs.Own.{OwnStart}
@@ -35,8 +35,8 @@ pub record StreamAt (Lent : Schema → Type 0) (x : List ℕ) (lo hi tail : ℕ)
   pub rest : ℕ
   pub p : Node
   pub reading : Reading schema text tables x lo hi tail y at room rest p
-  pub short : length x ≤ 16777216
-  pub short-out : length y ≤ 16777216
+  pub short : length x ≤ most-words
+  pub short-out : length y ≤ most-words
 
 -- The node of a done answer is appended to the first `at` words of y, which makes n words, and is fit; what is left to read has room behind it. Or the
 -- answer is refusal 14, and n is past the end.

@@ -86,11 +86,11 @@ fn reduced(stack: &mut [u8], height: usize, k: layout::Cell) -> Found
     requires { ⌜ height < length (now stack) ⌝ }
     ensures { λ r. ⌜ Reduces (now (stack .entry)) height k r (now (stack .exit)) ⌝ }
 {
-    if k.tag < 10 {
+    if k.tag < tags::BINARY {
         stack[height] = arity::sort_of(k.tag) as u8;
         return Found::At(height + 1);
     }
-    if k.tag < 17 {
+    if k.tag < tags::SUBTRACT {
         return reduced_binary(stack, height);
     }
     reduced_any(stack, height, k)

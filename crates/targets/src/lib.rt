@@ -12,7 +12,7 @@ use layout::parts_of;
 fn target_number(k: Cell) -> usize
     ensures { λ r. ⌜ r ≡ target-number (as-cell k) ⌝ }
 {
-    if k.tag == 43 {
+    if k.tag == tags::TARGET {
         if k.flag == 1 {
             return k.a;
         }
@@ -33,7 +33,7 @@ fn repeated_from(s: &[u8], from: usize) -> Found
     let mut i = from;
     while i < count {
         let k = cell_at(s, i);
-        if 50 <= k.tag {
+        if tags::NODES <= k.tag {
             i += 1;
             own = i;
             continue;

@@ -1,5 +1,5 @@
 -- The proofs of Theorems.antt, from what is proved of the definitions: the refusals there are and what is handed out (crate sound), the places (Places.antt),
--- the sizes that room is asked for (Sized.antt), and the row promise (crates same_rows and promise).
+-- the sizes that room is asked for (Sized.antt), and the row promise on plans (crate same_rows).
 use Prim.Native.Nat.{ℕ, zero, suc, _+_, _≤_, _<_}
 use native.Mathlib.Omega.{arith}
 use borrow.Author.Tests.{leb-true, le-leb, lt-leb}
@@ -21,16 +21,14 @@ use Rattle.sheet.specs.Check.{Numbers, text, schema, plan, checked, check}
 use Rattle.sheet.specs.Write.{write}
 use Rattle.sheet.specs.Operations.{Outcome, refuse, written, hand-out, one-pass, all-five}
 use Rattle.sheet_laws.specs.Plan.{Bytes, plan-size}
-use Rattle.room.specs.Done.{done-same, After, after}
-use Rattle.room.specs.Same.{optimize-same}
-use Rattle.same_rows.specs.Proof.{same-rows-without-limit}
+use Rattle.room.specs.Done.{After, after}
+use Rattle.same_rows.specs.Proof.{same-rows}
 use Rattle.sound.specs.Refusals.{Refused-by, From-to, refused-then, refused-weaker, plan-refused, pass-refused, optimize-refused}
-use Rattle.sound.specs.HandedOut.{success, Handed-out, pass-handed-out, optimize-handed-out}
-use Rattle.sound.specs.Operations.{sheet-of, one-pass-sound, all-five-sound}
-use Rattle.promise.specs.Proof.{promise}
+use Rattle.sound.specs.HandedOut.{success, Handed-out, plan-room, pass-handed-out, optimize-handed-out}
+use Rattle.sound.specs.Operations.{sheet-of, all-five-sound}
 use Rattle.theorems.specs.Sizes
-use Rattle.theorems.specs.Theorems.{Checked, is-accepted, is-refused, Success, Answered, is-success, is-refusal, Check-answers, One-pass-answers, No-such-pass, All-five-answers, with-room, needed, Hands-out, Gives, One-pass-gives, All-five-gives, Folding-refuses, Passes-in-turn, Same-rows-in-turn, Same-rows-all-five}
-use Rattle.theorems.proofs.Sized.{pass-sized, optimize-sized}
+use Rattle.theorems.specs.Theorems.{Checked, is-accepted, is-refused, Success, Answered, is-success, is-refusal, Check-answers, One-pass-answers, No-such-pass, All-five-answers, with-room, needed, Hands-out, Gives, One-pass-gives, All-five-gives, Folding-refuses, Never-larger, Bound-enough, Passes-in-turn, Same-rows-in-turn, Same-rows-all-five}
+use Rattle.theorems.proofs.Sized.{left-out, folding-fits, bound-sized, hash-fits, pass-sized, optimize-sized}
 use Rattle.theorems.proofs.Written.{written-front, written-length, written-bytes}
 use Rattle.theorems.proofs.Places.{Placed, plan-placed, Fails, folding-fails}
 
@@ -187,8 +185,8 @@ no-such-pass s k out h = ap (λ (t : Bool). cond t (hand-out s out (passed s k))
 
 -- ======== 2. each pass and all five
 
-same-then : (r : Answer Node) (f g : Node → Answer Node) → ((n : Node) → f n ≡ g n) → (r >>= f) ≡ (r >>= g)
-same-then (done n) f g h = h n
+same-then : (r : Answer Node) (f g : Node → Answer Node) → ((n : Node) → r ≡ done n → f n ≡ g n) → (r >>= f) ≡ (r >>= g)
+same-then (done n) f g h = h n refl
 same-then (refused number place) f g h = refl
 
 pass-gives : (s : List ℕ) → Bytes s → (k : ℕ) → 1 ≤ k → k ≤ 5 → (out : List ℕ)
@@ -197,7 +195,7 @@ pass-gives s b k low high out =
     let f = Room.pass max-cells (schema s) k in
     let g : Node → Answer Node = λ n. with-room (Sizes.pass (schema s) k n) (pass (schema s) k n) in
     subst (Gives s out (plan s >>= g)) (sym (pass-is s k low high out))
-    (subst (λ (r : Answer Node). Gives s out r (hand-out s out (passed s k))) (same-then (plan s) f g (pass-sized (schema s) k))
+    (subst (λ (r : Answer Node). Gives s out r (hand-out s out (passed s k))) (same-then (plan s) f g (λ n h. pass-sized (schema s) k n (plan-room s b n h)))
     (gives s b out f (λ n m p. pass-handed-out s b n p k m) (pass-refused max-cells (schema s) k low high)))
 
 pub one-pass-gives : One-pass-gives
@@ -208,77 +206,128 @@ all-five-gives s b out =
     let f = Room.optimize max-cells (schema s) in
     let g : Node → Answer Node = λ n. with-room (Sizes.optimize (schema s) n) (optimize (schema s) n) in
     subst (Gives s out (plan s >>= g)) (sym (five-are s out))
-    (subst (λ (r : Answer Node). Gives s out r (hand-out s out (all-passed s))) (same-then (plan s) f g (optimize-sized (schema s)))
+    (subst (λ (r : Answer Node). Gives s out r (hand-out s out (all-passed s))) (same-then (plan s) f g (λ n h. optimize-sized (schema s) n (plan-room s b n h)))
     (gives s b out f (λ n m p. optimize-handed-out s b n p m) (optimize-refused max-cells (schema s))))
 
 pub folding-refuses : Folding-refuses
 folding-refuses n number place e = let x = subst (Fails (0 + node-size n)) e (folding-fails 0 n) in (x .0, x .1, let p = x .2 in omega arith)
 
+pub never-larger : Never-larger
+never-larger tables n =
+    left-out (node-size n) tables (Sizes.ConstantFolding 0 0 n) (Sizes.HashJoin tables 0 n) (folding-fits (node-size n) tables 0 0 n (omega arith))
+    ∙ hash-fits (node-size n) tables 0 n (omega arith)
+
+pub bound-enough : Bound-enough
+bound-enough tables k room n h = bound-sized room tables k 0 n h
+
 -- ======== 3. rows
 
--- what is handed out is bytes
-pass-bytes : (s : List ℕ) → Bytes s → (k : ℕ) → 1 ≤ k → k ≤ 5 → (out : List ℕ) → one-pass s k out .numbers .number ≡ 0 → Bytes (sheet-of (one-pass s k out))
-pass-bytes s b k low high out z = go (one-pass-answers s b k low high out)
+-- A plan that is handed out, and not refused for a short output, is answered by 0.
+handed-number : (s out : List ℕ) (r : Answer Node) (m : Node) → r ≡ done m → (hand-out s out r .numbers .number ≡ 15 → ⊥) → hand-out s out r .numbers .number ≡ 0
+handed-number s out r m e long =
+    let at-done = ap (λ (a : Answer Node). hand-out s out a .numbers .number) e in
+    at-done ∙ go (leb (length (write s m)) (length out)) (λ short. long (at-done ∙ short))
   where
-    go : Answered s out (one-pass s k out) → Bytes (sheet-of (one-pass s k out))
-    go (is-success h) = h .bytes
-    go (is-refusal number place p q e) = wrong number (omega arith) (sym (ap (λ (o : Outcome). o .numbers .number) e) ∙ z)
+    go : (t : Bool) → (written s out m (write s m) t .numbers .number ≡ 15 → ⊥) → written s out m (write s m) t .numbers .number ≡ 0
+    go true long = refl
+    go false long = absurd (long refl)
 
-module _ (sheet : ℕ → List ℕ) (h : Passes-in-turn sheet) where
-  are-bytes : (k : ℕ) → k ≤ 5 → Bytes (sheet k)
-  are-bytes zero i = h .bytes
-  are-bytes (suc k) i =
-      subst Bytes (sym (h .next k (omega arith)))
-      (pass-bytes (sheet k) (are-bytes k (omega arith)) (suc k) (omega arith) i (h .outputs k) (h .not-refused k (omega arith)))
+-- ---- one pass after the other
 
-  columns-stay : (k : ℕ) → k ≤ 5 → check (sheet k) .columns ≡ check (sheet 0) .columns
-  columns-stay zero i = refl
-  columns-stay (suc k) i =
-      let x = one-pass-sound (sheet k) (are-bytes k (omega arith)) (suc k) (h .outputs k) (h .not-refused k (omega arith)) in
-      ap (λ (l : List ℕ). check l .columns) (h .next k (omega arith)) ∙ (ap (λ (n : Numbers). n .columns) (x .checks) ∙ (x .same-columns ∙ columns-stay k (omega arith)))
+-- a pass that is done, of the sheet's plan n
+module _ (s : List ℕ) (b : Bytes s) (n m : Node) (stands : plan s ≡ done n) (k : ℕ) (low : 1 ≤ k) (high : k ≤ 5) (is-done : Room.pass max-cells (schema s) k n ≡ done m)
+    (out : List ℕ) (long : one-pass s k out .numbers .number ≡ 15 → ⊥) where
+  is-passed : passed s k ≡ done m
+  is-passed = ap (λ (a : Answer Node). a >>= Room.pass max-cells (schema s) k) stands ∙ is-done
+
+  pass-success : Success s out (one-pass s k out)
+  pass-success = go (one-pass-answers s b k low high out)
+    where
+      number-0 : one-pass s k out .numbers .number ≡ 0
+      number-0 =
+          let by-pass = ap (λ (o : Outcome). o .numbers .number) (pass-is s k low high out) in
+          by-pass ∙ handed-number s out (passed s k) m is-passed (λ short. long (by-pass ∙ short))
+
+      go : Answered s out (one-pass s k out) → Success s out (one-pass s k out)
+      go (is-success h) = h
+      go (is-refusal number place p q e) = wrong number (omega arith) (sym (ap (λ (o : Outcome). o .numbers .number) e) ∙ number-0)
+
+  pass-stands-for : plan (sheet-of (one-pass s k out)) ≡ done m
+  pass-stands-for =
+      let e = pass-is s k low high out in
+      let x = handed-out s b out (Room.pass max-cells (schema s) k) (λ n m p. pass-handed-out s b n p k m) (pass-refused max-cells (schema s) k low high)
+      (sym (ap (λ (o : Outcome). o .numbers .number) e) ∙ pass-success .number-0) in
+      ap (λ (o : Outcome). plan (sheet-of o)) e ∙ (x .stands-for ∙ (sym (x .given) ∙ is-passed))
+
+module _ (sheet : ℕ → List ℕ) (plans : ℕ → Node) (h : Passes-in-turn sheet) (p : plan (sheet 0) ≡ done (plans 0))
+    (steps : (k : ℕ) → k < 5 → Room.pass max-cells (schema (sheet 0)) (suc k) (plans k) ≡ done (plans (suc k))) where
+  -- what sheet k keeps of sheet 0
+  record Kept (k : ℕ) : Type 0 where
+    bytes : Bytes (sheet k)
+    stands-for : plan (sheet k) ≡ done (plans k)
+    same-schema : schema (sheet k) ≡ schema (sheet 0)
+    same-columns : check (sheet k) .columns ≡ check (sheet 0) .columns
+
+  kept : (k : ℕ) → k ≤ 5 → Kept k
+  kept zero i = record { bytes = h .bytes; stands-for = p; same-schema = refl; same-columns = refl }
+  kept (suc k) i =
+      let x = kept k (omega arith) in
+      let is-done = subst (λ (t : Schema). Room.pass max-cells t (suc k) (plans k) ≡ done (plans (suc k))) (sym (x .same-schema)) (steps k (omega arith)) in
+      let long = h .long-enough k (omega arith) in
+      let y = pass-success (sheet k) (x .bytes) (plans k) (plans (suc k)) (x .stands-for) (suc k) (omega arith) i is-done (h .outputs k) long in
+      let z = pass-stands-for (sheet k) (x .bytes) (plans k) (plans (suc k)) (x .stands-for) (suc k) (omega arith) i is-done (h .outputs k) long in
+      let next = h .next k (omega arith) in
+      record {
+        bytes = subst Bytes (sym next) (y .bytes);
+        stands-for = ap plan next ∙ z;
+        same-schema = ap schema next ∙ (y .same-schema ∙ x .same-schema);
+        same-columns = ap (λ (l : List ℕ). check l .columns) next ∙ (ap (λ (n : Numbers). n .columns) (y .passes-check) ∙ (y .same-columns ∙ x .same-columns));
+      }
 
 pub same-rows-in-turn : Same-rows-in-turn
-same-rows-in-turn sheet plans database rows h p e r k i =
-    let x = promise sheet plans database rows e
-    (record { outputs = h .outputs; bytes = are-bytes sheet h; not-refused = h .not-refused; next = h .next; stands-for = p })
-    (record { inner = r .inner; reads = r .reads; one-kind = r .one-kind }) k i in
-    (columns-stay sheet h k i, x .same-rows)
+same-rows-in-turn sheet plans database rows h p e given k i =
+    let steps = subst (λ (t : Schema). (k : ℕ) → k < 5 → Room.pass max-cells t (suc k) (plans k) ≡ done (plans (suc k))) e (given .not-refused) in
+    let x = kept sheet plans h p steps k i in
+    (x .stands-for, x .same-columns, same-rows database plans rows given k i .same-rows)
 
--- the passes in turn, with no limit of room
-all-in-turn : (tables : Schema) (plans : ℕ → Node) → ((k : ℕ) → k < 5 → pass tables (suc k) (plans k) ≡ done (plans (suc k))) → optimize tables (plans 0) ≡ done (plans 5)
+-- ---- all five at once
+
+-- passes in turn are all five
+all-in-turn : (tables : Schema) (plans : ℕ → Node) → ((k : ℕ) → k < 5 → Room.pass max-cells tables (suc k) (plans k) ≡ done (plans (suc k)))
+    → Room.optimize max-cells tables (plans 0) ≡ done (plans 5)
 all-in-turn tables plans p =
-    let first = p 0 (omega arith) in
-    let e₂ = done-same (p 1 (omega arith)) in
-    let e₃ = done-same (p 2 (omega arith)) in
-    let e₄ = done-same (p 3 (omega arith)) in
-    let e₅ = done-same (p 4 (omega arith)) in
-    rw (first, e₂, e₃, e₄, e₅)
+    step from-2 (p 0 (omega arith)) ∙ (step from-3 (p 1 (omega arith)) ∙ (step from-4 (p 2 (omega arith)) ∙ (step from-5 (p 3 (omega arith)) ∙ step done (p 4 (omega arith)))))
+  where
+    from-5 : Node → Answer Node
+    from-5 x = Room.pass max-cells tables 5 x >>= done
 
--- what all five hand out stands for what the passes give in turn
-five-stands-for : (s : List ℕ) → Bytes s → (out : List ℕ) (n m : Node) → plan s ≡ done n → optimize (schema s) n ≡ done m → all-five s out .numbers .number ≡ 0
-    → plan (sheet-of (all-five s out)) ≡ done m
-unfolding all-five
-five-stands-for s b out n m h e z =
-    let x = handed-out s b out (Room.optimize max-cells (schema s)) (λ n m p. optimize-handed-out s b n p m) (optimize-refused max-cells (schema s)) z in
-    let a = after (plan s) (Room.optimize max-cells (schema s)) (x .node) (x .given) in
-    let same : a .of ≡ n = done-same (sym (a .first) ∙ h) in
-    let got : optimize (schema s) n ≡ done (x .node) =
-    subst (λ (k : Node). optimize (schema s) k ≡ done (x .node)) same (optimize-same max-cells (schema s) (a .of) (x .node) (a .second)) in
-    x .stands-for ∙ (sym got ∙ e)
+    from-4 : Node → Answer Node
+    from-4 x = Room.pass max-cells tables 4 x >>= from-5
+
+    from-3 : Node → Answer Node
+    from-3 x = Room.pass max-cells tables 3 x >>= from-4
+
+    from-2 : Node → Answer Node
+    from-2 x = Room.pass max-cells tables 2 x >>= from-3
+
+    step : (f : Node → Answer Node) {a : Answer Node} {x : Node} → a ≡ done x → (a >>= f) ≡ f x
+    step f e = ap (λ (z : Answer Node). z >>= f) e
 
 pub same-rows-all-five : Same-rows-all-five
 unfolding check
-same-rows-all-five s out plans database rows b h z p e r = (
-  five-stands-for s b out (plans 0) (plans 5) h (all-in-turn (schema s) plans p) z,
-  (let x = all-five-sound s b out z in ap (λ (n : Numbers). n .columns) (x .checks) ∙ x .same-columns),
-  λ k i.
-      let y = same-rows-without-limit database plans rows (record {
-        not-refused = λ k i. subst (λ (t : Schema). pass t (suc k) (plans k) ≡ done (plans (suc k))) (sym e) (p k i);
-        inner = r .inner;
-        reads = r .reads;
-        one-kind = r .one-kind;
-      }) k i in (
-        subst (λ (t : Schema). columns t (plans k) ≡ columns t (plans 0)) e (y .same-columns) ∙ sym (ap (λ (a : Answer Node). checked s a .columns) h),
-        y .same-rows,
-      ),
-)
+same-rows-all-five s out plans database rows b long h e given =
+    let steps = subst (λ (t : Schema). (k : ℕ) → k < 5 → Room.pass max-cells t (suc k) (plans k) ≡ done (plans (suc k))) e (given .not-refused) in
+    let is-done : all-passed s ≡ done (plans 5) =
+    ap (λ (a : Answer Node). a >>= Room.optimize max-cells (schema s)) h ∙ all-in-turn (schema s) plans steps in
+    let by-five = ap (λ (o : Outcome). o .numbers .number) (five-are s out) in
+    let zero-answered = handed-number s out (all-passed s) (plans 5) is-done (λ short. long (by-five ∙ short)) in
+    let x = handed-out s b out (Room.optimize max-cells (schema s)) (λ n m p. optimize-handed-out s b n p m) (optimize-refused max-cells (schema s)) zero-answered in
+    let y = all-five-sound s b out (by-five ∙ zero-answered) in (
+      ap (λ (o : Outcome). plan (sheet-of o)) (five-are s out) ∙ (x .stands-for ∙ (sym (x .given) ∙ is-done)),
+      ap (λ (n : Numbers). n .columns) (y .checks) ∙ y .same-columns,
+      λ k i.
+          let z = same-rows database plans rows given k i in (
+            subst (λ (t : Schema). columns t (plans k) ≡ columns t (plans 0)) e (z .same-columns) ∙ sym (ap (λ (a : Answer Node). checked s a .columns) h),
+            z .same-rows,
+          ),
+    )

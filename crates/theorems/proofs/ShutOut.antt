@@ -21,7 +21,7 @@ use Rattle.value.specs.Meaning.{integer-bits, integer-of-bits}
 use Rattle.sheet.specs.Tree.{read}
 use Rattle.sheet.specs.Check.{Numbers, schema, plan}
 use Rattle.sheet.specs.Operations.{Outcome, one-pass, all-five}
-use Rattle.sheet.specs.Worked.{P1}
+use Rattle.sheet.specs.Examples.{P1}
 use Rattle.sheet_laws.specs.Content.{and-left, and-right}
 use Rattle.room.specs.Done.{done-same}
 use Rattle.rows.specs.Equalities.{all}
@@ -116,7 +116,7 @@ spoiled-rest =
 
 -- ======== answerable inputs
 
-are-bytes : (l : List ℕ) → all (λ (x : ℕ). ltb x 256) l ≡ true → (i : ℕ) → getD l i 0 < 256
+pub are-bytes : (l : List ℕ) → all (λ (x : ℕ). ltb x 256) l ≡ true → (i : ℕ) → getD l i 0 < 256
 are-bytes [] h i = omega arith
 are-bytes (x ∷ l) h zero = ltb-true x 256 (and-left (ltb x 256) (all (λ (x : ℕ). ltb x 256) l) h)
 are-bytes (x ∷ l) h (suc i) = are-bytes l (and-right (ltb x 256) (all (λ (x : ℕ). ltb x 256) l) h) i

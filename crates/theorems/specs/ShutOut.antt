@@ -14,7 +14,7 @@ use Rattle.sql.specs.Optimizer.{pass, optimize}
 use Rattle.sheet.specs.Check.{schema, plan}
 use Rattle.sheet.specs.Write.{write}
 use Rattle.sheet.specs.Operations.{Outcome, one-pass, all-five}
-use Rattle.sheet.specs.Worked.{P1}
+use Rattle.sheet.specs.Examples.{P1}
 use Rattle.sheet_laws.specs.Plan.{Bytes}
 use Rattle.sound.specs.Operations.{sheet-of}
 use Rattle.theorems.specs.Sizes

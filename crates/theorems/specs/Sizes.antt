@@ -1,22 +1,19 @@
 -- Refusal 14, as document 01 says it: "Room is refused if and only if the plan after some step, or a result of into_nnf or into_cnf, has over 2,048 cells,
 -- where a step is one visit of one node, one merge of a Filter into what is below, or one split of a join predicate."
 --
--- Here are those sizes, in the order in which they come up, but for two kinds of steps, after which the plan is not over 2,048 cells if it wasn't before:
--- the steps of ConstantFolding and HashJoin, which put no more cells in the place of what they rewrite (more at `pass` below); and IndexLookup's visits of
--- nodes with sources, which change nothing, so that the plan has the size that it had.
---
--- The passes are the Rust's, which know no limit (crate sql, Optimizer.antt), and each function here has the name of the one whose steps it lists. The size
--- that counts is that of the whole plan, so each takes `rest`, the number of the plan's cells that lie outside the node at that moment: the left source is
--- visited with the right one outside it, the right source with what the left one has become.
+-- Here are those sizes, each of them, in the order in which they come up. The passes are the Rust's, which know no limit (crate sql, Optimizer.antt), and each
+-- function here has the name of the one whose steps it lists. The size that counts is that of the whole plan, so each takes `rest`, the number of the plan's
+-- cells that lie outside the node at that moment: the left source is visited with the right one outside it, the right source with what the left one has become.
+-- All passes but ShortCircuit visit a node before its sources.
 use Prim.Native.Nat.{ℕ, zero, suc, _+_}
 use mathlib.Core.List.{List, [], _∷_, _++_}
 use mathlib.Core.Option.{Option, none, some}
 use lib.ListN.{getD}
 use Rattle.sql.specs.Schema.{Schema}
 use Rattle.sql.specs.Expression.{Expression, size, into-nnf, into-cnf}
-use Rattle.sql.specs.Plan.{filter, other, Node, leaf, over, join, over-size, join-size, node-size}
+use Rattle.sql.specs.Plan.{filter, other, Node, leaf, over, join, columns, over-size, join-size, node-size}
 use Rattle.sql.specs.Answer.{Answer, done, refused}
-use Rattle.sql.specs.Optimizer.{ConstantFolding, push-into, HashJoin}
+use Rattle.sql.specs.Optimizer.{fold-leaf, fold-over, fold-join, push-into, hash-join}
 use Rattle.sql.specs.Optimizer
 use Rattle.sql.specs.Room.{join-predicate, scan-filter}
 
@@ -32,6 +29,24 @@ step rest node = (rest + node-size node) ∷ []
 abbrev pub if-pushed : (Node → List ℕ) → Option Node → List ℕ
 if-pushed f none = []
 if-pushed f (some pushed) = f pushed
+
+-- ======== ConstantFolding
+
+-- There is no plan after a visit that is refused, by 11 to 13, and no visit after it.
+abbrev pub if-done : {A : Type 0} → Answer A → (A → List ℕ) → List ℕ
+if-done (refused number place) f = []
+if-done (done folded) f = f folded
+
+-- A visit folds the node's own expressions. `first` is the number of the node's first cell, for the places of refusals.
+abbrev pub ConstantFolding : (first rest : ℕ) → Node → List ℕ
+ConstantFolding first rest (leaf l) = if-done (fold-leaf first l) (λ m. step rest (leaf m))
+ConstantFolding first rest (over o source) =
+    if-done (fold-over (first + node-size source) o) (λ p. step rest (over p source) ++ ConstantFolding first (rest + over-size p) source)
+ConstantFolding first rest (join outer j left right) =
+    if-done (fold-join (first + (node-size left + node-size right)) j) (λ k.
+    step rest (join outer k left right)
+    ++ (ConstantFolding first (rest + (node-size right + join-size k)) left
+    ++ if-done (Optimizer.ConstantFolding first left) (λ l. ConstantFolding (first + node-size left) (rest + (node-size l + join-size k)) right)))
 
 module _ (schema : Schema) where
   -- ======== FilterPushdown
@@ -72,11 +87,27 @@ module _ (schema : Schema) where
 
   -- ======== IndexLookup
 
+  -- A Scan that becomes a Filter over a lookup: the lookup is visited too, and stays.
   abbrev pub IndexLookup : (rest : ℕ) → Node → List ℕ
-  IndexLookup rest (leaf l) = normal-forms (scan-filter l) ++ step rest (Optimizer.index-lookup schema l)
-  IndexLookup rest (over o source) = IndexLookup (rest + over-size o) source
+  IndexLookup rest (leaf l) =
+      let found = Optimizer.index-lookup schema l in
+      normal-forms (scan-filter l) ++ (step rest found ++ each-source (λ lookup. lookup) step rest found)
+  IndexLookup rest (over o source) = step rest (over o source) ++ IndexLookup (rest + over-size o) source
   IndexLookup rest (join outer j left right) =
-      IndexLookup (rest + (node-size right + join-size j)) left ++ IndexLookup (rest + (node-size (Optimizer.IndexLookup schema left) + join-size j)) right
+      step rest (join outer j left right)
+      ++ (IndexLookup (rest + (node-size right + join-size j)) left
+      ++ IndexLookup (rest + (node-size (Optimizer.IndexLookup schema left) + join-size j)) right)
+
+  -- ======== HashJoin
+
+  abbrev pub HashJoin : (rest : ℕ) → Node → List ℕ
+  HashJoin rest (leaf l) = step rest (leaf l)
+  HashJoin rest (over o source) = step rest (over o source) ++ HashJoin (rest + over-size o) source
+  HashJoin rest (join outer j left right) =
+      let k = hash-join (columns schema left) j in
+      step rest (join outer k left right)
+      ++ (HashJoin (rest + (node-size right + join-size k)) left
+      ++ HashJoin (rest + (node-size (Optimizer.HashJoin schema left) + join-size k)) right)
 
   -- ======== ShortCircuit: sources before the node
 
@@ -90,19 +121,17 @@ module _ (schema : Schema) where
 
   -- ======== One pass by its number, and all five.
 
-  -- ConstantFolding and HashJoin put no more cells in the place of what they rewrite (crate room, Smaller.antt). So the plan after a step of theirs has no more
-  -- cells than the plan that they were given, which isn't over 2,048: check refuses such a sheet by 4, and the pass before such a plan by 14.
   abbrev pub pass : ℕ → Node → List ℕ
   pass zero node = []
-  pass (suc k) node = getD ((λ n. []) ∷ FilterPushdown 0 ∷ IndexLookup 0 ∷ (λ n. []) ∷ ShortCircuit 0 ∷ []) k (λ n. []) node
+  pass (suc k) node = getD (ConstantFolding 0 0 ∷ FilterPushdown 0 ∷ IndexLookup 0 ∷ HashJoin 0 ∷ ShortCircuit 0 ∷ []) k (λ n. []) node
 
-  -- of the plan that ConstantFolding gives, if it isn't refused
-  abbrev pub after-folding : Answer Node → List ℕ
-  after-folding (refused number place) = []
-  after-folding (done folded) =
+  -- of the plan that ConstantFolding gives, in the four passes after it
+  abbrev pub after-folding : Node → List ℕ
+  after-folding folded =
       let pushed = Optimizer.FilterPushdown schema folded in
       let looked-up = Optimizer.IndexLookup schema pushed in
-      FilterPushdown 0 folded ++ (IndexLookup 0 pushed ++ ShortCircuit 0 (HashJoin schema looked-up))
+      let hashed = Optimizer.HashJoin schema looked-up in
+      FilterPushdown 0 folded ++ (IndexLookup 0 pushed ++ (HashJoin 0 looked-up ++ ShortCircuit 0 hashed))
 
   abbrev pub optimize : Node → List ℕ
-  optimize node = after-folding (ConstantFolding 0 node)
+  optimize node = ConstantFolding 0 0 node ++ if-done (Optimizer.ConstantFolding 0 node) after-folding

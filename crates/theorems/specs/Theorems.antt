@@ -20,7 +20,7 @@ use mathlib.Core.Logic.{_⊎_}
 use mathlib.Core.Path.{_≡_}
 use lib.Dec.{leb}
 use lib.ListN.{length, take, drop, getD}
-use Rattle.value.specs.Value.{ok}
+use Rattle.sql.specs.Schema.{Schema}
 use Rattle.sql.specs.Expression.{Row}
 use Rattle.sql.specs.Plan.{Node, columns, node-size}
 use Rattle.sql.specs.Answer.{Answer, done, refused, _>>=_}
@@ -32,9 +32,8 @@ use Rattle.sheet.specs.Write.{write}
 use Rattle.sheet.specs.Operations.{Outcome, refuse, one-pass, all-five}
 use Rattle.sheet_laws.specs.Plan.{Bytes}
 use Rattle.rows.specs.Database.{Database}
-use Rattle.rows.specs.Reading.{read}
-use Rattle.rows.specs.Equalities.{equalities, of-one-kind, all}
-use Rattle.rows.specs.Premises.{no-outer}
+use Rattle.rows.specs.Equalities.{all}
+use Rattle.same_rows.specs.SameRows.{Premises}
 use Rattle.sound.specs.HandedOut.{success}
 use Rattle.sound.specs.Operations.{sheet-of}
 use Rattle.theorems.specs.Sizes
@@ -117,23 +116,23 @@ Gives s out (refused number place) o = o ≡ refuse out number place
 Gives s out (done m) o = (needed s m ≤ length out → Hands-out s out m o) × (length out < needed s m → o ≡ refuse out 15 (needed s m))
 
 -- An operation is the Rust's passes: for each of the five, and every sheet and output, it gives check's refusal if there is one; then 14 if and only if one of
--- the pass's sizes (Sizes.antt) is over 2,048 cells; then the Rust's answer. `pass` is one optimizer of optimizer.rs by its number, as defined in crate
--- sql, to be read beside it. It knows no limit of room. Only pass 1, ConstantFolding, refuses (11 to 13), and only 2, 3 and 5 have sizes. Any other number than
--- the five is refused by 1, whatever the bytes are.
+-- the sizes that come up in the pass (Sizes.antt) is over 2,048 cells; then the Rust's answer. `pass` is one optimizer of optimizer.rs by its number, as defined
+-- in crate sql, to be read beside it. It knows no limit of room, and only pass 1, ConstantFolding, refuses (11 to 13). Any other number than the five is refused
+-- by 1, whatever the bytes are.
 pub record Is-one-pass (operation : List ℕ → ℕ → List ℕ → Outcome) : Type 0 where
   pub gives :
       (s : List ℕ) → Bytes s → (k : ℕ) → 1 ≤ k → k ≤ 5 → (out : List ℕ)
       → Gives s out (plan s >>= λ (n : Node). with-room (Sizes.pass (schema s) k n) (pass (schema s) k n)) (operation s k out)
   pub no-other : (s : List ℕ) (k : ℕ) (out : List ℕ) → (k < 1) ⊎ (5 < k) → operation s k out ≡ refuse out 1 0
 
--- The same of all five, `Plan::optimize` in plan.rs. Where ConstantFolding refuses there are no sizes.
+-- The same of all five, `Plan::optimize` in plan.rs. Where ConstantFolding refuses, there are no sizes but those of its visits before.
 abbrev pub Is-all-five : (List ℕ → List ℕ → Outcome) → Type 0
 Is-all-five operation =
     (s : List ℕ) → Bytes s → (out : List ℕ)
     → Gives s out (plan s >>= λ (n : Node). with-room (Sizes.optimize (schema s) n) (optimize (schema s) n)) (operation s out)
 
--- The operations are that. So a sheet that check refuses gets its number and place from every pass; 11 to 13 come from ConstantFolding alone; passes 1 and 4
--- never give 14; and with the bytes that 15 asks for, the sheet is handed out.
+-- The operations are that. So a sheet that check refuses gets its number and place from every pass; 11 to 13 come from ConstantFolding alone; and with the bytes
+-- that 15 asks for, the sheet is handed out.
 abbrev pub One-pass-gives : Type 0
 One-pass-gives = Is-one-pass one-pass
 
@@ -145,36 +144,43 @@ abbrev pub Folding-refuses : Type 0
 Folding-refuses =
     (n : Node) (number place : ℕ) → ConstantFolding 0 n ≡ refused number place → (11 ≤ number) × (number ≤ 13) × (place < node-size n)
 
+-- After each step of ConstantFolding, or of HashJoin, the plan has no more cells than the plan that the pass was given. No plan that a sheet stands for has over
+-- 2,048. So passes 1 and 4 never give 14, and where ConstantFolding refuses, its refusal is the answer.
+abbrev pub Never-larger : Type 0
+Never-larger =
+    (tables : Schema) (n : Node) → all (λ (cells : ℕ). leb cells (node-size n)) (Sizes.pass tables 1 n ++ Sizes.pass tables 4 n) ≡ true
+
+-- The bound on FilterPushdown's recursion, the plan's cells, cuts off no size that counts: with a higher one, some size is over a number of cells if and only if
+-- one is with this.
+abbrev pub Bound-enough : Type 0
+Bound-enough =
+    (tables : Schema) (k room : ℕ) (n : Node) → node-size n ≤ k
+    → all (λ (cells : ℕ). leb cells room) (Sizes.push-filters-from tables k 0 n) ≡ all (λ (cells : ℕ). leb cells room) (Sizes.pass tables 2 n)
+
 -- ======== 3. The passes change no row, from bytes to rows.
 
--- Sheet 0 is handed in, and pass k + 1, which is not refused, hands out sheet k + 1 for sheet k.
+-- Sheet 0 is handed in, and sheet k + 1 is what pass k + 1 hands out for sheet k, into an output that isn't too short for it: 15 is
+-- no step's refusal.
 pub record Passes-in-turn (sheet : ℕ → List ℕ) : Type 0 where
   pub bytes : Bytes (sheet 0)
   pub outputs : ℕ → List ℕ
-  pub not-refused : (k : ℕ) → k < 5 → one-pass (sheet k) (suc k) (outputs k) .numbers .number ≡ 0
+  pub long-enough : (k : ℕ) → k < 5 → one-pass (sheet k) (suc k) (outputs k) .numbers .number ≡ 15 → ⊥
   pub next : (k : ℕ) → k < 5 → sheet (suc k) ≡ sheet-of (one-pass (sheet k) (suc k) (outputs k))
 
--- What is asked of the six plans, read in a database: no join in the plan handed in is outer, none of the six meets a failing expression (so each reads as
--- rows), and each equality of two columns that comes out true in the six readings compares values of one kind.
-pub record Readable (database : Database) (plans : ℕ → Node) (rows : ℕ → List Row) : Type 0 where
-  pub inner : no-outer (plans 0) ≡ true
-  pub reads : (k : ℕ) → k ≤ 5 → read database (plans k) ≡ ok (rows k)
-  pub one-kind : (k : ℕ) → k ≤ 5 → all of-one-kind (equalities database (plans k)) ≡ true
-
--- Five calls of one pass: all six sheets have equally many columns and the same rows, to the bit. A database is any tables as wide as the sheet declares
--- them, with values of any kind, any rule for Order and any function for Aggregate.
+-- Five calls of one pass. A database is any tables as wide as the sheet declares them, with values of any kind, any rule for Order and any function for Aggregate.
+-- Under document 01's premises (crate same_rows, SameRows.antt) on the sheet's plan and the plans after each pass, the six sheets stand for these plans, and have
+-- equally many columns and the same rows, to the bit.
 abbrev pub Same-rows-in-turn : Type 0
 Same-rows-in-turn =
     (sheet : ℕ → List ℕ) (plans : ℕ → Node) (database : Database) (rows : ℕ → List Row)
-    → Passes-in-turn sheet → ((k : ℕ) → k ≤ 5 → plan (sheet k) ≡ done (plans k)) → database .schema ≡ schema (sheet 0) → Readable database plans rows
-    → (k : ℕ) → k ≤ 5 → (check (sheet k) .columns ≡ check (sheet 0) .columns) × (rows k ≡ rows 0)
+    → Passes-in-turn sheet → plan (sheet 0) ≡ done (plans 0) → database .schema ≡ schema (sheet 0) → Premises database plans rows
+    → (k : ℕ) → k ≤ 5 → (plan (sheet k) ≡ done (plans k)) × (check (sheet k) .columns ≡ check (sheet 0) .columns) × (rows k ≡ rows 0)
 
--- One call of all five: plan 0 is that of the sheet handed in, and plan k + 1 is what pass k + 1 makes of plan k. The sheet handed out stands for plan 5; it
--- and all six plans have as many columns as check answers to the sheet handed in, and all six have the same rows.
+-- One call of all five, into an output that isn't too short. The sheet handed out stands for plan 5; it and all six plans have as many columns as check answers to
+-- the sheet handed in, and all six have the same rows.
 abbrev pub Same-rows-all-five : Type 0
 Same-rows-all-five =
     (s out : List ℕ) (plans : ℕ → Node) (database : Database) (rows : ℕ → List Row)
-    → Bytes s → plan s ≡ done (plans 0) → all-five s out .numbers .number ≡ 0 → ((k : ℕ) → k < 5 → pass (schema s) (suc k) (plans k) ≡ done (plans (suc k)))
-    → database .schema ≡ schema s → Readable database plans rows
+    → Bytes s → (all-five s out .numbers .number ≡ 15 → ⊥) → plan s ≡ done (plans 0) → database .schema ≡ schema s → Premises database plans rows
     → (plan (sheet-of (all-five s out)) ≡ done (plans 5)) × (check (sheet-of (all-five s out)) .columns ≡ check s .columns)
     × ((k : ℕ) → k ≤ 5 → (columns (schema s) (plans k) ≡ check s .columns) × (rows k ≡ rows 0))

@@ -53,7 +53,7 @@ fn row(function: &str, name: &str, cells: usize, proved: f64, original: f64) {
     println!("| {function} | {name} | {cells} | {:.1} | {:.1} | {:.2} |", per(proved), per(original), proved / original);
 }
 
-fn given(e: &Rc<Expr>) -> (Vec<usize>, Expression) {
+fn given(e: &Rc<Expr>) -> (Vec<u32>, Expression) {
     let mut s = Vec::new();
     words::of_tree(e, &mut s);
     (s, words::original(e))

@@ -26,14 +26,14 @@ const TOO_LARGE: usize = 60_000;
 /// Columns of the tables, and those of the join's left source.
 const WIDTH: usize = 8;
 
-type Words = Option<Vec<usize>>;
+type Words = Option<Vec<u32>>;
 
 /// What is asked beside the expression.
 #[derive(Clone)]
 pub struct Asked {
     pub left: usize,
-    pub from: usize,
-    pub to: usize,
+    pub from: u32,
+    pub to: u32,
     pub by: usize,
     pub key: usize,
     pub index: Vec<bool>,
@@ -43,7 +43,7 @@ impl Asked {
     pub fn random(rng: &mut Rng) -> Asked {
         let by = rng.pick(&[1, 4, 8, 255, u32::MAX as usize]);
         let index = (0..WIDTH).map(|_| rng.percent(30)).collect();
-        Asked { left: rng.range(0, WIDTH), from: rng.below(WIDTH), to: rng.below(WIDTH), by, key: rng.below(WIDTH), index }
+        Asked { left: rng.range(0, WIDTH), from: rng.below(WIDTH) as u32, to: rng.below(WIDTH) as u32, by, key: rng.below(WIDTH), index }
     }
 }
 
@@ -54,14 +54,14 @@ struct Answers {
     cnf: Words,
     conjuncts: [Words; 3],
     pushed: [Words; 2],
-    fold: Option<Result<Vec<usize>, (u32, usize)>>,
+    fold: Option<Result<Vec<u32>, (u32, usize)>>,
     refers: (bool, bool),
     lookup: Option<usize>,
     values: Words,
     pair: Option<(usize, usize)>,
     columns: [Words; 3],
     /// The first lookup's column and values, and the other conjuncts.
-    index: Option<(usize, Vec<usize>, Vec<usize>)>,
+    index: Option<(usize, Vec<u32>, Vec<u32>)>,
 }
 
 /// On a thread with 1 MiB of stack.
@@ -73,10 +73,10 @@ pub fn on_one_mebibyte<T: Send>(work: impl FnOnce() -> T + Send) -> T {
 }
 
 /// The answers, and whether the two normal forms just fit where they should.
-fn proved(s: &[usize], a: &Asked) -> (Answers, bool) {
-    let (mut x, mut y) = ([0usize; ROOM], [0usize; ROOM]);
-    let mut third = vec![0usize; ROOM];
-    let taken = |d: &[usize], end: Option<usize>| end.map(|n| words::first_references(&d[..n]));
+fn proved(s: &[u32], a: &Asked) -> (Answers, bool) {
+    let (mut x, mut y) = ([0u32; ROOM], [0u32; ROOM]);
+    let mut third = vec![0u32; ROOM];
+    let taken = |d: &[u32], end: Option<usize>| end.map(|n| words::first_references(&d[..n]));
     let mut r = Answers { refers: calls::refers(s, a.left), lookup: calls::is_column_lookup(s), pair: calls::equijoin(s), ..Answers::default() };
     let end = calls::replace_column(s, &mut x, a.from, a.to);
     r.columns[0] = taken(&x, end);
@@ -106,8 +106,8 @@ fn proved(s: &[usize], a: &Asked) -> (Answers, bool) {
 }
 
 /// What is asked of the conjuncts of a normal form.
-fn after_cnf(r: &mut Answers, cnf: &[usize], a: &Asked, g: &mut [usize], d: &mut [usize]) {
-    let taken = |d: &[usize], end: Option<usize>| end.map(|n| words::first_references(&d[..n]));
+fn after_cnf(r: &mut Answers, cnf: &[u32], a: &Asked, g: &mut [u32], d: &mut [u32]) {
+    let taken = |d: &[u32], end: Option<usize>| end.map(|n| words::first_references(&d[..n]));
     let end = calls::for_both(cnf, d, a.left);
     r.conjuncts[2] = taken(d, end);
     let end = calls::for_left(cnf, g, a.left);
@@ -181,15 +181,15 @@ pub fn join(predicate: Expression, left: usize) -> Node {
 }
 
 /// The words of an and_vec; none is no words.
-fn and_words(es: Vec<Expression>) -> Vec<usize> {
+fn and_words(es: Vec<Expression>) -> Vec<u32> {
     Expression::and_vec(es).map_or(Vec::new(), |e| words::of_original(&e))
 }
 
-pub fn option_words(e: &Option<Expression>) -> Vec<usize> {
+pub fn option_words(e: &Option<Expression>) -> Vec<u32> {
     e.as_ref().map_or(Vec::new(), words::of_original)
 }
 
-fn within(w: Vec<usize>) -> Words {
+fn within(w: Vec<u32>) -> Words {
     (w.len() <= ROOM).then_some(w)
 }
 
@@ -229,7 +229,7 @@ impl Counts {
 }
 
 /// Folds by the model, which knows cells, and by toyDB, which knows messages. Gives how it is settled, and the answer.
-pub fn folded(e: &Rc<Expr>, original: &Expression) -> (usize, Result<Vec<usize>, (u32, usize)>) {
+pub fn folded(e: &Rc<Expr>, original: &Expression) -> (usize, Result<Vec<u32>, (u32, usize)>) {
     let root = tree::Node::Values { rows: vec![vec![e.clone()]] };
     let sheet = Sheet { text: TEXT.to_vec(), tables: Vec::new(), columns: Vec::new(), root };
     // The sheet's other two cells don't count.
@@ -255,6 +255,8 @@ pub fn compare(counts: &mut Counts, case: &str, e: &Rc<Expr>, a: &Asked) {
     let mut s = Vec::new();
     words::of_tree(&e, &mut s);
     assert!(s.len() <= ROOM, "{case}: an expression has at most 2,048 cells");
+    // Columns that are shifted up have to fit a word still: the contract asks for that.
+    let a = &Asked { by: a.by.min(words::highest_shift(&s)), ..a.clone() };
     let original = words::original(&e);
     counts.expressions += 1;
     counts.largest = counts.largest.max(s.len() / 6);
@@ -283,7 +285,7 @@ pub fn compare(counts: &mut Counts, case: &str, e: &Rc<Expr>, a: &Asked) {
         _ => None,
     };
     counts.say("equijoin", 0, case, &answers.pair, &pair);
-    let replaced = words::of_original(&original.clone().replace_column(a.from, a.to));
+    let replaced = words::of_original(&original.clone().replace_column(a.from as usize, a.to as usize));
     counts.words("replace_column", case, &answers.columns[0], &Some(replaced));
     // The port's numbers don't go below 0; toyDB never shifts a left column down.
     if !left {

@@ -29,7 +29,7 @@ fn used(call: impl FnOnce()) -> usize {
 
 fn ignore<T>(_: T) {}
 
-type Call = fn(&[usize], &mut [usize]);
+type Call = fn(&[u32], &mut [u32]);
 
 /// The records of eight columns without an index, and a key that the expressions below don't look up, so that every conjunct is asked.
 const COLUMNS: [u8; 16 * 8] = [0; 16 * 8];
@@ -90,7 +90,7 @@ pub fn stack() {
         let measure = |e: &Rc<Expr>| {
             let mut s = Vec::new();
             words::of_tree(e, &mut s);
-            let mut d = vec![0usize; ROOM];
+            let mut d = vec![0u32; ROOM];
             used(|| call(&s, &mut d))
         };
         let mut rows: Vec<_> = (0..full.len()).map(|i| (measure(&full[i].1), measure(&half[i].1), i)).collect();

@@ -1,5 +1,5 @@
-//! Expressions in their working form: postfix cells of six words, tag, flag, a, b, c and the number of words of the subtree that ends with the cell.
-//! From a tree, and from toyDB's `Expression`, each by its own lines.
+//! Expressions in their working form: postfix cells of six words of 32 bits, tag, flag, a, b, c and the number of words of the subtree that ends with the
+//! cell. From a tree, and from toyDB's `Expression`, each by its own lines.
 
 use std::rc::Rc;
 
@@ -19,31 +19,31 @@ pub fn reference(i: usize) -> u32 {
 }
 
 /// The first reference to a text: toyDB's Strings know no reference, so texts are compared.
-fn first_reference(text: &[u8]) -> usize {
+fn first_reference(text: &[u8]) -> u32 {
     let all = (0..REFERENCES.len()).map(reference);
-    all.into_iter().find(|&r| text_of(TEXT, r) == text).expect("a text of the pool") as usize
+    all.into_iter().find(|&r| text_of(TEXT, r) == text).expect("a text of the pool")
 }
 
-fn put(words: &mut Vec<usize>, start: usize, tag: u8, a: usize, b: usize) {
+fn put(words: &mut Vec<u32>, start: usize, tag: u8, a: u32, b: u32) {
     let size = words.len() - start + 6;
-    words.extend([tag as usize, 0, a, b, 0, size]);
+    words.extend([tag as u32, 0, a, b, 0, size as u32]);
 }
 
-fn halves(words: &mut Vec<usize>, tag: u8, bits: u64) {
+fn halves(words: &mut Vec<u32>, tag: u8, bits: u64) {
     let start = words.len();
-    put(words, start, tag, (bits & 0xffff_ffff) as usize, (bits >> 32) as usize);
+    put(words, start, tag, bits as u32, (bits >> 32) as u32);
 }
 
 /// The words of a tree.
-pub fn of_tree(e: &Expr, words: &mut Vec<usize>) {
+pub fn of_tree(e: &Expr, words: &mut Vec<u32>) {
     let start = words.len();
     match &e.op {
         Op::Const(Val::Null) => put(words, start, tag::NULL, 0, 0),
-        Op::Const(Val::Bool(b)) => put(words, start, tag::BOOLEAN, *b as usize, 0),
+        Op::Const(Val::Bool(b)) => put(words, start, tag::BOOLEAN, *b as u32, 0),
         Op::Const(Val::Int(i)) => halves(words, tag::INTEGER, *i as u64),
         Op::Const(Val::Float(bits)) => halves(words, tag::FLOAT, *bits),
-        Op::Const(Val::Str(r)) => put(words, start, tag::STRING, *r as usize, 0),
-        Op::Col(c) => put(words, start, tag::COLUMN, *c as usize, 0),
+        Op::Const(Val::Str(r)) => put(words, start, tag::STRING, *r, 0),
+        Op::Col(c) => put(words, start, tag::COLUMN, *c, 0),
         Op::One(op, x) => {
             of_tree(x, words);
             put(words, start, *op, 0, 0);
@@ -56,11 +56,11 @@ pub fn of_tree(e: &Expr, words: &mut Vec<usize>) {
     }
 }
 
-fn of_value(v: &Value, words: &mut Vec<usize>) {
+fn of_value(v: &Value, words: &mut Vec<u32>) {
     let start = words.len();
     match v {
         Value::Null => put(words, start, tag::NULL, 0, 0),
-        Value::Boolean(b) => put(words, start, tag::BOOLEAN, *b as usize, 0),
+        Value::Boolean(b) => put(words, start, tag::BOOLEAN, *b as u32, 0),
         Value::Integer(i) => halves(words, tag::INTEGER, *i as u64),
         // A NaN has the one pattern (docs/DIFFERENCES.md).
         Value::Float(f) => halves(words, tag::FLOAT, if f.is_nan() { NAN } else { f.to_bits() }),
@@ -69,18 +69,18 @@ fn of_value(v: &Value, words: &mut Vec<usize>) {
 }
 
 /// The words of toyDB's values, one after the other.
-pub fn of_values(values: &[Value]) -> Vec<usize> {
+pub fn of_values(values: &[Value]) -> Vec<u32> {
     let mut words = Vec::new();
     values.iter().for_each(|v| of_value(v, &mut words));
     words
 }
 
-fn append(e: &Expression, words: &mut Vec<usize>) {
+fn append(e: &Expression, words: &mut Vec<u32>) {
     use Expression::*;
     let start = words.len();
     let (tag, l, r) = match e {
         Constant(v) => return of_value(v, words),
-        Column(c) => return put(words, start, tag::COLUMN, *c, 0),
+        Column(c) => return put(words, start, tag::COLUMN, u32::try_from(*c).expect("a column that fits a word"), 0),
         And(l, r) => (tag::AND, l, Some(r)),
         Or(l, r) => (tag::OR, l, Some(r)),
         Equal(l, r) => (tag::EQUAL, l, Some(r)),
@@ -103,19 +103,25 @@ fn append(e: &Expression, words: &mut Vec<usize>) {
 }
 
 /// The words of toyDB's expression, with the first reference to each text.
-pub fn of_original(e: &Expression) -> Vec<usize> {
+pub fn of_original(e: &Expression) -> Vec<u32> {
     let mut words = Vec::new();
     append(e, &mut words);
     words
 }
 
 /// Words with the first reference to each text.
-pub fn first_references(words: &[usize]) -> Vec<usize> {
+pub fn first_references(words: &[u32]) -> Vec<u32> {
     let mut words = words.to_vec();
-    for cell in words.chunks_mut(6).filter(|cell| cell[0] == tag::STRING as usize) {
-        cell[2] = first_reference(text_of(TEXT, cell[2] as u32));
+    for cell in words.chunks_mut(6).filter(|cell| cell[0] == tag::STRING as u32) {
+        cell[2] = first_reference(text_of(TEXT, cell[2]));
     }
     words
+}
+
+/// The most that an expression's columns can be shifted up by: the highest of them has to fit a word.
+pub fn highest_shift(words: &[u32]) -> usize {
+    let columns = words.chunks(6).filter(|cell| cell[0] == tag::COLUMN as u32).map(|cell| cell[2]);
+    (u32::MAX - columns.max().unwrap_or(0)) as usize
 }
 
 /// toyDB's expression of a tree.

@@ -175,6 +175,31 @@ fn deep_and_wide() {
     });
 }
 
+/// The widest plan: 1,024 Scans of 256 columns, 1,023 joins and a predicate of the last of their 262,144 columns. Passes 2 and all five move it to the last Scan, of
+/// which it is column 255; the others leave the plan as it is. The column behind the last is out of scope.
+#[test]
+fn most_columns() {
+    on_small_stack(|| {
+        for left in [true, false] {
+            let mut cells = joins(1024, left);
+            let last_scan = if left { 2045 } else { 1023 };
+            let moved = [&cells[..last_scan], &scan_with(&[column(255)]), &cells[last_scan + 1..]].concat();
+            cells.splice(2046.., [column(262_143), cell(56, 1, 0, 0, 0)]);
+            let (sheet, moved) = (over_table(256, &cells), over_table(256, &moved));
+            assert_eq!(check(&sheet), Ok(Accepted { cells: 2048, columns: 262_144 }));
+            for number in 1..=6 {
+                let mut output = output();
+                let written = Written { length: 36_900, cells: 2048, columns: 262_144 };
+                assert_eq!(operate(number, &sheet, &mut output), Ok(written), "{number}");
+                let expected = if [2, 6].contains(&number) { &moved } else { &sheet };
+                assert!(output[..36_900] == expected[..], "{number}");
+            }
+            cells[2046] = column(262_144);
+            refused(&over_table(256, &cells), 9, 2046);
+        }
+    });
+}
+
 /// The same answer from the passes but for those named; 6 is all five.
 fn but(all: u64, others: &[(usize, Result<u64, u64>)]) -> [Result<u64, u64>; 6] {
     let mut answers = [Ok(all); 6];

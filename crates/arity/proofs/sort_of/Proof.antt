@@ -13,6 +13,9 @@ expression-sort-requires c κs = search needs
 returns : tie.Need-returns
 returns c = search needs
 
+cast-result : tie.Need-cast-result
+cast-result c = search needs
+
 add-result : tie.Need-add-result
 add-result c = search needs
 
@@ -31,4 +34,12 @@ returns-5 c = unsorted (omega arith)
 pub sort-of-spec : {M : Type 1} → statement M
 sort-of-spec =
     tie.close
-    (tie.spec expression-sort-requires returns add-result returns-2 returns-3 returns-4 returns-5)
+    (tie.spec
+    expression-sort-requires
+    returns
+    cast-result
+    add-result
+    returns-2
+    returns-3
+    returns-4
+    returns-5)

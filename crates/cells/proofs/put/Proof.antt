@@ -1,5 +1,7 @@
 use Prim.Native.Nat.{_+_, _-_}
-use Rattle.cells.proofs.Laws.{put6, seals-low, seals-full, seals}
+use Rattle.cells.proofs.Laws.{put6, seals-not, seals}
+use mathlib.Core.Logic.{inl, inr}
+use mathlib.Core.Path.{refl}
 use lib.ListN.{length-set}
 use native.Mathlib.Omega.{arith}
 use borrow.Author.Needs.{needs}
@@ -7,16 +9,19 @@ use Rattle.cells.proofs.put.Statement.{statement}
 use Rattle.cells.proofs.put.Tie as tie
 
 returns : tie.Need-returns
-returns c = seals-low (c .before .args .k) (omega arith) (omega arith)
+returns c = seals-not (c .before .args .k) (inl (omega arith)) (omega arith)
 
 returns-2 : tie.Need-returns-2
-returns-2 c = seals-full (c .before .before .args .k) (omega arith) (omega arith)
+returns-2 c = seals-not (c .before .before .args .k) (inr (inl (omega arith))) (omega arith)
 
 sub-if3 : tie.Need-sub-if3
 sub-if3 c = search needs
 
 returns-3 : tie.Need-returns-3
-returns-3 c = seals-full (c .before .before .before .args .k) (omega arith) (omega arith)
+returns-3 c = seals-not (c .before .before .before .args .k) (inr (inl (omega arith))) (omega arith)
+
+returns-4 : tie.Need-returns-4
+returns-4 c = seals-not (c .before .before .before .before .args .k) (inr (inr (omega arith))) (omega arith)
 
 mul-d : tie.Need-mul-d
 mul-d c = search needs
@@ -63,6 +68,9 @@ slice-write-d-5 c = simp length-set (omega arith)
 add-d-5 : tie.Need-add-d-5
 add-d-5 c = search needs
 
+cast-d : tie.Need-cast-d
+cast-d c = search needs
+
 add-d-6 : tie.Need-add-d-6
 add-d-6 c = search needs
 
@@ -76,10 +84,10 @@ add-result : tie.Need-add-result
 add-result c = search needs
 
 same-length : tie.Need-same-length
-same-length c = search needs
+same-length c = simp length-set refl
 
-returns-4 : tie.Need-returns-4
-returns-4 c = let a = c .before .before .before .args in seals (a .k) (omega arith) (omega arith) (put6 (a .d .now) (a .at) (a .k .tag) (a .k .flag) (a .k .a) (a .k .b) (a .k .c) (a .at - a .lo + 6) (omega arith))
+returns-5 : tie.Need-returns-5
+returns-5 c = let a = c .before .before .before .before .args in seals (a .k) (omega arith) (omega arith) (put6 (a .d .now) (a .at) (a .k .tag) (a .k .flag) (a .k .a) (a .k .b) (a .k .c) (a .at - a .lo + 6) (omega arith))
 
 pub put-spec : {M : Type 1} → statement M
 put-spec =
@@ -89,6 +97,7 @@ put-spec =
     returns-2
     sub-if3
     returns-3
+    returns-4
     mul-d
     slice-write-d
     add-d
@@ -104,9 +113,10 @@ put-spec =
     mul-d-5
     slice-write-d-5
     add-d-5
+    cast-d
     add-d-6
     mul-d-6
     slice-write-d-6
     add-result
     same-length
-    returns-4)
+    returns-5)

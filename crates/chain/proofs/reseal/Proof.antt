@@ -37,6 +37,9 @@ add-size c = search needs
 sub-size : tie.Need-sub-size Inv-loop μ-loop
 sub-size c = search needs
 
+cast-size : tie.Need-cast-size Inv-loop μ-loop
+cast-size c = search needs
+
 add-size-2 : tie.Need-add-size-2 Inv-loop μ-loop
 add-size-2 c = search needs
 
@@ -86,6 +89,7 @@ reseal-spec =
     slice-read-size
     add-size
     sub-size
+    cast-size
     add-size-2
     mul-size-2
     slice-read-size-2

@@ -4,7 +4,7 @@ use Rattle.column_numbers.proofs.shift_column_up.Statement.{statement}
 use Rattle.column_numbers.proofs.shift_column_up.Tie as tie
 
 map-columns-requires : tie.Need-map-columns-requires
-map-columns-requires c κs = up (c .before .before .before .args .n) (c .before .before .before .pre .1) (c .before .before .before .pre .0)
+map-columns-requires c κs = up (c .before .before .before .args .n) (c .before .before .before .pre)
 
 same-length : tie.Need-same-length
 same-length c = search needs

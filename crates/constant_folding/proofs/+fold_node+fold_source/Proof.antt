@@ -61,19 +61,19 @@ fold-node-last-source-requires : (t : ℕ) → fold-node-lts.Need-last-source-re
 fold-node-last-source-requires t c κs = sources-at (c .own-start .ensures) ((below-in (c .before .descend-bare .ensures .down) (c .before .before .before .before .before .pre .1 .0 .1) (c .before .before .before .before .before .pre .1 .0 .0)) .0) (below-at (c .before .descend-bare .ensures .down) (c .before .before .before .before .before .pre .1 .0 .1) (c .before .before .before .before .before .pre .1 .0 .0))
 
 fold-node-fold-source-requires : (t : ℕ) → fold-node-lts.Need-fold-source-requires (fold-node-claims t) (fold-node-at t) fold-node.Post
-fold-node-fold-source-requires t c κs = let (i, (j, k)) = own-in (c .before .before .own-start .ensures) ((below-in (c .before .before .before .descend-bare .ensures .down) (c .before .before .before .before .before .before .before .pre .1 .0 .1) (c .before .before .before .before .before .before .before .pre .1 .0 .0)) .0) (below-at (c .before .before .before .descend-bare .ensures .down) (c .before .before .before .before .before .before .before .pre .1 .0 .1) (c .before .before .before .before .before .before .before .pre .1 .0 .0)) in let (a, b) = mid-in (c .before .before .own-start .ensures) (c .before .last-source .ensures) ((below-in (c .before .before .before .descend-bare .ensures .down) (c .before .before .before .before .before .before .before .pre .1 .0 .1) (c .before .before .before .before .before .before .before .pre .1 .0 .0)) .0) (below-at (c .before .before .before .descend-bare .ensures .down) (c .before .before .before .before .before .before .before .pre .1 .0 .1) (c .before .before .before .before .before .before .before .pre .1 .0 .0)) in let (b₁, (b₂, b₃)) = below-in (c .before .before .before .descend-bare .ensures .down) (c .before .before .before .before .before .before .before .pre .1 .0 .1) (c .before .before .before .before .before .before .before .pre .1 .0 .0) in (omega (arith, c .before .before .before .before .before .before .before .pre .0), (earlier-at (c .before .before .own-start .ensures) (c .before .last-source .ensures) ((below-in (c .before .before .before .descend-bare .ensures .down) (c .before .before .before .before .before .before .before .pre .1 .0 .1) (c .before .before .before .before .before .before .before .pre .1 .0 .0)) .0) (below-at (c .before .before .before .descend-bare .ensures .down) (c .before .before .before .before .before .before .before .pre .1 .0 .1) (c .before .before .before .before .before .before .before .pre .1 .0 .0)), omega (arith, c .before .before .before .before .before .before .before .pre .1 .1)))
+fold-node-fold-source-requires t c κs = let (i, (j, k)) = own-in (c .before .before .own-start .ensures) ((below-in (c .before .before .before .descend-bare .ensures .down) (c .before .before .before .before .before .before .before .pre .1 .0 .1) (c .before .before .before .before .before .before .before .pre .1 .0 .0)) .0) (below-at (c .before .before .before .descend-bare .ensures .down) (c .before .before .before .before .before .before .before .pre .1 .0 .1) (c .before .before .before .before .before .before .before .pre .1 .0 .0)) in let (a, b) = mid-in (c .before .before .own-start .ensures) (c .before .last-source .ensures) ((below-in (c .before .before .before .descend-bare .ensures .down) (c .before .before .before .before .before .before .before .pre .1 .0 .1) (c .before .before .before .before .before .before .before .pre .1 .0 .0)) .0) (below-at (c .before .before .before .descend-bare .ensures .down) (c .before .before .before .before .before .before .before .pre .1 .0 .1) (c .before .before .before .before .before .before .before .pre .1 .0 .0)) in let (b₁, (b₂, b₃)) = below-in (c .before .before .before .descend-bare .ensures .down) (c .before .before .before .before .before .before .before .pre .1 .0 .1) (c .before .before .before .before .before .before .before .pre .1 .0 .0) in (omega (arith, c .before .before .before .before .before .before .before .pre .0), (earlier-at (c .before .before .own-start .ensures) (c .before .last-source .ensures) ((below-in (c .before .before .before .descend-bare .ensures .down) (c .before .before .before .before .before .before .before .pre .1 .0 .1) (c .before .before .before .before .before .before .before .pre .1 .0 .0)) .0) (below-at (c .before .before .before .descend-bare .ensures .down) (c .before .before .before .before .before .before .before .pre .1 .0 .1) (c .before .before .before .before .before .before .before .pre .1 .0 .0)), (omega (arith, c .before .before .before .before .before .before .before .pre .1 .1 .0), c .before .before .before .before .before .before .before .pre .1 .1 .1)))
 
 fold-node-enum-known-e : (t : ℕ) → fold-node-lts.Need-enum-known-e (fold-node-claims t) (fold-node-at t) fold-node.Post
 fold-node-enum-known-e t c = search needs
 
 fold-node-fold-source-requires-2 : (t : ℕ) → fold-node-lts.Need-fold-source-requires-2 (fold-node-claims t) (fold-node-at t) fold-node.Post
-fold-node-fold-source-requires-2 t c κs = let (i, (j, k)) = own-in (c .before .before .before .before .before .before .before .before .before .own-start .ensures) ((below-in (c .before .before .before .before .before .before .before .before .before .before .descend-bare .ensures .down) (c .before .before .before .before .before .before .before .before .before .before .before .before .before .before .pre .1 .0 .1) (c .before .before .before .before .before .before .before .before .before .before .before .before .before .before .pre .1 .0 .0)) .0) (below-at (c .before .before .before .before .before .before .before .before .before .before .descend-bare .ensures .down) (c .before .before .before .before .before .before .before .before .before .before .before .before .before .before .pre .1 .0 .1) (c .before .before .before .before .before .before .before .before .before .before .before .before .before .before .pre .1 .0 .0)) in let (a, b) = mid-in (c .before .before .before .before .before .before .before .before .before .own-start .ensures) (c .before .before .before .before .before .before .before .before .last-source .ensures) ((below-in (c .before .before .before .before .before .before .before .before .before .before .descend-bare .ensures .down) (c .before .before .before .before .before .before .before .before .before .before .before .before .before .before .pre .1 .0 .1) (c .before .before .before .before .before .before .before .before .before .before .before .before .before .before .pre .1 .0 .0)) .0) (below-at (c .before .before .before .before .before .before .before .before .before .before .descend-bare .ensures .down) (c .before .before .before .before .before .before .before .before .before .before .before .before .before .before .pre .1 .0 .1) (c .before .before .before .before .before .before .before .before .before .before .before .before .before .before .pre .1 .0 .0)) in let (b₁, (b₂, b₃)) = below-in (c .before .before .before .before .before .before .before .before .before .before .descend-bare .ensures .down) (c .before .before .before .before .before .before .before .before .before .before .before .before .before .before .pre .1 .0 .1) (c .before .before .before .before .before .before .before .before .before .before .before .before .before .before .pre .1 .0 .0) in (omega (arith, c .before .before .before .before .before .before .before .before .before .before .before .before .before .before .pre .0), (last-at (c .before .before .before .before .before .before .before .before .before .own-start .ensures) (c .before .before .before .before .before .before .before .before .last-source .ensures) ((below-in (c .before .before .before .before .before .before .before .before .before .before .descend-bare .ensures .down) (c .before .before .before .before .before .before .before .before .before .before .before .before .before .before .pre .1 .0 .1) (c .before .before .before .before .before .before .before .before .before .before .before .before .before .before .pre .1 .0 .0)) .0) (below-at (c .before .before .before .before .before .before .before .before .before .before .descend-bare .ensures .down) (c .before .before .before .before .before .before .before .before .before .before .before .before .before .before .pre .1 .0 .1) (c .before .before .before .before .before .before .before .before .before .before .before .before .before .before .pre .1 .0 .0)), omega (arith, c .before .before .before .before .before .before .before .before .before .before .before .before .before .before .pre .1 .1, source-bound (c .before .before .e .given .1) (c .before .before .before .before .before .before .fold-source .ensures), c .before .before .before .before .before .before .fold-source .kept .1 .1 .1 .1 .0)))
+fold-node-fold-source-requires-2 t c κs = let (i, (j, k)) = own-in (c .before .before .before .before .before .before .before .before .before .own-start .ensures) ((below-in (c .before .before .before .before .before .before .before .before .before .before .descend-bare .ensures .down) (c .before .before .before .before .before .before .before .before .before .before .before .before .before .before .pre .1 .0 .1) (c .before .before .before .before .before .before .before .before .before .before .before .before .before .before .pre .1 .0 .0)) .0) (below-at (c .before .before .before .before .before .before .before .before .before .before .descend-bare .ensures .down) (c .before .before .before .before .before .before .before .before .before .before .before .before .before .before .pre .1 .0 .1) (c .before .before .before .before .before .before .before .before .before .before .before .before .before .before .pre .1 .0 .0)) in let (a, b) = mid-in (c .before .before .before .before .before .before .before .before .before .own-start .ensures) (c .before .before .before .before .before .before .before .before .last-source .ensures) ((below-in (c .before .before .before .before .before .before .before .before .before .before .descend-bare .ensures .down) (c .before .before .before .before .before .before .before .before .before .before .before .before .before .before .pre .1 .0 .1) (c .before .before .before .before .before .before .before .before .before .before .before .before .before .before .pre .1 .0 .0)) .0) (below-at (c .before .before .before .before .before .before .before .before .before .before .descend-bare .ensures .down) (c .before .before .before .before .before .before .before .before .before .before .before .before .before .before .pre .1 .0 .1) (c .before .before .before .before .before .before .before .before .before .before .before .before .before .before .pre .1 .0 .0)) in let (b₁, (b₂, b₃)) = below-in (c .before .before .before .before .before .before .before .before .before .before .descend-bare .ensures .down) (c .before .before .before .before .before .before .before .before .before .before .before .before .before .before .pre .1 .0 .1) (c .before .before .before .before .before .before .before .before .before .before .before .before .before .before .pre .1 .0 .0) in (omega (arith, c .before .before .before .before .before .before .before .before .before .before .before .before .before .before .pre .0), (last-at (c .before .before .before .before .before .before .before .before .before .own-start .ensures) (c .before .before .before .before .before .before .before .before .last-source .ensures) ((below-in (c .before .before .before .before .before .before .before .before .before .before .descend-bare .ensures .down) (c .before .before .before .before .before .before .before .before .before .before .before .before .before .before .pre .1 .0 .1) (c .before .before .before .before .before .before .before .before .before .before .before .before .before .before .pre .1 .0 .0)) .0) (below-at (c .before .before .before .before .before .before .before .before .before .before .descend-bare .ensures .down) (c .before .before .before .before .before .before .before .before .before .before .before .before .before .before .pre .1 .0 .1) (c .before .before .before .before .before .before .before .before .before .before .before .before .before .before .pre .1 .0 .0)), (omega (arith, c .before .before .before .before .before .before .before .before .before .before .before .before .before .before .pre .1 .1 .0, source-bound (c .before .before .e .given .1) (c .before .before .before .before .before .before .fold-source .ensures), c .before .before .before .before .before .before .fold-source .kept .1 .1 .1 .1 .0), omega (arith, c .before .before .before .before .before .before .before .before .before .before .before .before .before .before .pre .1 .1 .1, c .before .before .before .before .before .before .fold-source .kept .1 .1 .1 .1 .0))))
 
 fold-node-enum-known-f : (t : ℕ) → fold-node-lts.Need-enum-known-f (fold-node-claims t) (fold-node-at t) fold-node.Post
 fold-node-enum-known-f t c = search needs
 
 fold-node-fold-own-requires : (t : ℕ) → fold-node-lts.Need-fold-own-requires (fold-node-claims t) (fold-node-at t) fold-node.Post
-fold-node-fold-own-requires t c κs = let (i, (j, k)) = own-in (c .before .before .before .before .before .before .before .before .before .before .before .before .before .before .before .before .own-start .ensures) ((below-in (c .before .before .before .before .before .before .before .before .before .before .before .before .before .before .before .before .before .descend-bare .ensures .down) (c .before .before .before .before .before .before .before .before .before .before .before .before .before .before .before .before .before .before .before .before .before .pre .1 .0 .1) (c .before .before .before .before .before .before .before .before .before .before .before .before .before .before .before .before .before .before .before .before .before .pre .1 .0 .0)) .0) (below-at (c .before .before .before .before .before .before .before .before .before .before .before .before .before .before .before .before .before .descend-bare .ensures .down) (c .before .before .before .before .before .before .before .before .before .before .before .before .before .before .before .before .before .before .before .before .before .pre .1 .0 .1) (c .before .before .before .before .before .before .before .before .before .before .before .before .before .before .before .before .before .before .before .before .before .pre .1 .0 .0)) in let (a, b) = mid-in (c .before .before .before .before .before .before .before .before .before .before .before .before .before .before .before .before .own-start .ensures) (c .before .before .before .before .before .before .before .before .before .before .before .before .before .before .before .last-source .ensures) ((below-in (c .before .before .before .before .before .before .before .before .before .before .before .before .before .before .before .before .before .descend-bare .ensures .down) (c .before .before .before .before .before .before .before .before .before .before .before .before .before .before .before .before .before .before .before .before .before .pre .1 .0 .1) (c .before .before .before .before .before .before .before .before .before .before .before .before .before .before .before .before .before .before .before .before .before .pre .1 .0 .0)) .0) (below-at (c .before .before .before .before .before .before .before .before .before .before .before .before .before .before .before .before .before .descend-bare .ensures .down) (c .before .before .before .before .before .before .before .before .before .before .before .before .before .before .before .before .before .before .before .before .before .pre .1 .0 .1) (c .before .before .before .before .before .before .before .before .before .before .before .before .before .before .before .before .before .before .before .before .before .pre .1 .0 .0)) in let (b₁, (b₂, b₃)) = below-in (c .before .before .before .before .before .before .before .before .before .before .before .before .before .before .before .before .before .descend-bare .ensures .down) (c .before .before .before .before .before .before .before .before .before .before .before .before .before .before .before .before .before .before .before .before .before .pre .1 .0 .1) (c .before .before .before .before .before .before .before .before .before .before .before .before .before .before .before .before .before .before .before .before .before .pre .1 .0 .0) in ((own-at (c .before .before .before .before .before .before .before .before .before .before .before .before .before .before .before .before .own-start .ensures) ((below-in (c .before .before .before .before .before .before .before .before .before .before .before .before .before .before .before .before .before .descend-bare .ensures .down) (c .before .before .before .before .before .before .before .before .before .before .before .before .before .before .before .before .before .before .before .before .before .pre .1 .0 .1) (c .before .before .before .before .before .before .before .before .before .before .before .before .before .before .before .before .before .before .before .before .before .pre .1 .0 .0)) .0) (below-at (c .before .before .before .before .before .before .before .before .before .before .before .before .before .before .before .before .before .descend-bare .ensures .down) (c .before .before .before .before .before .before .before .before .before .before .before .before .before .before .before .before .before .before .before .before .before .pre .1 .0 .1) (c .before .before .before .before .before .before .before .before .before .before .before .before .before .before .before .before .before .before .before .before .before .pre .1 .0 .0))), omega (arith, c .before .before .before .before .before .before .before .before .before .before .before .before .before .before .before .before .before .before .before .before .before .pre .1 .1, source-bound (c .before .before .before .before .before .before .before .before .before .e .given .1) (c .before .before .before .before .before .before .before .before .before .before .before .before .before .fold-source .ensures), source-bound (c .before .before .f .given .1) (c .before .before .before .before .before .before .fold-source2 .ensures), c .before .before .before .before .before .before .before .before .before .before .before .before .before .fold-source .kept .1 .1 .1 .1 .0, c .before .before .before .before .before .before .fold-source2 .kept .1 .1 .1 .1 .0))
+fold-node-fold-own-requires t c κs = let (i, (j, k)) = own-in (c .before .before .before .before .before .before .before .before .before .before .before .before .before .before .before .before .own-start .ensures) ((below-in (c .before .before .before .before .before .before .before .before .before .before .before .before .before .before .before .before .before .descend-bare .ensures .down) (c .before .before .before .before .before .before .before .before .before .before .before .before .before .before .before .before .before .before .before .before .before .pre .1 .0 .1) (c .before .before .before .before .before .before .before .before .before .before .before .before .before .before .before .before .before .before .before .before .before .pre .1 .0 .0)) .0) (below-at (c .before .before .before .before .before .before .before .before .before .before .before .before .before .before .before .before .before .descend-bare .ensures .down) (c .before .before .before .before .before .before .before .before .before .before .before .before .before .before .before .before .before .before .before .before .before .pre .1 .0 .1) (c .before .before .before .before .before .before .before .before .before .before .before .before .before .before .before .before .before .before .before .before .before .pre .1 .0 .0)) in let (a, b) = mid-in (c .before .before .before .before .before .before .before .before .before .before .before .before .before .before .before .before .own-start .ensures) (c .before .before .before .before .before .before .before .before .before .before .before .before .before .before .before .last-source .ensures) ((below-in (c .before .before .before .before .before .before .before .before .before .before .before .before .before .before .before .before .before .descend-bare .ensures .down) (c .before .before .before .before .before .before .before .before .before .before .before .before .before .before .before .before .before .before .before .before .before .pre .1 .0 .1) (c .before .before .before .before .before .before .before .before .before .before .before .before .before .before .before .before .before .before .before .before .before .pre .1 .0 .0)) .0) (below-at (c .before .before .before .before .before .before .before .before .before .before .before .before .before .before .before .before .before .descend-bare .ensures .down) (c .before .before .before .before .before .before .before .before .before .before .before .before .before .before .before .before .before .before .before .before .before .pre .1 .0 .1) (c .before .before .before .before .before .before .before .before .before .before .before .before .before .before .before .before .before .before .before .before .before .pre .1 .0 .0)) in let (b₁, (b₂, b₃)) = below-in (c .before .before .before .before .before .before .before .before .before .before .before .before .before .before .before .before .before .descend-bare .ensures .down) (c .before .before .before .before .before .before .before .before .before .before .before .before .before .before .before .before .before .before .before .before .before .pre .1 .0 .1) (c .before .before .before .before .before .before .before .before .before .before .before .before .before .before .before .before .before .before .before .before .before .pre .1 .0 .0) in ((own-at (c .before .before .before .before .before .before .before .before .before .before .before .before .before .before .before .before .own-start .ensures) ((below-in (c .before .before .before .before .before .before .before .before .before .before .before .before .before .before .before .before .before .descend-bare .ensures .down) (c .before .before .before .before .before .before .before .before .before .before .before .before .before .before .before .before .before .before .before .before .before .pre .1 .0 .1) (c .before .before .before .before .before .before .before .before .before .before .before .before .before .before .before .before .before .before .before .before .before .pre .1 .0 .0)) .0) (below-at (c .before .before .before .before .before .before .before .before .before .before .before .before .before .before .before .before .before .descend-bare .ensures .down) (c .before .before .before .before .before .before .before .before .before .before .before .before .before .before .before .before .before .before .before .before .before .pre .1 .0 .1) (c .before .before .before .before .before .before .before .before .before .before .before .before .before .before .before .before .before .before .before .before .before .pre .1 .0 .0))), (omega (arith, c .before .before .before .before .before .before .before .before .before .before .before .before .before .before .before .before .before .before .before .before .before .pre .1 .1 .0, source-bound (c .before .before .before .before .before .before .before .before .before .e .given .1) (c .before .before .before .before .before .before .before .before .before .before .before .before .before .fold-source .ensures), source-bound (c .before .before .f .given .1) (c .before .before .before .before .before .before .fold-source2 .ensures), c .before .before .before .before .before .before .before .before .before .before .before .before .before .fold-source .kept .1 .1 .1 .1 .0, c .before .before .before .before .before .before .fold-source2 .kept .1 .1 .1 .1 .0), omega (arith, c .before .before .before .before .before .before .before .before .before .before .before .before .before .before .before .before .before .before .before .before .before .pre .1 .1 .1, c .before .before .before .before .before .before .before .before .before .before .before .before .before .fold-source .kept .1 .1 .1 .1 .0, c .before .before .before .before .before .before .fold-source2 .kept .1 .1 .1 .1 .0)))
 
 fold-node-enum-known-n : (t : ℕ) → fold-node-lts.Need-enum-known-n (fold-node-claims t) (fold-node-at t) fold-node.Post
 fold-node-enum-known-n t c = search needs
@@ -85,7 +85,7 @@ fold-node-put-requires : (t : ℕ) → fold-node-lts.Need-put-requires (fold-nod
 fold-node-put-requires t c κs = search needs
 
 fold-node-follow-requires : (t : ℕ) → fold-node-lts.Need-follow-requires (fold-node-claims t) (fold-node-at t) fold-node.Post
-fold-node-follow-requires t c κs = let (b₁, (b₂, b₃)) = below-in (c .before .before .before .before .before .before .before .before .before .before .before .before .before .before .before .before .before .before .before .before .before .before .before .before .before .before .before .before .before .descend-bare .ensures .down) (c .before .before .before .before .before .before .before .before .before .before .before .before .before .before .before .before .before .before .before .before .before .before .before .before .before .before .before .before .before .before .before .before .before .pre .1 .0 .1) (c .before .before .before .before .before .before .before .before .before .before .before .before .before .before .before .before .before .before .before .before .before .before .before .before .before .before .before .before .before .before .before .before .before .pre .1 .0 .0) in (omega arith, (omega arith, omega (arith, source-appended (below-at (c .before .before .before .before .before .before .before .before .before .before .before .before .before .before .before .before .before .before .before .before .before .before .before .before .before .before .before .before .before .descend-bare .ensures .down) (c .before .before .before .before .before .before .before .before .before .before .before .before .before .before .before .before .before .before .before .before .before .before .before .before .before .before .before .before .before .before .before .before .before .pre .1 .0 .1) (c .before .before .before .before .before .before .before .before .before .before .before .before .before .before .before .before .before .before .before .before .before .before .before .before .before .before .before .before .before .before .before .before .before .pre .1 .0 .0)) refl (node-closed ((below-in (c .before .before .before .before .before .before .before .before .before .before .before .before .before .before .before .before .before .before .before .before .before .before .before .before .before .before .before .before .before .descend-bare .ensures .down) (c .before .before .before .before .before .before .before .before .before .before .before .before .before .before .before .before .before .before .before .before .before .before .before .before .before .before .before .before .before .before .before .before .before .pre .1 .0 .1) (c .before .before .before .before .before .before .before .before .before .before .before .before .before .before .before .before .before .before .before .before .before .before .before .before .before .before .before .before .before .before .before .before .before .pre .1 .0 .0)) .0) (c .before .before .before .before .before .before .before .before .before .before .before .before .before .before .before .before .before .before .before .before .before .before .before .before .before .before .before .before .own-start .ensures) (c .before .before .before .before .before .before .before .before .before .before .before .before .before .before .before .before .before .before .before .before .before .before .before .before .before .before .before .last-source .ensures) (c .before .before .before .before .before .before .before .before .before .before .before .before .before .before .before .before .before .before .before .before .before .before .before .before .before .fold-source .ensures) (c .before .before .before .before .before .before .before .before .before .before .before .before .before .before .before .before .before .before .before .before .before .e .given .1) (c .before .before .before .before .before .before .before .before .before .before .before .before .before .before .before .before .before .before .fold-source2 .ensures) (c .before .before .before .before .before .before .before .before .before .before .before .before .before .before .f .given .1) (c .before .before .before .before .before .before .before .before .before .before .before .fold-own .ensures) (c .before .before .before .before .before .before .before .n .given .1) (below-at (c .before .before .before .before .before .before .before .before .before .before .before .before .before .before .before .before .before .before .before .before .before .before .before .before .before .before .before .before .before .descend-bare .ensures .down) (c .before .before .before .before .before .before .before .before .before .before .before .before .before .before .before .before .before .before .before .before .before .before .before .before .before .before .before .before .before .before .before .before .before .pre .1 .0 .1) (c .before .before .before .before .before .before .before .before .before .before .before .before .before .before .before .before .before .before .before .before .before .before .before .before .before .before .before .before .before .before .before .before .before .pre .1 .0 .0)) (let (b₁, (b₂, b₃)) = below-in (c .before .before .before .before .before .before .before .before .before .before .before .before .before .before .before .before .before .before .before .before .before .before .before .before .before .before .before .before .before .descend-bare .ensures .down) (c .before .before .before .before .before .before .before .before .before .before .before .before .before .before .before .before .before .before .before .before .before .before .before .before .before .before .before .before .before .before .before .before .before .pre .1 .0 .1) (c .before .before .before .before .before .before .before .before .before .before .before .before .before .before .before .before .before .before .before .before .before .before .before .before .before .before .before .before .before .before .before .before .before .pre .1 .0 .0) in omega (arith, c .before .before .before .before .before .before .before .before .before .before .before .before .before .before .before .before .before .before .before .before .before .before .before .before .before .before .before .before .before .before .before .before .before .pre .1 .1)) (c .before .before .before .before .before .before .before .before .before .before .before .fold-own .kept .1 .1 .1 .1 .0 ∙ (c .before .before .before .before .before .before .before .before .before .before .before .before .before .before .before .before .before .before .fold-source2 .kept .1 .1 .1 .1 .0 ∙ c .before .before .before .before .before .before .before .before .before .before .before .before .before .before .before .before .before .before .before .before .before .before .before .before .before .fold-source .kept .1 .1 .1 .1 .0)) (c .before .before .before .before .cell-at .ensures) (c .before .before .before .put .ensures)) .is .ends)))
+fold-node-follow-requires t c κs = let (b₁, (b₂, b₃)) = below-in (c .before .before .before .before .before .before .before .before .before .before .before .before .before .before .before .before .before .before .before .before .before .before .before .before .before .before .before .before .before .descend-bare .ensures .down) (c .before .before .before .before .before .before .before .before .before .before .before .before .before .before .before .before .before .before .before .before .before .before .before .before .before .before .before .before .before .before .before .before .before .pre .1 .0 .1) (c .before .before .before .before .before .before .before .before .before .before .before .before .before .before .before .before .before .before .before .before .before .before .before .before .before .before .before .before .before .before .before .before .before .pre .1 .0 .0) in (omega arith, (omega arith, omega (arith, source-appended (below-at (c .before .before .before .before .before .before .before .before .before .before .before .before .before .before .before .before .before .before .before .before .before .before .before .before .before .before .before .before .before .descend-bare .ensures .down) (c .before .before .before .before .before .before .before .before .before .before .before .before .before .before .before .before .before .before .before .before .before .before .before .before .before .before .before .before .before .before .before .before .before .pre .1 .0 .1) (c .before .before .before .before .before .before .before .before .before .before .before .before .before .before .before .before .before .before .before .before .before .before .before .before .before .before .before .before .before .before .before .before .before .pre .1 .0 .0)) refl (node-closed ((below-in (c .before .before .before .before .before .before .before .before .before .before .before .before .before .before .before .before .before .before .before .before .before .before .before .before .before .before .before .before .before .descend-bare .ensures .down) (c .before .before .before .before .before .before .before .before .before .before .before .before .before .before .before .before .before .before .before .before .before .before .before .before .before .before .before .before .before .before .before .before .before .pre .1 .0 .1) (c .before .before .before .before .before .before .before .before .before .before .before .before .before .before .before .before .before .before .before .before .before .before .before .before .before .before .before .before .before .before .before .before .before .pre .1 .0 .0)) .0) (c .before .before .before .before .before .before .before .before .before .before .before .before .before .before .before .before .before .before .before .before .before .before .before .before .before .before .before .before .own-start .ensures) (c .before .before .before .before .before .before .before .before .before .before .before .before .before .before .before .before .before .before .before .before .before .before .before .before .before .before .before .last-source .ensures) (c .before .before .before .before .before .before .before .before .before .before .before .before .before .before .before .before .before .before .before .before .before .before .before .before .before .fold-source .ensures) (c .before .before .before .before .before .before .before .before .before .before .before .before .before .before .before .before .before .before .before .before .before .e .given .1) (c .before .before .before .before .before .before .before .before .before .before .before .before .before .before .before .before .before .before .fold-source2 .ensures) (c .before .before .before .before .before .before .before .before .before .before .before .before .before .before .f .given .1) (c .before .before .before .before .before .before .before .before .before .before .before .fold-own .ensures) (c .before .before .before .before .before .before .before .n .given .1) (below-at (c .before .before .before .before .before .before .before .before .before .before .before .before .before .before .before .before .before .before .before .before .before .before .before .before .before .before .before .before .before .descend-bare .ensures .down) (c .before .before .before .before .before .before .before .before .before .before .before .before .before .before .before .before .before .before .before .before .before .before .before .before .before .before .before .before .before .before .before .before .before .pre .1 .0 .1) (c .before .before .before .before .before .before .before .before .before .before .before .before .before .before .before .before .before .before .before .before .before .before .before .before .before .before .before .before .before .before .before .before .before .pre .1 .0 .0)) (let (b₁, (b₂, b₃)) = below-in (c .before .before .before .before .before .before .before .before .before .before .before .before .before .before .before .before .before .before .before .before .before .before .before .before .before .before .before .before .before .descend-bare .ensures .down) (c .before .before .before .before .before .before .before .before .before .before .before .before .before .before .before .before .before .before .before .before .before .before .before .before .before .before .before .before .before .before .before .before .before .pre .1 .0 .1) (c .before .before .before .before .before .before .before .before .before .before .before .before .before .before .before .before .before .before .before .before .before .before .before .before .before .before .before .before .before .before .before .before .before .pre .1 .0 .0) in (omega (arith, c .before .before .before .before .before .before .before .before .before .before .before .before .before .before .before .before .before .before .before .before .before .before .before .before .before .before .before .before .before .before .before .before .before .pre .1 .1 .0), c .before .before .before .before .before .before .before .before .before .before .before .before .before .before .before .before .before .before .before .before .before .before .before .before .before .before .before .before .before .before .before .before .before .pre .1 .1 .1)) (c .before .before .before .before .before .before .before .before .before .before .before .fold-own .kept .1 .1 .1 .1 .0 ∙ (c .before .before .before .before .before .before .before .before .before .before .before .before .before .before .before .before .before .before .fold-source2 .kept .1 .1 .1 .1 .0 ∙ c .before .before .before .before .before .before .before .before .before .before .before .before .before .before .before .before .before .before .before .before .before .before .before .before .before .fold-source .kept .1 .1 .1 .1 .0)) (c .before .before .before .before .cell-at .ensures) (c .before .before .before .put .ensures)) .is .ends)))
 
 fold-node-enum-known-number : (t : ℕ) → fold-node-lts.Need-enum-known-number (fold-node-claims t) (fold-node-at t) fold-node.Post
 fold-node-enum-known-number t c = search needs
@@ -94,19 +94,19 @@ fold-node-enum-known-number-2 : (t : ℕ) → fold-node-lts.Need-enum-known-numb
 fold-node-enum-known-number-2 t c = search needs
 
 fold-node-refuse-requires : (t : ℕ) → fold-node-lts.Need-refuse-requires (fold-node-claims t) (fold-node-at t) fold-node.Post
-fold-node-refuse-requires t c κs = let (i, (j, k)) = own-in (c .before .before .before .before .before .before .before .before .before .before .before .before .before .before .before .before .own-start .ensures) ((below-in (c .before .before .before .before .before .before .before .before .before .before .before .before .before .before .before .before .before .descend-bare .ensures .down) (c .before .before .before .before .before .before .before .before .before .before .before .before .before .before .before .before .before .before .before .before .before .pre .1 .0 .1) (c .before .before .before .before .before .before .before .before .before .before .before .before .before .before .before .before .before .before .before .before .before .pre .1 .0 .0)) .0) (below-at (c .before .before .before .before .before .before .before .before .before .before .before .before .before .before .before .before .before .descend-bare .ensures .down) (c .before .before .before .before .before .before .before .before .before .before .before .before .before .before .before .before .before .before .before .before .before .pre .1 .0 .1) (c .before .before .before .before .before .before .before .before .before .before .before .before .before .before .before .before .before .before .before .before .before .pre .1 .0 .0)) in let (a, b) = mid-in (c .before .before .before .before .before .before .before .before .before .before .before .before .before .before .before .before .own-start .ensures) (c .before .before .before .before .before .before .before .before .before .before .before .before .before .before .before .last-source .ensures) ((below-in (c .before .before .before .before .before .before .before .before .before .before .before .before .before .before .before .before .before .descend-bare .ensures .down) (c .before .before .before .before .before .before .before .before .before .before .before .before .before .before .before .before .before .before .before .before .before .pre .1 .0 .1) (c .before .before .before .before .before .before .before .before .before .before .before .before .before .before .before .before .before .before .before .before .before .pre .1 .0 .0)) .0) (below-at (c .before .before .before .before .before .before .before .before .before .before .before .before .before .before .before .before .before .descend-bare .ensures .down) (c .before .before .before .before .before .before .before .before .before .before .before .before .before .before .before .before .before .before .before .before .before .pre .1 .0 .1) (c .before .before .before .before .before .before .before .before .before .before .before .before .before .before .before .before .before .before .before .before .before .pre .1 .0 .0)) in let (b₁, (b₂, b₃)) = below-in (c .before .before .before .before .before .before .before .before .before .before .before .before .before .before .before .before .before .descend-bare .ensures .down) (c .before .before .before .before .before .before .before .before .before .before .before .before .before .before .before .before .before .before .before .before .before .pre .1 .0 .1) (c .before .before .before .before .before .before .before .before .before .before .before .before .before .before .before .before .before .before .before .before .before .pre .1 .0 .0) in ((own-at (c .before .before .before .before .before .before .before .before .before .before .before .before .before .before .before .before .own-start .ensures) ((below-in (c .before .before .before .before .before .before .before .before .before .before .before .before .before .before .before .before .before .descend-bare .ensures .down) (c .before .before .before .before .before .before .before .before .before .before .before .before .before .before .before .before .before .before .before .before .before .pre .1 .0 .1) (c .before .before .before .before .before .before .before .before .before .before .before .before .before .before .before .before .before .before .before .before .before .pre .1 .0 .0)) .0) (below-at (c .before .before .before .before .before .before .before .before .before .before .before .before .before .before .before .before .before .descend-bare .ensures .down) (c .before .before .before .before .before .before .before .before .before .before .before .before .before .before .before .before .before .before .before .before .before .pre .1 .0 .1) (c .before .before .before .before .before .before .before .before .before .before .before .before .before .before .before .before .before .before .before .before .before .pre .1 .0 .0))), omega (arith, c .before .before .before .before .before .before .before .before .before .before .before .before .before .before .before .before .before .before .before .before .before .pre .1 .1, c .before .before .before .before .before .before .before .before .before .before .before .before .before .fold-source .kept .1 .1 .1 .1 .0, c .before .before .before .before .before .before .fold-source2 .kept .1 .1 .1 .1 .0))
+fold-node-refuse-requires t c κs = let (i, (j, k)) = own-in (c .before .before .before .before .before .before .before .before .before .before .before .before .before .before .before .before .own-start .ensures) ((below-in (c .before .before .before .before .before .before .before .before .before .before .before .before .before .before .before .before .before .descend-bare .ensures .down) (c .before .before .before .before .before .before .before .before .before .before .before .before .before .before .before .before .before .before .before .before .before .pre .1 .0 .1) (c .before .before .before .before .before .before .before .before .before .before .before .before .before .before .before .before .before .before .before .before .before .pre .1 .0 .0)) .0) (below-at (c .before .before .before .before .before .before .before .before .before .before .before .before .before .before .before .before .before .descend-bare .ensures .down) (c .before .before .before .before .before .before .before .before .before .before .before .before .before .before .before .before .before .before .before .before .before .pre .1 .0 .1) (c .before .before .before .before .before .before .before .before .before .before .before .before .before .before .before .before .before .before .before .before .before .pre .1 .0 .0)) in let (a, b) = mid-in (c .before .before .before .before .before .before .before .before .before .before .before .before .before .before .before .before .own-start .ensures) (c .before .before .before .before .before .before .before .before .before .before .before .before .before .before .before .last-source .ensures) ((below-in (c .before .before .before .before .before .before .before .before .before .before .before .before .before .before .before .before .before .descend-bare .ensures .down) (c .before .before .before .before .before .before .before .before .before .before .before .before .before .before .before .before .before .before .before .before .before .pre .1 .0 .1) (c .before .before .before .before .before .before .before .before .before .before .before .before .before .before .before .before .before .before .before .before .before .pre .1 .0 .0)) .0) (below-at (c .before .before .before .before .before .before .before .before .before .before .before .before .before .before .before .before .before .descend-bare .ensures .down) (c .before .before .before .before .before .before .before .before .before .before .before .before .before .before .before .before .before .before .before .before .before .pre .1 .0 .1) (c .before .before .before .before .before .before .before .before .before .before .before .before .before .before .before .before .before .before .before .before .before .pre .1 .0 .0)) in let (b₁, (b₂, b₃)) = below-in (c .before .before .before .before .before .before .before .before .before .before .before .before .before .before .before .before .before .descend-bare .ensures .down) (c .before .before .before .before .before .before .before .before .before .before .before .before .before .before .before .before .before .before .before .before .before .pre .1 .0 .1) (c .before .before .before .before .before .before .before .before .before .before .before .before .before .before .before .before .before .before .before .before .before .pre .1 .0 .0) in ((own-at (c .before .before .before .before .before .before .before .before .before .before .before .before .before .before .before .before .own-start .ensures) ((below-in (c .before .before .before .before .before .before .before .before .before .before .before .before .before .before .before .before .before .descend-bare .ensures .down) (c .before .before .before .before .before .before .before .before .before .before .before .before .before .before .before .before .before .before .before .before .before .pre .1 .0 .1) (c .before .before .before .before .before .before .before .before .before .before .before .before .before .before .before .before .before .before .before .before .before .pre .1 .0 .0)) .0) (below-at (c .before .before .before .before .before .before .before .before .before .before .before .before .before .before .before .before .before .descend-bare .ensures .down) (c .before .before .before .before .before .before .before .before .before .before .before .before .before .before .before .before .before .before .before .before .before .pre .1 .0 .1) (c .before .before .before .before .before .before .before .before .before .before .before .before .before .before .before .before .before .before .before .before .before .pre .1 .0 .0))), (omega (arith, c .before .before .before .before .before .before .before .before .before .before .before .before .before .before .before .before .before .before .before .before .before .pre .1 .1 .0, c .before .before .before .before .before .before .before .before .before .before .before .before .before .fold-source .kept .1 .1 .1 .1 .0, c .before .before .before .before .before .before .fold-source2 .kept .1 .1 .1 .1 .0), omega (arith, c .before .before .before .before .before .before .before .before .before .before .before .before .before .before .before .before .before .before .before .before .before .pre .1 .1 .1, c .before .before .before .before .before .before .before .before .before .before .before .before .before .fold-source .kept .1 .1 .1 .1 .0, c .before .before .before .before .before .before .fold-source2 .kept .1 .1 .1 .1 .0)))
 
 fold-node-enum-known-number-3 : (t : ℕ) → fold-node-lts.Need-enum-known-number-3 (fold-node-claims t) (fold-node-at t) fold-node.Post
 fold-node-enum-known-number-3 t c = search needs
 
 fold-node-refuse-requires-2 : (t : ℕ) → fold-node-lts.Need-refuse-requires-2 (fold-node-claims t) (fold-node-at t) fold-node.Post
-fold-node-refuse-requires-2 t c κs = let (i, (j, k)) = own-in (c .before .before .before .before .before .before .before .before .before .own-start .ensures) ((below-in (c .before .before .before .before .before .before .before .before .before .before .descend-bare .ensures .down) (c .before .before .before .before .before .before .before .before .before .before .before .before .before .before .pre .1 .0 .1) (c .before .before .before .before .before .before .before .before .before .before .before .before .before .before .pre .1 .0 .0)) .0) (below-at (c .before .before .before .before .before .before .before .before .before .before .descend-bare .ensures .down) (c .before .before .before .before .before .before .before .before .before .before .before .before .before .before .pre .1 .0 .1) (c .before .before .before .before .before .before .before .before .before .before .before .before .before .before .pre .1 .0 .0)) in let (a, b) = mid-in (c .before .before .before .before .before .before .before .before .before .own-start .ensures) (c .before .before .before .before .before .before .before .before .last-source .ensures) ((below-in (c .before .before .before .before .before .before .before .before .before .before .descend-bare .ensures .down) (c .before .before .before .before .before .before .before .before .before .before .before .before .before .before .pre .1 .0 .1) (c .before .before .before .before .before .before .before .before .before .before .before .before .before .before .pre .1 .0 .0)) .0) (below-at (c .before .before .before .before .before .before .before .before .before .before .descend-bare .ensures .down) (c .before .before .before .before .before .before .before .before .before .before .before .before .before .before .pre .1 .0 .1) (c .before .before .before .before .before .before .before .before .before .before .before .before .before .before .pre .1 .0 .0)) in let (b₁, (b₂, b₃)) = below-in (c .before .before .before .before .before .before .before .before .before .before .descend-bare .ensures .down) (c .before .before .before .before .before .before .before .before .before .before .before .before .before .before .pre .1 .0 .1) (c .before .before .before .before .before .before .before .before .before .before .before .before .before .before .pre .1 .0 .0) in ((own-at (c .before .before .before .before .before .before .before .before .before .own-start .ensures) ((below-in (c .before .before .before .before .before .before .before .before .before .before .descend-bare .ensures .down) (c .before .before .before .before .before .before .before .before .before .before .before .before .before .before .pre .1 .0 .1) (c .before .before .before .before .before .before .before .before .before .before .before .before .before .before .pre .1 .0 .0)) .0) (below-at (c .before .before .before .before .before .before .before .before .before .before .descend-bare .ensures .down) (c .before .before .before .before .before .before .before .before .before .before .before .before .before .before .pre .1 .0 .1) (c .before .before .before .before .before .before .before .before .before .before .before .before .before .before .pre .1 .0 .0))), omega (arith, c .before .before .before .before .before .before .before .before .before .before .before .before .before .before .pre .1 .1, c .before .before .before .before .before .before .fold-source .kept .1 .1 .1 .1 .0))
+fold-node-refuse-requires-2 t c κs = let (i, (j, k)) = own-in (c .before .before .before .before .before .before .before .before .before .own-start .ensures) ((below-in (c .before .before .before .before .before .before .before .before .before .before .descend-bare .ensures .down) (c .before .before .before .before .before .before .before .before .before .before .before .before .before .before .pre .1 .0 .1) (c .before .before .before .before .before .before .before .before .before .before .before .before .before .before .pre .1 .0 .0)) .0) (below-at (c .before .before .before .before .before .before .before .before .before .before .descend-bare .ensures .down) (c .before .before .before .before .before .before .before .before .before .before .before .before .before .before .pre .1 .0 .1) (c .before .before .before .before .before .before .before .before .before .before .before .before .before .before .pre .1 .0 .0)) in let (a, b) = mid-in (c .before .before .before .before .before .before .before .before .before .own-start .ensures) (c .before .before .before .before .before .before .before .before .last-source .ensures) ((below-in (c .before .before .before .before .before .before .before .before .before .before .descend-bare .ensures .down) (c .before .before .before .before .before .before .before .before .before .before .before .before .before .before .pre .1 .0 .1) (c .before .before .before .before .before .before .before .before .before .before .before .before .before .before .pre .1 .0 .0)) .0) (below-at (c .before .before .before .before .before .before .before .before .before .before .descend-bare .ensures .down) (c .before .before .before .before .before .before .before .before .before .before .before .before .before .before .pre .1 .0 .1) (c .before .before .before .before .before .before .before .before .before .before .before .before .before .before .pre .1 .0 .0)) in let (b₁, (b₂, b₃)) = below-in (c .before .before .before .before .before .before .before .before .before .before .descend-bare .ensures .down) (c .before .before .before .before .before .before .before .before .before .before .before .before .before .before .pre .1 .0 .1) (c .before .before .before .before .before .before .before .before .before .before .before .before .before .before .pre .1 .0 .0) in ((own-at (c .before .before .before .before .before .before .before .before .before .own-start .ensures) ((below-in (c .before .before .before .before .before .before .before .before .before .before .descend-bare .ensures .down) (c .before .before .before .before .before .before .before .before .before .before .before .before .before .before .pre .1 .0 .1) (c .before .before .before .before .before .before .before .before .before .before .before .before .before .before .pre .1 .0 .0)) .0) (below-at (c .before .before .before .before .before .before .before .before .before .before .descend-bare .ensures .down) (c .before .before .before .before .before .before .before .before .before .before .before .before .before .before .pre .1 .0 .1) (c .before .before .before .before .before .before .before .before .before .before .before .before .before .before .pre .1 .0 .0))), (omega (arith, c .before .before .before .before .before .before .before .before .before .before .before .before .before .before .pre .1 .1 .0, c .before .before .before .before .before .before .fold-source .kept .1 .1 .1 .1 .0), omega (arith, c .before .before .before .before .before .before .before .before .before .before .before .before .before .before .pre .1 .1 .1, c .before .before .before .before .before .before .fold-source .kept .1 .1 .1 .1 .0)))
 
 fold-node-same-length : (t : ℕ) → fold-node-lts.Need-same-length (fold-node-claims t) (fold-node-at t) fold-node.Post
 fold-node-same-length t c = c .before .before .follow .kept .1 .1 .1 .0 ∙ (c .before .before .before .before .before .before .put .kept .0 ∙ (c .before .before .before .before .before .before .before .before .before .before .before .before .before .before .fold-own .kept .1 .1 .1 .1 .0 ∙ (c .before .before .before .before .before .before .before .before .before .before .before .before .before .before .before .before .before .before .before .before .before .fold-source2 .kept .1 .1 .1 .1 .0 ∙ c .before .before .before .before .before .before .before .before .before .before .before .before .before .before .before .before .before .before .before .before .before .before .before .before .before .before .before .before .fold-source .kept .1 .1 .1 .1 .0)))
 
 fold-node-returns : (t : ℕ) → fold-node-lts.Need-returns (fold-node-claims t) (fold-node-at t) fold-node.Post
-fold-node-returns t c = bare-done (c .before .before .before .before .before .before .before .before .before .before .before .before .before .before .before .before .before .before .before .before .before .before .before .before .before .before .before .before .before .before .before .before .descend-bare .ensures .down) (c .before .before .before .before .before .before .before .before .before .before .before .before .before .before .before .before .before .before .before .before .before .before .before .before .before .before .before .before .before .before .before .before .before .before .before .before .pre .1 .0 .1) (c .before .before .before .before .before .before .before .before .before .before .before .before .before .before .before .before .before .before .before .before .before .before .before .before .before .before .before .before .before .before .before .before .before .before .before .before .pre .1 .1) (c .before .before .before .before .before .before .put .kept .0 ∙ (c .before .before .before .before .before .before .before .before .before .before .before .before .before .before .fold-own .kept .1 .1 .1 .1 .0 ∙ (c .before .before .before .before .before .before .before .before .before .before .before .before .before .before .before .before .before .before .before .before .before .fold-source2 .kept .1 .1 .1 .1 .0 ∙ c .before .before .before .before .before .before .before .before .before .before .before .before .before .before .before .before .before .before .before .before .before .before .before .before .before .before .before .before .fold-source .kept .1 .1 .1 .1 .0))) (node-closed ((below-in (c .before .before .before .before .before .before .before .before .before .before .before .before .before .before .before .before .before .before .before .before .before .before .before .before .before .before .before .before .before .before .before .before .descend-bare .ensures .down) (c .before .before .before .before .before .before .before .before .before .before .before .before .before .before .before .before .before .before .before .before .before .before .before .before .before .before .before .before .before .before .before .before .before .before .before .before .pre .1 .0 .1) (c .before .before .before .before .before .before .before .before .before .before .before .before .before .before .before .before .before .before .before .before .before .before .before .before .before .before .before .before .before .before .before .before .before .before .before .before .pre .1 .0 .0)) .0) (c .before .before .before .before .before .before .before .before .before .before .before .before .before .before .before .before .before .before .before .before .before .before .before .before .before .before .before .before .before .before .before .own-start .ensures) (c .before .before .before .before .before .before .before .before .before .before .before .before .before .before .before .before .before .before .before .before .before .before .before .before .before .before .before .before .before .before .last-source .ensures) (c .before .before .before .before .before .before .before .before .before .before .before .before .before .before .before .before .before .before .before .before .before .before .before .before .before .before .before .before .fold-source .ensures) (c .before .before .before .before .before .before .before .before .before .before .before .before .before .before .before .before .before .before .before .before .before .before .before .before .e .given .1) (c .before .before .before .before .before .before .before .before .before .before .before .before .before .before .before .before .before .before .before .before .before .fold-source2 .ensures) (c .before .before .before .before .before .before .before .before .before .before .before .before .before .before .before .before .before .f .given .1) (c .before .before .before .before .before .before .before .before .before .before .before .before .before .before .fold-own .ensures) (c .before .before .before .before .before .before .before .before .before .before .n .given .1) (below-at (c .before .before .before .before .before .before .before .before .before .before .before .before .before .before .before .before .before .before .before .before .before .before .before .before .before .before .before .before .before .before .before .before .descend-bare .ensures .down) (c .before .before .before .before .before .before .before .before .before .before .before .before .before .before .before .before .before .before .before .before .before .before .before .before .before .before .before .before .before .before .before .before .before .before .before .before .pre .1 .0 .1) (c .before .before .before .before .before .before .before .before .before .before .before .before .before .before .before .before .before .before .before .before .before .before .before .before .before .before .before .before .before .before .before .before .before .before .before .before .pre .1 .0 .0)) (let (b₁, (b₂, b₃)) = below-in (c .before .before .before .before .before .before .before .before .before .before .before .before .before .before .before .before .before .before .before .before .before .before .before .before .before .before .before .before .before .before .before .before .descend-bare .ensures .down) (c .before .before .before .before .before .before .before .before .before .before .before .before .before .before .before .before .before .before .before .before .before .before .before .before .before .before .before .before .before .before .before .before .before .before .before .before .pre .1 .0 .1) (c .before .before .before .before .before .before .before .before .before .before .before .before .before .before .before .before .before .before .before .before .before .before .before .before .before .before .before .before .before .before .before .before .before .before .before .before .pre .1 .0 .0) in omega (arith, c .before .before .before .before .before .before .before .before .before .before .before .before .before .before .before .before .before .before .before .before .before .before .before .before .before .before .before .before .before .before .before .before .before .before .before .before .pre .1 .1)) (c .before .before .before .before .before .before .before .before .before .before .before .before .before .before .fold-own .kept .1 .1 .1 .1 .0 ∙ (c .before .before .before .before .before .before .before .before .before .before .before .before .before .before .before .before .before .before .before .before .before .fold-source2 .kept .1 .1 .1 .1 .0 ∙ c .before .before .before .before .before .before .before .before .before .before .before .before .before .before .before .before .before .before .before .before .before .before .before .before .before .before .before .before .fold-source .kept .1 .1 .1 .1 .0)) (c .before .before .before .before .before .before .before .cell-at .ensures) (c .before .before .before .before .before .before .put .ensures)) (c .before .before .follow .ensures) (c .before .before .before .before .before .before .before .before .before .before .before .before .before .before .before .before .before .before .before .before .before .before .before .before .before .before .before .before .before .before .before .before .before .before .before .before .pre .1 .0 .0)
+fold-node-returns t c = bare-done (c .before .before .before .before .before .before .before .before .before .before .before .before .before .before .before .before .before .before .before .before .before .before .before .before .before .before .before .before .before .before .before .before .descend-bare .ensures .down) (c .before .before .before .before .before .before .before .before .before .before .before .before .before .before .before .before .before .before .before .before .before .before .before .before .before .before .before .before .before .before .before .before .before .before .before .before .pre .1 .0 .1) (c .before .before .before .before .before .before .before .before .before .before .before .before .before .before .before .before .before .before .before .before .before .before .before .before .before .before .before .before .before .before .before .before .before .before .before .before .pre .1 .1) (c .before .before .before .before .before .before .put .kept .0 ∙ (c .before .before .before .before .before .before .before .before .before .before .before .before .before .before .fold-own .kept .1 .1 .1 .1 .0 ∙ (c .before .before .before .before .before .before .before .before .before .before .before .before .before .before .before .before .before .before .before .before .before .fold-source2 .kept .1 .1 .1 .1 .0 ∙ c .before .before .before .before .before .before .before .before .before .before .before .before .before .before .before .before .before .before .before .before .before .before .before .before .before .before .before .before .fold-source .kept .1 .1 .1 .1 .0))) (node-closed ((below-in (c .before .before .before .before .before .before .before .before .before .before .before .before .before .before .before .before .before .before .before .before .before .before .before .before .before .before .before .before .before .before .before .before .descend-bare .ensures .down) (c .before .before .before .before .before .before .before .before .before .before .before .before .before .before .before .before .before .before .before .before .before .before .before .before .before .before .before .before .before .before .before .before .before .before .before .before .pre .1 .0 .1) (c .before .before .before .before .before .before .before .before .before .before .before .before .before .before .before .before .before .before .before .before .before .before .before .before .before .before .before .before .before .before .before .before .before .before .before .before .pre .1 .0 .0)) .0) (c .before .before .before .before .before .before .before .before .before .before .before .before .before .before .before .before .before .before .before .before .before .before .before .before .before .before .before .before .before .before .before .own-start .ensures) (c .before .before .before .before .before .before .before .before .before .before .before .before .before .before .before .before .before .before .before .before .before .before .before .before .before .before .before .before .before .before .last-source .ensures) (c .before .before .before .before .before .before .before .before .before .before .before .before .before .before .before .before .before .before .before .before .before .before .before .before .before .before .before .before .fold-source .ensures) (c .before .before .before .before .before .before .before .before .before .before .before .before .before .before .before .before .before .before .before .before .before .before .before .before .e .given .1) (c .before .before .before .before .before .before .before .before .before .before .before .before .before .before .before .before .before .before .before .before .before .fold-source2 .ensures) (c .before .before .before .before .before .before .before .before .before .before .before .before .before .before .before .before .before .f .given .1) (c .before .before .before .before .before .before .before .before .before .before .before .before .before .before .fold-own .ensures) (c .before .before .before .before .before .before .before .before .before .before .n .given .1) (below-at (c .before .before .before .before .before .before .before .before .before .before .before .before .before .before .before .before .before .before .before .before .before .before .before .before .before .before .before .before .before .before .before .before .descend-bare .ensures .down) (c .before .before .before .before .before .before .before .before .before .before .before .before .before .before .before .before .before .before .before .before .before .before .before .before .before .before .before .before .before .before .before .before .before .before .before .before .pre .1 .0 .1) (c .before .before .before .before .before .before .before .before .before .before .before .before .before .before .before .before .before .before .before .before .before .before .before .before .before .before .before .before .before .before .before .before .before .before .before .before .pre .1 .0 .0)) (let (b₁, (b₂, b₃)) = below-in (c .before .before .before .before .before .before .before .before .before .before .before .before .before .before .before .before .before .before .before .before .before .before .before .before .before .before .before .before .before .before .before .before .descend-bare .ensures .down) (c .before .before .before .before .before .before .before .before .before .before .before .before .before .before .before .before .before .before .before .before .before .before .before .before .before .before .before .before .before .before .before .before .before .before .before .before .pre .1 .0 .1) (c .before .before .before .before .before .before .before .before .before .before .before .before .before .before .before .before .before .before .before .before .before .before .before .before .before .before .before .before .before .before .before .before .before .before .before .before .pre .1 .0 .0) in (omega (arith, c .before .before .before .before .before .before .before .before .before .before .before .before .before .before .before .before .before .before .before .before .before .before .before .before .before .before .before .before .before .before .before .before .before .before .before .before .pre .1 .1 .0), c .before .before .before .before .before .before .before .before .before .before .before .before .before .before .before .before .before .before .before .before .before .before .before .before .before .before .before .before .before .before .before .before .before .before .before .before .pre .1 .1 .1)) (c .before .before .before .before .before .before .before .before .before .before .before .before .before .before .fold-own .kept .1 .1 .1 .1 .0 ∙ (c .before .before .before .before .before .before .before .before .before .before .before .before .before .before .before .before .before .before .before .before .before .fold-source2 .kept .1 .1 .1 .1 .0 ∙ c .before .before .before .before .before .before .before .before .before .before .before .before .before .before .before .before .before .before .before .before .before .before .before .before .before .before .before .before .fold-source .kept .1 .1 .1 .1 .0)) (c .before .before .before .before .before .before .before .cell-at .ensures) (c .before .before .before .before .before .before .put .ensures)) (c .before .before .follow .ensures) (c .before .before .before .before .before .before .before .before .before .before .before .before .before .before .before .before .before .before .before .before .before .before .before .before .before .before .before .before .before .before .before .before .before .before .before .before .pre .1 .0 .0)
 
 fold-node-same-length-2 : (t : ℕ) → fold-node-lts.Need-same-length-2 (fold-node-claims t) (fold-node-at t) fold-node.Post
 fold-node-same-length-2 t c = c .before .before .before .before .before .fold-own .kept .1 .1 .1 .1 .0 ∙ (c .before .before .before .before .before .before .before .before .before .before .before .before .fold-source2 .kept .1 .1 .1 .1 .0 ∙ c .before .before .before .before .before .before .before .before .before .before .before .before .before .before .before .before .before .before .before .fold-source .kept .1 .1 .1 .1 .0)

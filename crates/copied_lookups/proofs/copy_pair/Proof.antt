@@ -4,8 +4,14 @@ use borrow.Author.Needs.{needs}
 use Rattle.copied_lookups.proofs.copy_pair.Statement.{statement}
 use Rattle.copied_lookups.proofs.copy_pair.Tie as tie
 
+cast-if1 : tie.Need-cast-if1
+cast-if1 c = search needs
+
 returns : tie.Need-returns
 returns c = not-left (c .before .before .before .before .args .into) (c .before .before .before .before .args .n) (c .before .before .before .before .args .shift) (c .before .before .before .before .args .l .0) (c .before .before .before .before .args .r .0) (omega (arith, c .if1 .taken))
+
+cast-if2 : tie.Need-cast-if2
+cast-if2 c = search needs
 
 returns-2 : tie.Need-returns-2
 returns-2 c = not-right (c .before .before .before .before .before .before .args .into) (c .before .before .before .before .before .before .args .n) (c .before .before .before .before .before .before .args .shift) (c .before .before .before .before .before .before .args .l .0) (c .before .before .before .before .before .before .args .r .0) (omega (arith, c .before .before .if1 .left)) (omega (arith, c .if2 .taken))
@@ -41,7 +47,9 @@ pub copy-pair-spec : {M : Type 1} → statement M
 copy-pair-spec =
     tie.close
     (tie.spec
+    cast-if1
     returns
+    cast-if2
     returns-2
     enum-told
     copy-last-requires

@@ -7,6 +7,18 @@ use Rattle.decode.proofs.put_over.Tie as tie
 start-of-requires : tie.Need-start-of-requires
 start-of-requires c κs = search needs
 
+cast-t8 : tie.Need-cast-t8
+cast-t8 c = search needs
+
+cast-t9 : tie.Need-cast-t9
+cast-t9 c = search needs
+
+cast-t10 : tie.Need-cast-t10
+cast-t10 c = search needs
+
+cast-t11 : tie.Need-cast-t11
+cast-t11 c = search needs
+
 put-requires : tie.Need-put-requires
 put-requires c κs = search needs
 
@@ -15,9 +27,15 @@ same-length c = search needs
 
 returns : tie.Need-returns
 returns c =
-    let put = c .before .before in
-    let started = put .before .before in
-    put-said (started .before .before .before .args .k) (started .start-of .ensures) (put .put .ensures)
+    put-said (c .before .before .before .before .before .before .before .before .before .before .before .args .k) (c .before .before .before .before .before .before .before .before .start-of .ensures) (c .before .before .put .ensures)
 
 pub put-over-spec : {M : Type 1} → statement M
-put-over-spec = tie.close (tie.spec start-of-requires put-requires same-length returns)
+put-over-spec = tie.close (tie.spec
+    start-of-requires
+    cast-t8
+    cast-t9
+    cast-t10
+    cast-t11
+    put-requires
+    same-length
+    returns)

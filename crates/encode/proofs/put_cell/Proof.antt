@@ -11,6 +11,12 @@ use Rattle.encode.proofs.put_cell.Reads as reads
 use Rattle.encode.proofs.put_cell.Lts as lts
 use Rattle.encode.proofs.put_word.Reads as put-word-reads
 
+cast-put-word : tie.Need-cast-put-word
+cast-put-word c = search needs
+
+cast-put-word-2 : tie.Need-cast-put-word-2
+cast-put-word-2 c = search needs
+
 mul-put-word : tie.Need-mul-put-word
 mul-put-word c = search needs
 
@@ -20,30 +26,44 @@ add-put-word c = search needs
 put-word-requires : tie.Need-put-word-requires
 put-word-requires c κs = search needs
 
+cast-put-word-3 : tie.Need-cast-put-word-3
+cast-put-word-3 c = search needs
+
 put-word-requires-2 : tie.Need-put-word-requires-2
-put-word-requires-2 c κs = omega (arith, c .before .before .before .put-word .ensures .0, c .before .before .before .put-word .kept .0)
+put-word-requires-2 c κs = omega (arith, c .before .before .before .before .put-word .ensures .0, c .before .before .before .before .put-word .kept .0)
+
+cast-put-word-4 : tie.Need-cast-put-word-4
+cast-put-word-4 c = search needs
 
 put-word-requires-3 : tie.Need-put-word-requires-3
-put-word-requires-3 c κs = omega (arith, c .before .before .before .before .before .before .before .put-word .ensures .0, c .before .before .before .before .before .before .before .put-word .kept .0, c .before .before .before .put-word2 .ensures .0, c .before .before .before .put-word2 .kept .0)
+put-word-requires-3 c κs = omega (arith, c .before .before .before .before .before .before .before .before .before .put-word .ensures .0, c .before .before .before .before .before .before .before .before .before .put-word .kept .0, c .before .before .before .before .put-word2 .ensures .0, c .before .before .before .before .put-word2 .kept .0)
+
+cast-put-word-5 : tie.Need-cast-put-word-5
+cast-put-word-5 c = search needs
 
 put-word-requires-4 : tie.Need-put-word-requires-4
-put-word-requires-4 c κs = omega (arith, c .before .before .before .before .before .before .before .before .before .before .before .put-word .ensures .0, c .before .before .before .before .before .before .before .before .before .before .before .put-word .kept .0, c .before .before .before .before .before .before .before .put-word2 .ensures .0, c .before .before .before .before .before .before .before .put-word2 .kept .0, c .before .before .before .put-word3 .ensures .0, c .before .before .before .put-word3 .kept .0)
+put-word-requires-4 c κs = omega (arith, c .before .before .before .before .before .before .before .before .before .before .before .before .before .before .put-word .ensures .0, c .before .before .before .before .before .before .before .before .before .before .before .before .before .before .put-word .kept .0, c .before .before .before .before .before .before .before .before .before .put-word2 .ensures .0, c .before .before .before .before .before .before .before .before .before .put-word2 .kept .0, c .before .before .before .before .put-word3 .ensures .0, c .before .before .before .before .put-word3 .kept .0)
 
 same-length : tie.Need-same-length
 same-length c = search needs
 
 returns : tie.Need-returns
-returns c = cell-put (c .before .before .before .before .before .before .before .before .before .before .before .before .before .before .before .before .before .before .before .args .out .now) (c .before .before .before .before .before .before .before .before .before .before .before .before .before .before .before .before .before .before .before .args .at) (c .before .before .before .before .before .before .before .before .before .before .before .before .before .before .before .before .before .before .before .args .k) (c .before .before .before .before .before .before .before .before .before .before .before .before .before .before .before .before .before .before .before .pre .0) (c .before .before .before .before .before .before .before .before .before .before .before .before .before .before .before .before .before .before .before .pre .1) (c .before .before .before .before .before .before .before .before .before .before .before .before .before .before .put-word .ensures) (c .before .before .before .before .before .before .before .before .before .before .put-word2 .ensures) (c .before .before .before .before .before .before .put-word3 .ensures) (c .before .before .put-word4 .ensures)
+returns c = cell-put (c .before .before .before .before .before .before .before .before .before .before .before .before .before .before .before .before .before .before .before .before .before .before .args .out .now) (c .before .before .before .before .before .before .before .before .before .before .before .before .before .before .before .before .before .before .before .before .before .before .args .at) (c .before .before .before .before .before .before .before .before .before .before .before .before .before .before .before .before .before .before .before .before .before .before .args .k) (c .before .before .before .before .before .before .before .before .before .before .before .before .before .before .before .before .before .before .before .before .before .before .pre .0) (c .before .before .before .before .before .before .before .before .before .before .before .before .before .before .before .before .before .before .before .before .before .before .pre .1) (c .before .before .before .before .before .before .before .before .before .before .before .before .before .before .before .before .before .put-word .ensures) (c .before .before .before .before .before .before .before .before .before .before .before .before .put-word2 .ensures) (c .before .before .before .before .before .before .before .put-word3 .ensures) (c .before .before .put-word4 .ensures)
 
 pub put-cell-spec : {M : Type 1} → statement M
 put-cell-spec =
     tie.close
     (tie.spec
+    cast-put-word
+    cast-put-word-2
     mul-put-word
     add-put-word
     put-word-requires
+    cast-put-word-3
     put-word-requires-2
+    cast-put-word-4
     put-word-requires-3
+    cast-put-word-5
     put-word-requires-4
     same-length
     returns)

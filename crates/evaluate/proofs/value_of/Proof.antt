@@ -23,9 +23,6 @@ joined-requires-2 c κs = search needs
 float-of-bits-requires : tie.Need-float-of-bits-requires
 float-of-bits-requires c κs = search needs
 
-cast-t9 : tie.Need-cast-t9
-cast-t9 c = search needs
-
 returns : tie.Need-returns
 returns c = λ text v f e. said-at text v f e 1 (c .match .keys1)
 
@@ -39,7 +36,7 @@ returns-4 : tie.Need-returns-4
 returns-4 c = λ text v f e. ap (λ (x : Ieee.Float). datum (float (Ieee.toBits binary64 x))) (c .float-of-bits .ensures ∙ ap (Ieee.ofBits binary64) (c .before .joined2 .ensures)) ∙ said-at text v f e 4 (c .before .before .match .keys4)
 
 returns-5 : tie.Need-returns-5
-returns-5 c = λ text v f e. said-else text v f e (c .before .match .rest .0 .0 .0 .1) (c .before .match .rest .0 .0 .1) (c .before .match .rest .0 .1) (c .before .match .rest .1)
+returns-5 c = λ text v f e. said-else text v f e (c .match .rest .0 .0 .0 .1) (c .match .rest .0 .0 .1) (c .match .rest .0 .1) (c .match .rest .1)
 
 pub value-of-spec : {M : Type 1} → statement M
 value-of-spec =
@@ -49,7 +46,6 @@ value-of-spec =
     integer-of-bits-requires
     joined-requires-2
     float-of-bits-requires
-    cast-t9
     returns
     returns-2
     returns-3

@@ -16,6 +16,9 @@ enum-told c = search needs
 returns : tie.Need-returns
 returns c = one-none (marks-in (c .before .before .before .before .before .args .key) (c .before .before .before .before .before .args .columns .now)) (c .enum-told .given .1) (c .before .before .is-column-lookup .ensures)
 
+cast-has-index : tie.Need-cast-has-index
+cast-has-index c = search needs
+
 has-index-requires : tie.Need-has-index-requires
 has-index-requires c κs = search needs
 
@@ -33,6 +36,7 @@ find-one-spec =
     enum-known-found
     enum-told
     returns
+    cast-has-index
     has-index-requires
     returns-2
     returns-3)

@@ -84,13 +84,13 @@ fold-expressions-number-requires : (t : ℕ) → fold-expressions-lts.Need-numbe
 fold-expressions-number-requires t c κs = search needs
 
 fold-expressions-fold-expression-requires : (t : ℕ) → fold-expressions-lts.Need-fold-expression-requires (fold-expressions-claims t) (fold-expressions-at t) fold-expressions.Post
-fold-expressions-fold-expression-requires t c κs = let h : c .before .before .before .before .before .before .before .before .args .lo < c .before .before .before .before .before .before .before .before .args .end = omega (arith, c .before .before .before .before .if1 .left) in let u = last-at h (sym (c .before .before .if2 .taken) ∙ c .before .before .before .start .ensures) (c .before .before .before .before .before .before .before .before .pre .1 .0 .0) in (alone-at (c .before .before .before .before .before .before .before .before .pre .1 .0 .1 h) u, (c .before .before .before .before .before .before .before .before .pre .1 .1, number-low (c .number .ensures) u))
+fold-expressions-fold-expression-requires t c κs = let h : c .before .before .before .before .before .before .before .before .args .lo < c .before .before .before .before .before .before .before .before .args .end = omega (arith, c .before .before .before .before .if1 .left) in let u = last-at h (sym (c .before .before .if2 .taken) ∙ c .before .before .before .start .ensures) (c .before .before .before .before .before .before .before .before .pre .1 .0 .0) in (alone-at (c .before .before .before .before .before .before .before .before .pre .1 .0 .1 h) u, (c .before .before .before .before .before .before .before .before .pre .1 .1 .0, (number-low (c .number .ensures) u, c .before .before .before .before .before .before .before .before .pre .1 .1 .1)))
 
 fold-expressions-same-length : (t : ℕ) → fold-expressions-lts.Need-same-length (fold-expressions-claims t) (fold-expressions-at t) fold-expressions.Post
 fold-expressions-same-length t c = search needs
 
 fold-expressions-returns-2 : (t : ℕ) → fold-expressions-lts.Need-returns-2 (fold-expressions-claims t) (fold-expressions-at t) fold-expressions.Post
-fold-expressions-returns-2 t c = let h : c .before .before .before .before .before .before .before .before .before .before .before .args .lo < c .before .before .before .before .before .before .before .before .before .before .before .args .end = omega (arith, c .before .before .before .before .before .before .before .if1 .left) in parts-one h (sym (c .before .before .before .before .before .if2 .taken) ∙ c .before .before .before .before .before .before .start .ensures) (c .before .before .before .before .before .before .before .before .before .before .before .pre .1 .0 .0) (c .before .before .before .before .before .before .before .before .before .before .before .pre .1 .0 .1 h) (c .before .before .before .number .ensures) (c .before .before .before .before .before .before .before .before .before .before .before .pre .1 .1) (c .before .before .fold-expression .kept .1 .1 .1 .1 .0) (c .before .before .fold-expression .ensures)
+fold-expressions-returns-2 t c = let h : c .before .before .before .before .before .before .before .before .before .before .before .args .lo < c .before .before .before .before .before .before .before .before .before .before .before .args .end = omega (arith, c .before .before .before .before .before .before .before .if1 .left) in parts-one h (sym (c .before .before .before .before .before .if2 .taken) ∙ c .before .before .before .before .before .before .start .ensures) (c .before .before .before .before .before .before .before .before .before .before .before .pre .1 .0 .0) (c .before .before .before .before .before .before .before .before .before .before .before .pre .1 .0 .1 h) (c .before .before .before .number .ensures) (c .before .before .before .before .before .before .before .before .before .before .before .pre .1 .1 .0) (c .before .before .fold-expression .kept .1 .1 .1 .1 .0) (c .before .before .fold-expression .ensures)
 
 fold-expressions-fold-parts-requires : (t : ℕ) → fold-expressions-lts.Need-fold-parts-requires (fold-expressions-claims t) (fold-expressions-at t) fold-expressions.Post
 fold-expressions-fold-parts-requires t c κs = (omega (arith, c .before .before .before .before .before .before .before .pre .0), (c .before .before .before .before .before .before .before .pre .1 .0 .0, c .before .before .before .before .before .before .before .pre .1 .1))
@@ -108,19 +108,19 @@ fold-part-number-requires : (t : ℕ) → fold-part-lts.Need-number-requires (fo
 fold-part-number-requires t c κs = search needs
 
 fold-part-fold-expression-requires : (t : ℕ) → fold-part-lts.Need-fold-expression-requires (fold-part-claims t) (fold-part-at t) fold-part.Post
-fold-part-fold-expression-requires t c κs = (alone-at (omega (arith, c .before .before .before .tag-at .ensures, c .before .before .if1 .taken)) (c .before .before .before .before .before .before .before .pre .1 .0), (c .before .before .before .before .before .before .before .pre .1 .1, number-low (c .number .ensures) (c .before .before .before .before .before .before .before .pre .1 .0)))
+fold-part-fold-expression-requires t c κs = (alone-at (omega (arith, c .before .before .before .tag-at .ensures, c .before .before .if1 .taken)) (c .before .before .before .before .before .before .before .pre .1 .0), (c .before .before .before .before .before .before .before .pre .1 .1 .0, (number-low (c .number .ensures) (c .before .before .before .before .before .before .before .pre .1 .0), c .before .before .before .before .before .before .before .pre .1 .1 .1)))
 
 fold-part-same-length : (t : ℕ) → fold-part-lts.Need-same-length (fold-part-claims t) (fold-part-at t) fold-part.Post
 fold-part-same-length t c = search needs
 
 fold-part-returns : (t : ℕ) → fold-part-lts.Need-returns (fold-part-claims t) (fold-part-at t) fold-part.Post
-fold-part-returns t c = part-alone (c .before .before .before .before .before .before .before .before .before .before .pre .1 .0) (omega (arith, c .before .before .before .before .before .before .tag-at .ensures, c .before .before .before .before .before .if1 .taken)) (c .before .before .before .number .ensures) (c .before .before .before .before .before .before .before .before .before .before .pre .1 .1) (c .before .before .fold-expression .kept .1 .1 .1 .1 .0) (c .before .before .fold-expression .ensures)
+fold-part-returns t c = part-alone (c .before .before .before .before .before .before .before .before .before .before .pre .1 .0) (omega (arith, c .before .before .before .before .before .before .tag-at .ensures, c .before .before .before .before .before .if1 .taken)) (c .before .before .before .number .ensures) (c .before .before .before .before .before .before .before .before .before .before .pre .1 .1 .0) (c .before .before .fold-expression .kept .1 .1 .1 .1 .0) (c .before .before .fold-expression .ensures)
 
 fold-part-sub-fold-expressions : (t : ℕ) → fold-part-lts.Need-sub-fold-expressions (fold-part-claims t) (fold-part-at t) fold-part.Post
 fold-part-sub-fold-expressions t c = let (h, k) = part-at-in (c .before .before .before .before .before .pre .1 .0) in omega arith
 
 fold-part-fold-expressions-requires : (t : ℕ) → fold-part-lts.Need-fold-expressions-requires (fold-part-claims t) (fold-part-at t) fold-part.Post
-fold-part-fold-expressions-requires t c κs = let (h, k) = part-at-in (c .before .before .before .before .before .before .pre .1 .0) in (omega (arith, c .before .before .before .before .before .before .pre .0), ((under-at (omega (arith, c .before .before .tag-at .ensures, c .before .if1 .left)) (c .before .before .before .before .before .before .pre .1 .0), under-tag (omega (arith, c .before .before .tag-at .ensures, c .before .if1 .left)) (c .before .before .before .before .before .before .pre .1 .0)), omega (arith, c .before .before .before .before .before .before .pre .1 .1)))
+fold-part-fold-expressions-requires t c κs = let (h, k) = part-at-in (c .before .before .before .before .before .before .pre .1 .0) in (omega (arith, c .before .before .before .before .before .before .pre .0), ((under-at (omega (arith, c .before .before .tag-at .ensures, c .before .if1 .left)) (c .before .before .before .before .before .before .pre .1 .0), under-tag (omega (arith, c .before .before .tag-at .ensures, c .before .if1 .left)) (c .before .before .before .before .before .before .pre .1 .0)), (omega (arith, c .before .before .before .before .before .before .pre .1 .1 .0), c .before .before .before .before .before .before .pre .1 .1 .1)))
 
 fold-part-enum-known-n : (t : ℕ) → fold-part-lts.Need-enum-known-n (fold-part-claims t) (fold-part-at t) fold-part.Post
 fold-part-enum-known-n t c = search needs
@@ -153,13 +153,13 @@ fold-parts-start-requires : (t : ℕ) → fold-parts-lts.Need-start-requires (fo
 fold-parts-start-requires t c κs = last-size (omega (arith, c .if1 .left)) (c .before .before .before .before .pre .1 .0)
 
 fold-parts-fold-parts-requires : (t : ℕ) → fold-parts-lts.Need-fold-parts-requires (fold-parts-claims t) (fold-parts-at t) fold-parts.Post
-fold-parts-fold-parts-requires t c κs = let (h, k) = part-at-in (last-at (omega (arith, c .before .before .if1 .left)) (c .before .start .ensures) (c .before .before .before .before .before .before .pre .1 .0)) in let u = those-at (omega (arith, c .before .before .if1 .left)) (c .before .start .ensures) (c .before .before .before .before .before .before .pre .1 .0) in let (i, j) = parts-in u in (omega (arith, c .before .before .before .before .before .before .pre .0), (u, omega (arith, c .before .before .before .before .before .before .pre .1 .1)))
+fold-parts-fold-parts-requires t c κs = let (h, k) = part-at-in (last-at (omega (arith, c .before .before .if1 .left)) (c .before .start .ensures) (c .before .before .before .before .before .before .pre .1 .0)) in let u = those-at (omega (arith, c .before .before .if1 .left)) (c .before .start .ensures) (c .before .before .before .before .before .before .pre .1 .0) in let (i, j) = parts-in u in (omega (arith, c .before .before .before .before .before .before .pre .0), (u, (omega (arith, c .before .before .before .before .before .before .pre .1 .1 .0), c .before .before .before .before .before .before .pre .1 .1 .1)))
 
 fold-parts-enum-known-m : (t : ℕ) → fold-parts-lts.Need-enum-known-m (fold-parts-claims t) (fold-parts-at t) fold-parts.Post
 fold-parts-enum-known-m t c = search needs
 
 fold-parts-fold-part-requires : (t : ℕ) → fold-parts-lts.Need-fold-part-requires (fold-parts-claims t) (fold-parts-at t) fold-parts.Post
-fold-parts-fold-part-requires t c κs = let u = last-at (omega (arith, c .before .before .before .before .before .before .before .before .before .if1 .left)) (c .before .before .before .before .before .before .before .before .start .ensures) (c .before .before .before .before .before .before .before .before .before .before .before .before .before .pre .1 .0) in let (h, k) = part-at-in u in let (i, j) = parts-in (those-at (omega (arith, c .before .before .before .before .before .before .before .before .before .if1 .left)) (c .before .before .before .before .before .before .before .before .start .ensures) (c .before .before .before .before .before .before .before .before .before .before .before .before .before .pre .1 .0)) in (omega (arith, c .before .before .before .before .before .before .before .before .before .before .before .before .before .pre .0), (u, omega (arith, c .before .before .before .before .before .before .before .before .before .before .before .before .before .pre .1 .1, parts-bound (c .before .before .m .given .1) (c .before .before .before .before .before .before .fold-parts .ensures), c .before .before .before .before .before .before .fold-parts .kept .1 .1 .1 .1 .0)))
+fold-parts-fold-part-requires t c κs = let u = last-at (omega (arith, c .before .before .before .before .before .before .before .before .before .if1 .left)) (c .before .before .before .before .before .before .before .before .start .ensures) (c .before .before .before .before .before .before .before .before .before .before .before .before .before .pre .1 .0) in let (h, k) = part-at-in u in let (i, j) = parts-in (those-at (omega (arith, c .before .before .before .before .before .before .before .before .before .if1 .left)) (c .before .before .before .before .before .before .before .before .start .ensures) (c .before .before .before .before .before .before .before .before .before .before .before .before .before .pre .1 .0)) in (omega (arith, c .before .before .before .before .before .before .before .before .before .before .before .before .before .pre .0), (u, (omega (arith, c .before .before .before .before .before .before .before .before .before .before .before .before .before .pre .1 .1 .0, parts-bound (c .before .before .m .given .1) (c .before .before .before .before .before .before .fold-parts .ensures), c .before .before .before .before .before .before .fold-parts .kept .1 .1 .1 .1 .0), omega (arith, c .before .before .before .before .before .before .before .before .before .before .before .before .before .pre .1 .1 .1, c .before .before .before .before .before .before .fold-parts .kept .1 .1 .1 .1 .0))))
 
 fold-parts-enum-known-number : (t : ℕ) → fold-parts-lts.Need-enum-known-number (fold-parts-claims t) (fold-parts-at t) fold-parts.Post
 fold-parts-enum-known-number t c = search needs

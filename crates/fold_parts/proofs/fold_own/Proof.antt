@@ -20,7 +20,7 @@ sub-fold-parts : tie.Need-sub-fold-parts
 sub-fold-parts c = let (i, (j, k)) = own-in (c .before .before .before .before .before .pre .0) in omega arith
 
 fold-parts-requires : tie.Need-fold-parts-requires
-fold-parts-requires c κs = let (i, (j, k)) = own-in (c .before .before .before .before .before .before .pre .0) in (own-parts-at (c .before .before .is-visited .ensures) (c .before .if1 .taken) (c .before .before .before .before .before .before .pre .0), omega (arith, c .before .before .before .before .before .before .pre .1))
+fold-parts-requires c κs = let (i, (j, k)) = own-in (c .before .before .before .before .before .before .pre .0) in (own-parts-at (c .before .before .is-visited .ensures) (c .before .if1 .taken) (c .before .before .before .before .before .before .pre .0), (omega (arith, c .before .before .before .before .before .before .pre .1 .0), c .before .before .before .before .before .before .pre .1 .1))
 
 same-length : tie.Need-same-length
 same-length c = search needs

@@ -94,7 +94,7 @@ fold-expression-same-length : (t : ℕ) → fold-expression-lts.Need-same-length
 fold-expression-same-length t c = search needs
 
 fold-expression-returns : (t : ℕ) → fold-expression-lts.Need-returns (fold-expression-claims t) (fold-expression-at t) fold-expression.Post
-fold-expression-returns t c = let e = ap (λ (x : Cell). x .tag) (c .before .before .before .before .before .before .cell-at .ensures) in folds-leaf (c .before .before .before .before .before .before .before .before .before .before .args .first) (c .before .before .before .before .before .before .cell-at .ensures) (omega (arith, e, c .before .before .before .before .if1 .taken)) (c .before .before .before .before .before .before .before .before .before .before .pre .1 .1 .0) (c .before .before .put .ensures)
+fold-expression-returns t c = let e = ap (λ (x : Cell). x .tag) (c .before .before .before .before .before .before .cell-at .ensures) in folds-leaf (c .before .before .before .before .before .before .before .before .before .before .args .first) (c .before .before .before .before .before .before .cell-at .ensures) (omega (arith, e, c .before .before .before .before .if1 .taken)) (c .before .before .before .before .before .before .before .before .before .before .pre .1 .1 .0) (c .before .before .before .before .before .before .before .before .before .before .pre .1 .1 .1 .1) (c .before .before .put .ensures)
 
 fold-expression-sub-end : (t : ℕ) → fold-expression-lts.Need-sub-end (fold-expression-claims t) (fold-expression-at t) fold-expression.Post
 fold-expression-sub-end t c = let (h, k) = foldable-in (c .before .before .before .before .before .before .pre .1 .0) in omega arith
@@ -109,7 +109,7 @@ fold-expression-count-requires : (t : ℕ) → fold-expression-lts.Need-count-re
 fold-expression-count-requires t c κs = let (h, k) = foldable-in (c .before .before .before .before .before .before .before .before .before .before .before .before .before .before .before .before .pre .1 .0) in omega arith
 
 fold-expression-add-fold-unary : (t : ℕ) → fold-expression-lts.Need-add-fold-unary (fold-expression-claims t) (fold-expression-at t) fold-expression.Post
-fold-expression-add-fold-unary t c = let e = ap (λ (x : Cell). x .tag) (c .before .before .before .before .before .before .before .before .before .before .before .before .before .cell-at .ensures) in let (h, k) = foldable-in (c .before .before .before .before .before .before .before .before .before .before .before .before .before .before .before .before .before .pre .1 .0) in record { fits = omega (arith, c .before .before .before .before .before .before .before .before .before .before .before .before .before .before .before .before .before .fits .hi .fits, c .before .before .before .before .before .before .before .before .before .before .before .before .before .before .before .before .before .pre .1 .1 .1, operand-count (operand-at (omega (arith, e, c .before .before .before .before .before .before .before .before .before .if2 .taken)) (c .before .before .before .before .before .before .before .before .before .before .before .before .before .before .before .before .before .pre .1 .0)) (c .count .ensures)) }
+fold-expression-add-fold-unary t c = let e = ap (λ (x : Cell). x .tag) (c .before .before .before .before .before .before .before .before .before .before .before .before .before .cell-at .ensures) in let (h, k) = foldable-in (c .before .before .before .before .before .before .before .before .before .before .before .before .before .before .before .before .before .pre .1 .0) in record { fits = omega (arith, c .before .before .before .before .before .before .before .before .before .before .before .before .before .before .before .before .before .fits .hi .fits, c .before .before .before .before .before .before .before .before .before .before .before .before .before .before .before .before .before .pre .1 .1 .1 .0, operand-count (operand-at (omega (arith, e, c .before .before .before .before .before .before .before .before .before .if2 .taken)) (c .before .before .before .before .before .before .before .before .before .before .before .before .before .before .before .before .before .pre .1 .0)) (c .count .ensures)) }
 
 fold-expression-fold-unary-requires : (t : ℕ) → fold-expression-lts.Need-fold-unary-requires (fold-expression-claims t) (fold-expression-at t) fold-expression.Post
 fold-expression-fold-unary-requires t c κs = let e = ap (λ (x : Cell). x .tag) (c .before .before .before .before .before .before .before .before .before .before .before .before .before .cell-at .ensures) in let (h, k) = foldable-in (c .before .before .before .before .before .before .before .before .before .before .before .before .before .before .before .before .before .pre .1 .0) in result-at (c .before .before .before .before .before .before .before .before .before .before .before .before .before .before .before .before .before .args .first) (operand-at (omega (arith, e, c .before .before .before .before .before .before .before .before .before .if2 .taken)) (c .before .before .before .before .before .before .before .before .before .before .before .before .before .before .before .before .before .pre .1 .0)) (as-answer (c .before .before .before .before .before .before .before .before .before .before .before .before .before .before .before .before .before .args .first) (c .before .before .before .n .given .1) (c .before .before .before .before .before .before .before .fold-operand .ensures)) (omega (arith, c .before .before .before .before .before .before .before .before .before .before .before .before .before .before .before .before .before .pre .1 .1 .0)) (c .before .before .before .before .before .before .before .fold-operand .kept .1 .1 .1 .1 .0) .read
@@ -121,7 +121,7 @@ fold-expression-same-length-2 : (t : ℕ) → fold-expression-lts.Need-same-leng
 fold-expression-same-length-2 t c = search needs
 
 fold-expression-returns-2 : (t : ℕ) → fold-expression-lts.Need-returns-2 (fold-expression-claims t) (fold-expression-at t) fold-expression.Post
-fold-expression-returns-2 t c = let e = ap (λ (x : Cell). x .tag) (c .before .before .before .before .before .before .before .before .before .before .before .before .before .before .before .before .cell-at .ensures) in unary-done (c .before .before .before .before .before .before .before .before .before .before .before .before .before .before .before .before .before .before .before .before .args .first) (omega (arith, e, c .before .before .before .before .before .before .before .before .before .before .before .before .if2 .taken)) e (c .before .before .before .count .ensures) (c .before .before .before .before .before .before .before .before .before .before .before .before .before .before .before .before .before .before .before .before .pre .1 .1 .0) (c .before .before .before .before .before .before .before .before .before .before .fold-operand .kept .1 .1 .1 .1 .0) (as-answer (c .before .before .before .before .before .before .before .before .before .before .before .before .before .before .before .before .before .before .before .before .args .first) (c .before .before .before .before .before .before .n .given .1) (c .before .before .before .before .before .before .before .before .before .before .fold-operand .ensures)) (c .before .before .fold-unary .ensures)
+fold-expression-returns-2 t c = let e = ap (λ (x : Cell). x .tag) (c .before .before .before .before .before .before .before .before .before .before .before .before .before .before .before .before .cell-at .ensures) in unary-done (c .before .before .before .before .before .before .before .before .before .before .before .before .before .before .before .before .before .before .before .before .args .first) (omega (arith, e, c .before .before .before .before .before .before .before .before .before .before .before .before .if2 .taken)) e (c .before .before .before .count .ensures) (c .before .before .before .before .before .before .before .before .before .before .before .before .before .before .before .before .before .before .before .before .pre .1 .1 .0) (c .before .before .before .before .before .before .before .before .before .before .before .before .before .before .before .before .before .before .before .before .pre .1 .1 .1 .1) (c .before .before .before .before .before .before .before .before .before .before .fold-operand .kept .1 .1 .1 .1 .0) (as-answer (c .before .before .before .before .before .before .before .before .before .before .before .before .before .before .before .before .before .before .before .before .args .first) (c .before .before .before .before .before .before .n .given .1) (c .before .before .before .before .before .before .before .before .before .before .fold-operand .ensures)) (c .before .before .fold-unary .ensures)
 
 fold-expression-same-length-3 : (t : ℕ) → fold-expression-lts.Need-same-length-3 (fold-expression-claims t) (fold-expression-at t) fold-expression.Post
 fold-expression-same-length-3 t c = search needs
@@ -166,7 +166,7 @@ fold-operand-same-length : (t : ℕ) → fold-operand-lts.Need-same-length (fold
 fold-operand-same-length t c = search needs
 
 fold-operand-returns : (t : ℕ) → fold-operand-lts.Need-returns (fold-operand-claims t) (fold-operand-at t) fold-operand.Post
-fold-operand-returns t c = let e = ap (λ (x : Cell). x .tag) (c .before .before .before .before .before .before .cell-at .ensures) in folds-leaf (c .before .before .before .before .before .before .before .before .before .before .args .first) (c .before .before .before .before .before .before .cell-at .ensures) (omega (arith, e, c .before .before .before .before .if1 .taken)) (c .before .before .before .before .before .before .before .before .before .before .pre .1 .1 .0) (c .before .before .put .ensures)
+fold-operand-returns t c = let e = ap (λ (x : Cell). x .tag) (c .before .before .before .before .before .before .cell-at .ensures) in folds-leaf (c .before .before .before .before .before .before .before .before .before .before .args .first) (c .before .before .before .before .before .before .cell-at .ensures) (omega (arith, e, c .before .before .before .before .if1 .taken)) (c .before .before .before .before .before .before .before .before .before .before .pre .1 .1 .0) (c .before .before .before .before .before .before .before .before .before .before .pre .1 .1 .1 .1) (c .before .before .put .ensures)
 
 fold-operand-fold-expression-requires : (t : ℕ) → fold-operand-lts.Need-fold-expression-requires (fold-operand-claims t) (fold-operand-at t) fold-operand.Post
 fold-operand-fold-expression-requires t c κs = (omega (arith, c .before .before .before .before .before .before .before .pre .0), c .before .before .before .before .before .before .before .pre .1)
@@ -202,7 +202,7 @@ fold-right-is-neutral-requires : (t : ℕ) → fold-right-lts.Need-is-neutral-re
 fold-right-is-neutral-requires t c κs = search needs
 
 fold-right-fold-operand-requires : (t : ℕ) → fold-right-lts.Need-fold-operand-requires (fold-right-claims t) (fold-right-at t) fold-right.Post
-fold-right-fold-operand-requires t c κs = let (h, k) = foldable-in (the-right (c .before .before .before .before .before .before .before .before .before .before .before .pre .1)) in let (h′, k′) = foldable-in (the-left (c .before .before .before .before .before .before .before .before .before .before .before .pre .1)) in let (i, j) = left-in (c .before .before .before .before .before .before .before .before .before .before .before .pre .1) in (omega (arith, c .before .before .before .before .before .before .before .before .before .before .before .pre .0), (the-right (c .before .before .before .before .before .before .before .before .before .before .before .pre .1), (omega (arith, c .before .before .before .before .before .before .before .before .before .before .before .pre .1 .room), omega (arith, c .before .before .before .before .before .before .before .before .before .before .before .pre .1 .numbered, operand-count (the-left (c .before .before .before .before .before .before .before .before .before .before .before .pre .1)) (c .before .before .before .before .before .before .count .ensures)))))
+fold-right-fold-operand-requires t c κs = let (h, k) = foldable-in (the-right (c .before .before .before .before .before .before .before .before .before .before .before .pre .1)) in let (h′, k′) = foldable-in (the-left (c .before .before .before .before .before .before .before .before .before .before .before .pre .1)) in let (i, j) = left-in (c .before .before .before .before .before .before .before .before .before .before .before .pre .1) in (omega (arith, c .before .before .before .before .before .before .before .before .before .before .before .pre .0), (the-right (c .before .before .before .before .before .before .before .before .before .before .before .pre .1), (omega (arith, c .before .before .before .before .before .before .before .before .before .before .before .pre .1 .room), (omega (arith, c .before .before .before .before .before .before .before .before .before .before .before .pre .1 .numbered, operand-count (the-left (c .before .before .before .before .before .before .before .before .before .before .before .pre .1)) (c .before .before .before .before .before .before .count .ensures)), omega (arith, c .before .before .before .before .before .before .before .before .before .before .before .pre .1 .few)))))
 
 fold-right-enum-known-n : (t : ℕ) → fold-right-lts.Need-enum-known-n (fold-right-claims t) (fold-right-at t) fold-right.Post
 fold-right-enum-known-n t c = search needs
@@ -226,7 +226,7 @@ fold-right-returns-2 : (t : ℕ) → fold-right-lts.Need-returns-2 (fold-right-c
 fold-right-returns-2 t c = right-refused (c .before .before .before .before .before .before .before .before .before .before .before .before .before .before .before .before .before .pre .1) (c .before .before .before .before .before .before .before .before .before .before .before .before .count .ensures) (c .before .before .before .before .before .before .before .before .before .before .before .count2 .ensures) (as-answer (c .before .before .before .before .before .before .before .before .before .before .before .before .before .before .before .before .before .args .first + c .before .before .before .before .before .before .before .before .before .before .before .before .count .result) (c .before .number .given .1) (c .before .before .before .before .before .fold-operand .ensures))
 
 fold-right-fold-operand-requires-2 : (t : ℕ) → fold-right-lts.Need-fold-operand-requires-2 (fold-right-claims t) (fold-right-at t) fold-right.Post
-fold-right-fold-operand-requires-2 t c κs = let (h, k) = foldable-in (the-right (c .before .before .before .before .before .before .before .before .before .before .before .pre .1)) in let (h′, k′) = foldable-in (the-left (c .before .before .before .before .before .before .before .before .before .before .before .pre .1)) in (omega (arith, c .before .before .before .before .before .before .before .before .before .before .before .pre .0), (the-right (c .before .before .before .before .before .before .before .before .before .before .before .pre .1), (omega (arith, c .before .before .before .before .before .before .before .before .before .before .before .pre .1 .room), omega (arith, c .before .before .before .before .before .before .before .before .before .before .before .pre .1 .numbered, operand-count (the-left (c .before .before .before .before .before .before .before .before .before .before .before .pre .1)) (c .before .before .before .before .before .before .count .ensures)))))
+fold-right-fold-operand-requires-2 t c κs = let (h, k) = foldable-in (the-right (c .before .before .before .before .before .before .before .before .before .before .before .pre .1)) in let (h′, k′) = foldable-in (the-left (c .before .before .before .before .before .before .before .before .before .before .before .pre .1)) in (omega (arith, c .before .before .before .before .before .before .before .before .before .before .before .pre .0), (the-right (c .before .before .before .before .before .before .before .before .before .before .before .pre .1), (omega (arith, c .before .before .before .before .before .before .before .before .before .before .before .pre .1 .room), (omega (arith, c .before .before .before .before .before .before .before .before .before .before .before .pre .1 .numbered, operand-count (the-left (c .before .before .before .before .before .before .before .before .before .before .before .pre .1)) (c .before .before .before .before .before .before .count .ensures)), omega (arith, c .before .before .before .before .before .before .before .before .before .before .before .pre .1 .few)))))
 
 fold-right-enum-known-n-2 : (t : ℕ) → fold-right-lts.Need-enum-known-n-2 (fold-right-claims t) (fold-right-at t) fold-right.Post
 fold-right-enum-known-n-2 t c = search needs

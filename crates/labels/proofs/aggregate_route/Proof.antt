@@ -18,14 +18,23 @@ use Rattle.nodes.proofs.trees_start.Reads as trees-start-reads
 cell-at-requires : tie.Need-cell-at-requires
 cell-at-requires c κs = let (h, k) = at-in (c .before .pre .0) in (omega arith, k)
 
+cast-if1 : tie.Need-cast-if1
+cast-if1 c = search needs
+
 returns : tie.Need-returns
 returns c = aggregate-ends (c .before .before .cell-at .ensures) (c .before .before .before .before .pre .1) (c .before .before .before .before .args .i) (c .if1 .taken)
+
+cast-trees-start : tie.Need-cast-trees-start
+cast-trees-start c = search needs
 
 sub-trees-start : tie.Need-sub-trees-start
 sub-trees-start c = search needs
 
 sub-trees-start-2 : tie.Need-sub-trees-start-2
 sub-trees-start-2 c = search needs
+
+cast-trees-start-2 : tie.Need-cast-trees-start-2
+cast-trees-start-2 c = search needs
 
 add-trees-start : tie.Need-add-trees-start
 add-trees-start c = omega (arith, trees-few (groups-behind (c .before .before .before .before .cell-at .ensures) (c .before .before .before .before .before .before .pre .1) (c .before .before .before .before .before .before .args .i) (c .before .before .if1 .left) (c .before .before .before .before .before .before .pre .0)), at-in (c .before .before .before .before .before .before .pre .0) .1)
@@ -47,9 +56,12 @@ aggregate-route-spec =
     tie.close
     (tie.spec
     cell-at-requires
+    cast-if1
     returns
+    cast-trees-start
     sub-trees-start
     sub-trees-start-2
+    cast-trees-start-2
     add-trees-start
     sub-trees-start-3
     trees-start-requires

@@ -31,6 +31,9 @@ mul-word-at c = omega (arith, c .first-column .ensures, c .before .before .befor
 word-at-requires : tie.Need-word-at-requires
 word-at-requires c κs = omega (arith, c .first-column .ensures, record-there (c .before .before .before .before .before .before .pre .given) (c .before .before .before .before .before .before .args .t) (c .before .before .before .before .before .before .args .i) (omega (arith, c .before .before .entry .ensures, c .before .if1 .left)))
 
+cast-result : tie.Need-cast-result
+cast-result c = search needs
+
 returns-2 : tie.Need-returns-2
 returns-2 c = name-some (c .before .before .before .before .before .before .before .args .widths .now) (c .before .before .before .before .before .before .before .args .names .now) (c .before .before .before .before .before .before .before .args .columns .now) (c .before .before .before .before .before .before .before .args .t) (c .before .before .before .before .before .before .before .args .i) (omega (arith, c .before .before .before .entry .ensures, c .before .before .if1 .left)) (c .before .first-column .ensures) (c .word-at .ensures .is)
 
@@ -44,4 +47,5 @@ column-name-spec =
     add-word-at
     mul-word-at
     word-at-requires
+    cast-result
     returns-2)

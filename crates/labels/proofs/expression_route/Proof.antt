@@ -14,11 +14,18 @@ use Rattle.cells.proofs.cell_at.Reads as cell-at-reads
 cell-at-requires : tie.Need-cell-at-requires
 cell-at-requires c κs = expression-in (c .before .pre)
 
+cast-t5 : tie.Need-cast-t5
+cast-t5 c = search needs
+
 returns : tie.Need-returns
-returns c = to-column (c .before .before .cell-at .ensures) (c .if1 .taken)
+returns c = to-column (c .before .before .before .cell-at .ensures) (c .before .if1 .taken)
 
 returns-2 : tie.Need-returns-2
 returns-2 c = no-column (c .before .before .cell-at .ensures) (c .if1 .left)
 
 pub expression-route-spec : {M : Type 1} → statement M
-expression-route-spec = tie.close (tie.spec cell-at-requires returns returns-2)
+expression-route-spec = tie.close (tie.spec
+    cell-at-requires
+    cast-t5
+    returns
+    returns-2)

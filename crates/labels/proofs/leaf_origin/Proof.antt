@@ -17,6 +17,9 @@ use Rattle.labels.proofs.label_in.Reads as label-in-reads
 cell-at-requires : tie.Need-cell-at-requires
 cell-at-requires c κs = let (h, k) = at-in (c .before .pre .0) in (omega arith, k)
 
+cast-if2 : tie.Need-cast-if2
+cast-if2 c = search needs
+
 returns : tie.Need-returns
 returns c = nothing-ends (c .before .before .before .before .cell-at .ensures) (c .before .before .if1 .taken) (c .before .before .before .before .before .before .args .i) (c .if2 .taken)
 
@@ -41,17 +44,21 @@ returns-2 c = nothing-says (c .before .before .before .before .before .before .c
 returns-3 : tie.Need-returns-3
 returns-3 c = values-say (c .before .before .before .before .cell-at .ensures) (c .if3 .taken) (c .before .before .before .before .before .before .args .i)
 
+cast-t15 : tie.Need-cast-t15
+cast-t15 c = search needs
+
 aliased-requires : tie.Need-aliased-requires
 aliased-requires c κs = search needs
 
 returns-4 : tie.Need-returns-4
-returns-4 c = table-says (c .before .before .before .before .before .cell-at .ensures) (c .before .before .before .if1 .left) (c .before .if3 .left) (c .before .before .before .before .before .before .before .args .i) (c .aliased .result) (c .aliased .ensures)
+returns-4 c = table-says (c .before .before .before .before .before .before .cell-at .ensures) (c .before .before .before .before .if1 .left) (c .before .before .if3 .left) (c .before .before .before .before .before .before .before .before .args .i) (c .aliased .result) (c .aliased .ensures)
 
 pub leaf-origin-spec : {M : Type 1} → statement M
 leaf-origin-spec =
     tie.close
     (tie.spec
     cell-at-requires
+    cast-if2
     returns
     mul-cell-at
     add-cell-at
@@ -60,5 +67,6 @@ leaf-origin-spec =
     label-in-requires
     returns-2
     returns-3
+    cast-t15
     aliased-requires
     returns-4)

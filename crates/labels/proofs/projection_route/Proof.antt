@@ -17,8 +17,14 @@ use Rattle.nodes.proofs.trees_start.Reads as trees-start-reads
 cell-at-requires : tie.Need-cell-at-requires
 cell-at-requires c κs = let (h, k) = at-in (c .before .pre .0) in (omega arith, k)
 
+cast-if1 : tie.Need-cast-if1
+cast-if1 c = search needs
+
 returns : tie.Need-returns
 returns c = projection-ends (c .before .before .cell-at .ensures) (c .before .before .before .before .pre .1) (c .before .before .before .before .args .i) (c .if1 .taken)
+
+cast-trees-start : tie.Need-cast-trees-start
+cast-trees-start c = search needs
 
 sub-trees-start : tie.Need-sub-trees-start
 sub-trees-start c = search needs
@@ -43,7 +49,9 @@ projection-route-spec =
     tie.close
     (tie.spec
     cell-at-requires
+    cast-if1
     returns
+    cast-trees-start
     sub-trees-start
     sub-trees-start-2
     sub-trees-start-3

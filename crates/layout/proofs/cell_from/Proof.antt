@@ -7,11 +7,11 @@ use Rattle.layout.proofs.cell_from.Tie as tie
 byte-at-requires : tie.Need-byte-at-requires
 byte-at-requires c κs = search needs
 
+tag-at-requires : tie.Need-tag-at-requires
+tag-at-requires c κs = search needs
+
 add-byte-at : tie.Need-add-byte-at
 add-byte-at c = search needs
-
-byte-at-requires-2 : tie.Need-byte-at-requires-2
-byte-at-requires-2 c κs = search needs
 
 add-half-at : tie.Need-add-half-at
 add-half-at c = search needs
@@ -39,16 +39,16 @@ word-at-requires-3 c κs = search needs
 
 returns : tie.Need-returns
 returns c =
-    cell-holds _ _ (c .before .before .before .before .before .byte-at .ensures) (c .before .before .before .before .byte-at2 .ensures)
+    cell-holds _ _ (c .before .before .before .before .before .tag-at .ensures) (c .before .before .before .before .byte-at .ensures)
     (c .before .before .before .half-at .ensures) (c .before .before .word-at .ensures) (c .before .word-at2 .ensures) (c .word-at3 .ensures)
 
 pub cell-from-spec : {M : Type 1} → statement M
 cell-from-spec =
     tie.close
     (tie.spec
-    byte-at-requires
+    tag-at-requires
     add-byte-at
-    byte-at-requires-2
+    byte-at-requires
     add-half-at
     half-at-requires
     add-word-at

@@ -6,6 +6,9 @@ use Rattle.listing.proofs.cell_line.Tie as tie
 number-requires : tie.Need-number-requires
 number-requires c κs = search needs
 
+cast-number : tie.Need-cast-number
+cast-number c = search needs
+
 number-requires-2 : tie.Need-number-requires-2
 number-requires-2 c κs = search needs
 
@@ -25,13 +28,14 @@ same-length : tie.Need-same-length
 same-length c = search needs
 
 returns : tie.Need-returns
-returns c = then-more (c .before .before .before .before .before .before .before .before .before .before .before .before .before .before .before .before .before .before .before .before .before .before .before .before .before .args .i) 32 (c .before .before .before .before .before .before .before .before .before .before .before .before .before .before .before .before .before .before .before .before .before .before .number .kept .1 .1 .0) (c .before .before .before .before .before .before .before .before .before .before .before .before .before .before .before .before .before .before .before .before .before .before .number .ensures) (then-more (c .before .before .before .before .before .before .before .before .before .before .before .before .before .before .before .before .before .before .before .before .before .before .before .before .before .args .k .tag) 32 (c .before .before .before .before .before .before .before .before .before .before .before .before .before .before .before .before .before .before .number2 .kept .1 .1 .0) (c .before .before .before .before .before .before .before .before .before .before .before .before .before .before .before .before .before .before .number2 .ensures) (then-more (c .before .before .before .before .before .before .before .before .before .before .before .before .before .before .before .before .before .before .before .before .before .before .before .before .before .args .k .flag) 32 (c .before .before .before .before .before .before .before .before .before .before .before .before .before .before .number3 .kept .1 .1 .0) (c .before .before .before .before .before .before .before .before .before .before .before .before .before .before .number3 .ensures) (then-more (c .before .before .before .before .before .before .before .before .before .before .before .before .before .before .before .before .before .before .before .before .before .before .before .before .before .args .k .a) 32 (c .before .before .before .before .before .before .before .before .before .before .number4 .kept .1 .1 .0) (c .before .before .before .before .before .before .before .before .before .before .number4 .ensures) (then-more (c .before .before .before .before .before .before .before .before .before .before .before .before .before .before .before .before .before .before .before .before .before .before .before .before .before .args .k .b) 32 (c .before .before .before .before .before .before .number5 .kept .1 .1 .0) (c .before .before .before .before .before .before .number5 .ensures) (c .before .before .number6 .ensures)))))
+returns c = then-more (c .before .before .before .before .before .before .before .before .before .before .before .before .before .before .before .before .before .before .before .before .before .before .before .before .before .before .args .i) 32 (c .before .before .before .before .before .before .before .before .before .before .before .before .before .before .before .before .before .before .before .before .before .before .before .number .kept .1 .1 .0) (c .before .before .before .before .before .before .before .before .before .before .before .before .before .before .before .before .before .before .before .before .before .before .before .number .ensures) (then-more (c .before .before .before .before .before .before .before .before .before .before .before .before .before .before .before .before .before .before .before .before .before .before .before .before .before .before .args .k .tag) 32 (c .before .before .before .before .before .before .before .before .before .before .before .before .before .before .before .before .before .before .number2 .kept .1 .1 .0) (c .before .before .before .before .before .before .before .before .before .before .before .before .before .before .before .before .before .before .number2 .ensures) (then-more (c .before .before .before .before .before .before .before .before .before .before .before .before .before .before .before .before .before .before .before .before .before .before .before .before .before .before .args .k .flag) 32 (c .before .before .before .before .before .before .before .before .before .before .before .before .before .before .number3 .kept .1 .1 .0) (c .before .before .before .before .before .before .before .before .before .before .before .before .before .before .number3 .ensures) (then-more (c .before .before .before .before .before .before .before .before .before .before .before .before .before .before .before .before .before .before .before .before .before .before .before .before .before .before .args .k .a) 32 (c .before .before .before .before .before .before .before .before .before .before .number4 .kept .1 .1 .0) (c .before .before .before .before .before .before .before .before .before .before .number4 .ensures) (then-more (c .before .before .before .before .before .before .before .before .before .before .before .before .before .before .before .before .before .before .before .before .before .before .before .before .before .before .args .k .b) 32 (c .before .before .before .before .before .before .number5 .kept .1 .1 .0) (c .before .before .before .before .before .before .number5 .ensures) (c .before .before .number6 .ensures)))))
 
 pub cell-line-spec : {M : Type 1} → statement M
 cell-line-spec =
     tie.close
     (tie.spec
     number-requires
+    cast-number
     number-requires-2
     number-requires-3
     number-requires-4

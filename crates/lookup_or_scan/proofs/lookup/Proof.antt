@@ -21,6 +21,9 @@ returns c = looks-full (c .before .before .before .into-column-values .ensures) 
 sub-lookup-cell : tie.Need-sub-lookup-cell
 sub-lookup-cell c = let (h, k) = values-count (c .before .before .before .before .into-column-values .ensures) (omega (arith, c .before .if1 .left)) (c .before .before .before .before .before .before .before .before .pre .0) in omega arith
 
+cast-lookup-cell : tie.Need-cast-lookup-cell
+cast-lookup-cell c = search needs
+
 lookup-cell-requires : tie.Need-lookup-cell-requires
 lookup-cell-requires c κs = let (h, k) = values-count (c .before .before .before .before .into-column-values .ensures) (omega (arith, c .before .if1 .left)) (c .before .before .before .before .before .before .before .before .pre .0) in (omega (arith, (c .before .before .before .before .before .before .before .before .pre) .1 .0), omega (arith, (c .before .before .before .before .before .before .before .before .pre) .1 .1))
 
@@ -41,6 +44,7 @@ lookup-spec =
     same-length
     returns
     sub-lookup-cell
+    cast-lookup-cell
     lookup-cell-requires
     put-requires
     same-length-2

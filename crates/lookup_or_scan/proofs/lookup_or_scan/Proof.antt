@@ -40,7 +40,7 @@ lookup-requires : tie.Need-lookup-requires
 lookup-requires c κs = let (h, k) = found-there (c .before .before .before .before .before .before .before .before .before .before .pre) (c .before .before .before .before .before .find-lookup .ensures) (c .before .before .before .found .given .1) in (h, (omega arith, c .before .before .before .before .before .before .before .before .before .before .pre .short))
 
 filtered-requires : tie.Need-filtered-requires
-filtered-requires c κs = record { e = c .before .before .before .before .before .before .before .before .before .before .before .before .before .before .pre .cnf; here = c .before .before .before .before .before .before .before .before .before .before .before .before .before .before .pre .cnf-here }
+filtered-requires c κs = (record { e = c .before .before .before .before .before .before .before .before .before .before .before .before .before .before .pre .cnf; here = c .before .before .before .before .before .before .before .before .before .before .before .before .before .before .pre .cnf-here }, omega (arith, c .before .before .before .before .before .before .before .before .before .before .before .before .before .before .pre .short, c .before .before .before .lookup .kept .1 .1 .1 .1 .1 .1 .0))
 
 same-length-2 : tie.Need-same-length-2
 same-length-2 c = search needs

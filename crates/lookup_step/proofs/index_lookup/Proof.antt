@@ -20,7 +20,7 @@ sub-into-cnf : tie.Need-sub-into-cnf
 sub-into-cnf c = let (h, k) = stream-in (c .before .before .before .before .before .before .before .before .before .pre .0) in omega arith
 
 into-cnf-requires : tie.Need-into-cnf-requires
-into-cnf-requires c κs = (filter-at (c .before .before .before .has-filter .ensures) (c .before .before .before .before .before .before .before .before .before .before .before .pre .1 .0) (c .before .before .if1 .taken) (c .before .before .before .before .before .before .before .before .before .before .before .pre .0), c .before .before .before .before .before .before .before .before .before .before .before .pre .1 .1 .0 ∙ sym (c .before .before .before .before .before .before .before .before .before .before .before .pre .1 .1 .1))
+into-cnf-requires c κs = (filter-at (c .before .before .before .has-filter .ensures) (c .before .before .before .before .before .before .before .before .before .before .before .pre .1 .0) (c .before .before .if1 .taken) (c .before .before .before .before .before .before .before .before .before .before .before .pre .0), (c .before .before .before .before .before .before .before .before .before .before .before .pre .1 .1 .0 ∙ sym (c .before .before .before .before .before .before .before .before .before .before .before .pre .1 .1 .1), omega (arith, c .before .before .before .before .before .before .before .before .before .before .before .pre .0 .short-out, c .before .before .before .before .before .before .before .before .before .before .before .pre .1 .1 .1)))
 
 same-length : tie.Need-same-length
 same-length c = search needs

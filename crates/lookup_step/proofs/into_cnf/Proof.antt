@@ -15,7 +15,7 @@ same-length : tie.Need-same-length
 same-length c = search needs
 
 returns : tie.Need-returns
-returns c = nnf-full (c .before .before .before .into-nnf .ensures) (c .before .before .before .before .before .before .before .before .pre .1) (omega (arith, c .if1 .taken, c .before .before .before .into-nnf .kept .1 .1 .1 .0))
+returns c = nnf-full (c .before .before .before .into-nnf .ensures) (c .before .before .before .before .before .before .before .before .pre .1 .0) (omega (arith, c .before .before .before .before .before .before .before .before .pre .1 .1)) (omega (arith, c .if1 .taken, c .before .before .before .into-nnf .kept .1 .1 .1 .0))
 
 distribute-requires : tie.Need-distribute-requires
 distribute-requires c κs = nnf-at (c .before .before .before .before .before .into-nnf .ensures) (c .before .before .before .before .before .into-nnf .kept .1 .1 .1 .0) (c .before .before .if1 .left) (c .before .before .before .before .before .before .before .before .before .before .pre .0)
@@ -27,7 +27,7 @@ same-length-3 : tie.Need-same-length-3
 same-length-3 c = search needs
 
 returns-2 : tie.Need-returns-2
-returns-2 c = normal (c .before .before .before .before .before .before .before .before .into-nnf .ensures) (c .before .before .before .before .before .before .before .before .before .before .before .before .before .pre .1) (c .before .before .before .before .before .before .before .before .into-nnf .kept .1 .1 .1 .0) (c .before .before .before .before .before .if1 .left) (c .before .before .distribute .kept .1 .1 .1 .0) (c .before .before .distribute .ensures)
+returns-2 c = normal (c .before .before .before .before .before .before .before .before .into-nnf .ensures) (c .before .before .before .before .before .before .before .before .before .before .before .before .before .pre .1 .0) (omega (arith, c .before .before .before .before .before .before .before .before .before .before .before .before .before .pre .1 .1)) (c .before .before .before .before .before .before .before .before .into-nnf .kept .1 .1 .1 .0) (c .before .before .before .before .before .if1 .left) (c .before .before .distribute .kept .1 .1 .1 .0) (c .before .before .distribute .ensures)
 
 pub into-cnf-spec : {M : Type 1} → statement M
 into-cnf-spec =

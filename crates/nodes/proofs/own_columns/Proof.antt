@@ -18,14 +18,23 @@ use Rattle.nodes.proofs.remap_columns.Reads as remap-columns-reads
 cell-at-requires : tie.Need-cell-at-requires
 cell-at-requires c κs = let (h, k) = at-in (columns-node (c .before .before .pre .0)) in (omega arith, k)
 
+cast-result : tie.Need-cast-result
+cast-result c = search needs
+
+cast-result-2 : tie.Need-cast-result-2
+cast-result-2 c = search needs
+
 add-result : tie.Need-add-result
-add-result c = omega (arith, aggregate-fits (c .before .before .before .cell-at .ensures) (c .before .before .before .before .before .before .pre .1 .0) (c .before .if1 .taken) (columns-node (c .before .before .before .before .before .before .pre .0)), at-in (columns-node (c .before .before .before .before .before .before .pre .0)) .1)
+add-result c = omega (arith, aggregate-fits (c .before .before .before .before .cell-at .ensures) (c .before .before .before .before .before .before .before .pre .1 .0) (c .before .before .if1 .taken) (columns-node (c .before .before .before .before .before .before .before .pre .0)), at-in (columns-node (c .before .before .before .before .before .before .before .pre .0)) .1)
 
 returns : tie.Need-returns
-returns c = columns-aggregate (c .before .before .before .cell-at .ensures) (c .before .before .before .before .before .before .pre .1 .0) (c .before .if1 .taken)
+returns c = columns-aggregate (c .before .before .before .before .cell-at .ensures) (c .before .before .before .before .before .before .before .pre .1 .0) (c .before .before .if1 .taken)
+
+cast-result-3 : tie.Need-cast-result-3
+cast-result-3 c = search needs
 
 returns-2 : tie.Need-returns-2
-returns-2 c = columns-projection (c .before .before .before .before .cell-at .ensures) (c .before .before .before .before .before .before .before .pre .1 .0) (c .if2 .taken)
+returns-2 c = columns-projection (c .before .before .before .before .before .cell-at .ensures) (c .before .before .before .before .before .before .before .before .pre .1 .0) (c .before .if2 .taken)
 
 sub-remap-columns : tie.Need-sub-remap-columns
 sub-remap-columns c = omega (arith, at-in (columns-node (c .before .before .before .before .before .before .before .pre .0)) .0)
@@ -41,8 +50,11 @@ own-columns-spec =
     tie.close
     (tie.spec
     cell-at-requires
+    cast-result
+    cast-result-2
     add-result
     returns
+    cast-result-3
     returns-2
     sub-remap-columns
     remap-columns-requires

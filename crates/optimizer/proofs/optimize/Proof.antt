@@ -1,3 +1,4 @@
+use mathlib.Core.Path.{refl, _∙_}
 use Rattle.passes.proofs.Turns.{plan-with, plan-next, runs-then, runs-stop}
 use Rattle.sql.specs.Optimizer as Optimizer
 use Rattle.sql.specs.Optimizer.{in-turn}
@@ -23,25 +24,25 @@ enum-known-number : tie.Need-enum-known-number
 enum-known-number c = search needs
 
 same-length : tie.Need-same-length
-same-length c = search needs
+same-length c = c .before .before .before .before .before .before .before .before .from-pushdown .kept .1 .1 .0
 
 same-length-2 : tie.Need-same-length-2
-same-length-2 c = search needs
+same-length-2 c = c .before .before .before .before .before .before .before .before .from-pushdown .kept .1 .0
 
 same-length-3 : tie.Need-same-length-3
-same-length-3 c = search needs
+same-length-3 c = c .before .before .before .before .before .before .before .before .from-pushdown .kept .0 ∙ c .before .before .before .before .before .before .before .before .before .before .before .before .before .before .before .before .before .before .fold .kept .1 .1 .0
 
 same-length-4 : tie.Need-same-length-4
-same-length-4 c = search needs
+same-length-4 c = c .before .before .before .before .before .before .before .before .from-pushdown .kept .1 .1 .1 .0
 
 returns : tie.Need-returns
 returns c = runs-then (λ schema text g. g .0) (λ room schema p. Optimizer.ConstantFolding 0 p) (c .before .before .before .before .before .before .before .before .before .before .before .before .before .before .before .before .before .before .before .before .before .before .before .before .before .before .before .before .before .before .args .x .now) (c .before .before .before .before .before .before .before .before .before .before .before .before .before .before .before .before .before .before .before .before .before .before .before .before .before .before .before .before .before .before .args .t) _ _ _ (c .before .before .before .before .before .before .before .before .before .before .before .before .before .before .n .given .1) (c .before .before .before .before .before .before .before .before .before .before .before .before .before .before .before .before .before .before .fold .ensures) (omega (arith, c .before .before .before .before .before .before .before .before .before .before .before .before .before .before .before .before .before .before .fold .kept .1 .1 .0, c .before .before .before .before .before .before .before .before .before .before .before .before .before .before .before .before .before .before .before .before .before .before .before .before .before .before .before .before .before .before .pre .1 .third)) (λ schema text g. g .1) (λ room schema q. in-turn (from-pushdown room schema) q) _ _ (c .before .before .before .before .before .before .before .before .from-pushdown .ensures)
 
 same-length-5 : tie.Need-same-length-5
-same-length-5 c = search needs
+same-length-5 c = refl
 
 same-length-6 : tie.Need-same-length-6
-same-length-6 c = search needs
+same-length-6 c = c .before .before .before .before .before .fold .kept .1 .1 .0
 
 returns-2 : tie.Need-returns-2
 returns-2 c = runs-stop (λ schema text g. g .0) (λ room schema p. Optimizer.ConstantFolding 0 p) (c .before .before .before .before .before .before .before .before .before .before .before .before .before .before .before .before .before .args .x .now) (c .before .before .before .before .before .before .before .before .before .before .before .before .before .before .before .before .before .args .t) _ _ _ _ (c .before .number .given .1) (c .before .before .before .before .before .fold .ensures) (λ room schema q. in-turn (from-pushdown room schema) q) _

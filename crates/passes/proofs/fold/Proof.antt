@@ -6,7 +6,7 @@ use Rattle.passes.proofs.fold.Tie as tie
 use Rattle.constant_folding.proofs.constant_folding.Reads as constant-folding-reads
 
 constant-folding-requires : tie.Need-constant-folding-requires
-constant-folding-requires c κs = (fold-asked (c .before .before .before .before .pre .0), omega (arith, c .before .before .before .before .pre .0 .plan .inside, c .before .before .before .before .pre .1))
+constant-folding-requires c κs = (fold-asked (c .before .before .before .before .pre .0), (omega (arith, c .before .before .before .before .pre .0 .plan .inside, c .before .before .before .before .pre .1), omega (arith, c .before .before .before .before .pre .0 .short, c .before .before .before .before .pre .1)))
 
 same-length : tie.Need-same-length
 same-length c = search needs

@@ -24,7 +24,7 @@ same-length : tie.Need-same-length
 same-length c = search needs
 
 returns : tie.Need-returns
-returns c = runs (λ schema text g. g) (c .before .before .before .before .before .before .before .before .before .pre .1) (λ room schema rest p. done (Optimizer.HashJoin schema p)) (c .before .before .before .before .optimize .ensures) (c .in-room .ensures)
+returns c = runs (λ schema text g. g) (c .before .before .before .before .before .before .before .before .before .pre .1) (c .before .before .before .before .before .before .before .before .before .pre .0 .short) (λ room schema rest p. done (Optimizer.HashJoin schema p)) (c .before .before .before .before .optimize .ensures) (c .in-room .ensures)
 
 pub hash-join-spec : {M : Type 1} → statement M
 hash-join-spec = tie.close (tie.spec optimize-requires in-room-requires same-length returns)

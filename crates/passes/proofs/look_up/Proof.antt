@@ -29,7 +29,7 @@ same-length-3 : tie.Need-same-length-3
 same-length-3 c = search needs
 
 returns : tie.Need-returns
-returns c = runs (λ schema text g. g) (c .before .before .before .before .before .before .before .before .before .before .before .before .before .before .before .before .before .before .before .pre .1 .second) IndexLookup (c .before .before .before .before .before .before .before .before .transform .ensures) (c .in-room .ensures)
+returns c = runs (λ schema text g. g) (c .before .before .before .before .before .before .before .before .before .before .before .before .before .before .before .before .before .before .before .pre .1 .second) (c .before .before .before .before .before .before .before .before .before .before .before .before .before .before .before .before .before .before .before .pre .0 .short) IndexLookup (c .before .before .before .before .before .before .before .before .transform .ensures) (c .in-room .ensures)
 
 pub look-up-spec : {M : Type 1} → statement M
 look-up-spec =

@@ -40,7 +40,7 @@ same-length-4 : tie.Need-same-length-4
 same-length-4 c = search needs
 
 returns : tie.Need-returns
-returns c = runs-copied (λ room schema p. FilterPushdown room schema 0 p) (c .before .before .before .before .before .before .before .before .before .before .before .before .before .before .before .before .before .before .before .before .before .before .before .before .before .before .args .x .now) (c .before .before .before .before .before .before .before .before .before .before .before .before .before .before .before .before .before .before .before .before .before .before .before .before .before .before .args .t) _ _ _ _ _ _ (c .before .before .before .before .before .before .n .given .1) (c .before .before .before .before .before .before .before .before .before .before .before .before .before .before .before .before .push-down-in-place .ensures) (omega (arith, c .before .before .before .before .before .before .before .before .before .before .before .before .before .before .before .before .push-down-in-place .kept .0, c .before .before .before .before .before .before .before .before .before .before .before .before .before .before .before .before .push-down-in-place .kept .1 .0, c .before .before .before .before .before .before .before .before .before .before .before .before .before .before .before .before .before .before .before .before .before .before .before .before .before .before .pre .1 .second)) (c .before .before .copy .kept .1 .1 .1 .0) (c .before .before .copy .ensures)
+returns c = runs-copied (λ room schema p. FilterPushdown room schema 0 p) (c .before .before .before .before .before .before .before .before .before .before .before .before .before .before .before .before .before .before .before .before .before .before .before .before .before .before .args .x .now) (c .before .before .before .before .before .before .before .before .before .before .before .before .before .before .before .before .before .before .before .before .before .before .before .before .before .before .args .t) _ _ _ _ _ _ (c .before .before .before .before .before .before .n .given .1) (c .before .before .before .before .before .before .before .before .before .before .before .before .before .before .before .before .push-down-in-place .ensures) (omega (arith, c .before .before .before .before .before .before .before .before .before .before .before .before .before .before .before .before .push-down-in-place .kept .1 .0, c .before .before .before .before .before .before .before .before .before .before .before .before .before .before .before .before .before .before .before .before .before .before .before .before .before .before .pre .0 .short, c .before .before .before .before .before .before .before .before .before .before .before .before .before .before .before .before .before .before .before .before .before .before .before .before .before .before .pre .1 .second)) (omega (arith, c .before .before .before .before .before .before .before .before .before .before .before .before .before .before .before .before .push-down-in-place .kept .0, c .before .before .before .before .before .before .before .before .before .before .before .before .before .before .before .before .push-down-in-place .kept .1 .0, c .before .before .before .before .before .before .before .before .before .before .before .before .before .before .before .before .before .before .before .before .before .before .before .before .before .before .pre .1 .second)) (c .before .before .copy .kept .1 .1 .1 .0) (c .before .before .copy .ensures)
 
 same-length-5 : tie.Need-same-length-5
 same-length-5 c = search needs

@@ -32,7 +32,7 @@ same-length-4 : tie.Need-same-length-4
 same-length-4 c = search needs
 
 returns : tie.Need-returns
-returns c = push-left FilterPushdown (c .before .before .before .before .before .before .before .before .before .before .filter-pushdown .ensures) (c .in-room .ensures)
+returns c = push-left (c .before .before .before .before .before .before .before .before .before .before .before .before .before .before .before .before .before .before .before .before .pre .0 .short) FilterPushdown (c .before .before .before .before .before .before .before .before .before .before .filter-pushdown .ensures) (c .in-room .ensures)
 
 pub push-down-in-place-spec : {M : Type 1} → statement M
 push-down-in-place-spec =

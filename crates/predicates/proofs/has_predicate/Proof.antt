@@ -1,49 +1,42 @@
-use Prim.Native.Nat.{_-_, _≤_}
+use Prim.Native.Nat.{_-_}
 use native.Mathlib.Omega.{arith}
-use mathlib.Core.Path.{_≡_, sym, _∙_}
-use borrow.Author.Needs.{needs}
-use Rattle.predicates.proofs.Sheets.{Undecided, undecided-all, decided, undecided-next, none-predicated}
+use mathlib.Core.Path.{sym, _∙_}
+use Rattle.predicates.proofs.Search.{Undecided, undecided-all, next-inside, found, undecided-next, not-found}
 use Rattle.predicates.proofs.has_predicate.Statement.{statement}
 use Rattle.predicates.proofs.has_predicate.Tie as tie
 
 abbrev Inv-loop : tie.InvT-loop
-Inv-loop s count at i₀ i = Undecided s i × (i ≤ count)
+Inv-loop x n i₀ i = Undecided x n i
 
 abbrev μ-loop : tie.MeasureT-loop
-μ-loop s count at i₀ i = count - i
-
-parts-of-requires : tie.Need-parts-of-requires Inv-loop μ-loop
-parts-of-requires c κs = c .before .pre
+μ-loop x n i₀ i = n - i
 
 loop-holds : tie.Need-loop-holds Inv-loop μ-loop
-loop-holds c = (undecided-all (c .before .before .args .s .now), omega arith)
+loop-holds c = undecided-all (c .before .pre)
 
-mul-cell-from : tie.Need-mul-cell-from Inv-loop μ-loop
-mul-cell-from c = omega (arith, c .before .before .parts-of .ensures .cells-few)
+add-cell-at : tie.Need-add-cell-at Inv-loop μ-loop
+add-cell-at c = omega (arith, next-inside (c .before .loop .inv) (c .loop-test .taken))
 
-add-cell-from : tie.Need-add-cell-from Inv-loop μ-loop
-add-cell-from c = omega (arith, c .before .before .parts-of .ensures .cells-end)
+cell-at-requires : tie.Need-cell-at-requires Inv-loop μ-loop
+cell-at-requires c κs = let (h, j) = next-inside (c .before .loop .inv) (c .loop-test .taken) in (omega arith, omega arith)
 
-cell-from-requires : tie.Need-cell-from-requires Inv-loop μ-loop
-cell-from-requires c κs = omega (arith, c .before .before .parts-of .ensures .cells-end, c .loop-test .taken)
-
-is-predicated-requires : tie.Need-is-predicated-requires Inv-loop μ-loop
-is-predicated-requires c κs = tt
+says-predicate-requires : tie.Need-says-predicate-requires Inv-loop μ-loop
+says-predicate-requires c κs = tt
 
 returns : tie.Need-returns Inv-loop μ-loop
-returns c = decided (c .before .before .before .before .before .before .before .args .s .now) (c .before .before .before .before .loop .inv .0) (c .before .before .before .before .before .parts-of .ensures) (c .before .before .before .loop-test .taken) (c .before .before .cell-from .ensures) (sym (c .before .is-predicated .ensures) ∙ c .if1 .taken)
+returns c = found (c .before .before .before .before .loop .inv) (c .before .before .before .loop-test .taken) (c .before .before .cell-at .ensures) (sym (c .before .says-predicate .ensures) ∙ c .if1 .taken)
 
 add-i : tie.Need-add-i Inv-loop μ-loop
-add-i c = search needs
+add-i c = omega (arith, next-inside (c .before .before .before .before .loop .inv) (c .before .before .before .loop-test .taken))
 
 loop-less : tie.Need-loop-less Inv-loop μ-loop
-loop-less c = search needs
+loop-less c = omega arith
 
 loop-again : tie.Need-loop-again Inv-loop μ-loop
-loop-again c = (undecided-next (c .before .before .before .before .before .before .before .args .s .now) (c .before .before .before .before .loop .inv .0) (c .before .before .before .before .before .parts-of .ensures) (c .before .before .before .loop-test .taken) (c .before .before .cell-from .ensures) (sym (c .before .is-predicated .ensures) ∙ c .if1 .left), omega (arith, c .before .before .before .loop-test .taken))
+loop-again c = undecided-next (c .before .before .before .before .loop .inv) (c .before .before .before .loop-test .taken) (c .before .before .cell-at .ensures) (sym (c .before .says-predicate .ensures) ∙ c .if1 .left)
 
 returns-2 : tie.Need-returns-2 Inv-loop μ-loop
-returns-2 c = none-predicated (c .before .before .before .before .args .s .now) (c .before .loop .inv .0) (c .before .before .parts-of .ensures) (omega (arith, c .loop-test .left))
+returns-2 c = not-found (c .before .loop .inv) (omega arith)
 
 pub has-predicate-spec : {M : Type 1} → statement M
 has-predicate-spec =
@@ -51,12 +44,10 @@ has-predicate-spec =
     (tie.spec
     Inv-loop
     μ-loop
-    parts-of-requires
     loop-holds
-    mul-cell-from
-    add-cell-from
-    cell-from-requires
-    is-predicated-requires
+    add-cell-at
+    cell-at-requires
+    says-predicate-requires
     returns
     add-i
     loop-less

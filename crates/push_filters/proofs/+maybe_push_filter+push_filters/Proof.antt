@@ -183,7 +183,7 @@ push-filters-same-length-8 : (t : ℕ) → push-filters-lts.Need-same-length-8 (
 push-filters-same-length-8 t c = c .before .before .before .before .before .before .before .before .maybe-push-join .kept .1 .1 .1 .0 ∙ c .before .before .before .before .before .before .before .before .before .before .before .before .before .before .before .before .before .before .before .before .before .before .maybe-push-filter .kept .1 .1 .1 .0
 
 push-filters-returns-2 : (t : ℕ) → push-filters-lts.Need-returns-2 (push-filters-claims t) (push-filters-at t) push-filters.Post
-push-filters-returns-2 t c = push-again (c .before .before .before .before .before .before .before .before .before .before .before .before .before .before .before .before .before .before .before .before .before .before .before .before .before .before .before .before .before .before .before .before .args .n) (c .before .before .before .before .before .before .before .before .before .before .before .before .before .before .before .before .before .before .before .before .before .before .maybe-push-filter .ensures) (c .before .before .before .before .before .before .before .before .before .before .before .before .before .if1 .left) (c .before .before .before .before .before .before .before .before .before .before .before .before .before .before .before .before .before .before .before .before .before .before .maybe-push-filter .kept .0) (c .before .before .before .before .before .before .before .before .maybe-push-join .ensures)
+push-filters-returns-2 t c = push-again (c .before .before .before .before .before .before .before .before .before .before .before .before .before .before .before .before .before .before .before .before .before .before .before .before .before .before .before .before .before .before .before .before .args .n) (c .before .before .before .before .before .before .before .before .before .before .before .before .before .before .before .before .before .before .before .before .before .before .maybe-push-filter .ensures) (c .before .before .before .before .before .before .before .before .before .before .before .before .before .if1 .left) (c .before .before .before .before .before .before .before .before .before .before .before .before .before .before .before .before .before .before .before .before .before .before .maybe-push-filter .kept .0) (c .before .before .before .before .before .before .before .before .maybe-push-join .ensures .0)
 
 pub +maybe-push-filter+push-filters-spec : {M : Type 1} → statement M
 +maybe-push-filter+push-filters-spec =

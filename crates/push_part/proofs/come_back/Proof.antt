@@ -1,4 +1,5 @@
-use Rattle.push_part.proofs.Parts.{back-taken, back-full, back-nothing, back-one}
+use Rattle.push_part.proofs.Parts.{back-taken, back-full, back-nothing, back-long, back-one}
+use native.Mathlib.Omega.{arith}
 use mathlib.Core.Path.{_∙_}
 use borrow.Author.Needs.{needs}
 use Rattle.push_part.proofs.come_back.Statement.{statement}
@@ -25,17 +26,26 @@ same-length-2 c = c .before .before .before .before .before .part .kept .1 .1 .1
 returns-3 : tie.Need-returns-3
 returns-3 c = back-nothing (c .before .before .before .before .before .before .before .before .before .before .before .before .before .before .before .args .into) (c .before .before .before .before .before .before .before .before .before .before .before .before .before .before .before .args .n) (c .before .before .before .before .before .before .before .before .before .before .takes .ensures) (c .before .before .before .before .before .before .before .before .before .if1 .left) (c .before .before .before .before .before .before .before .before .if2 .left) (c .before .before .before .before .before .part .kept .1 .1 .1 .0) (c .before .before .before .before .before .part .ensures) (c .if3 .taken)
 
+same-length-3 : tie.Need-same-length-3
+same-length-3 c = c .before .before .before .before .before .before .part .kept .1 .1 .0
+
+same-length-4 : tie.Need-same-length-4
+same-length-4 c = c .before .before .before .before .before .before .part .kept .1 .1 .1 .0
+
+returns-4 : tie.Need-returns-4
+returns-4 c = back-long (c .before .before .before .before .before .before .before .before .before .before .before .before .before .before .before .before .args .into) (c .before .before .before .before .before .before .before .before .before .before .before .before .before .before .before .before .args .n) (c .before .before .before .before .before .before .before .before .before .before .before .takes .ensures) (c .before .before .before .before .before .before .before .before .before .before .if1 .left) (c .before .before .before .before .before .before .before .before .before .if2 .left) (c .before .before .before .before .before .before .part .kept .1 .1 .1 .0) (c .before .before .before .before .before .before .part .ensures) (omega (arith, c .before .before .before .before .before .before .part .kept .1 .1 .1 .0, c .if4 .taken))
+
 and-over-requires : tie.Need-and-over-requires
 and-over-requires c κs = search needs
 
-same-length-3 : tie.Need-same-length-3
-same-length-3 c = c .before .before .before .before .before .before .before .before .before .part .kept .1 .1 .0
+same-length-5 : tie.Need-same-length-5
+same-length-5 c = c .before .before .before .before .before .before .before .before .before .before .part .kept .1 .1 .0
 
-same-length-4 : tie.Need-same-length-4
-same-length-4 c = c .before .before .and-over .kept .0 ∙ c .before .before .before .before .before .before .before .before .before .part .kept .1 .1 .1 .0
+same-length-6 : tie.Need-same-length-6
+same-length-6 c = c .before .before .and-over .kept .0 ∙ c .before .before .before .before .before .before .before .before .before .before .part .kept .1 .1 .1 .0
 
-returns-4 : tie.Need-returns-4
-returns-4 c = back-one (c .before .before .before .before .before .before .before .before .before .before .before .before .before .before .before .before .before .before .before .args .into) (c .before .before .before .before .before .before .before .before .before .before .before .before .before .before .before .before .before .before .before .args .n) (c .before .before .before .before .before .before .before .before .before .before .before .before .before .before .takes .ensures) (c .before .before .before .before .before .before .before .before .before .before .before .before .before .if1 .left) (c .before .before .before .before .before .before .before .before .before .before .before .before .if2 .left) (c .before .before .before .before .before .before .before .before .before .part .kept .1 .1 .1 .0) (c .before .before .before .before .before .before .before .before .before .part .ensures) (c .before .before .before .before .if3 .left) (c .before .before .and-over .ensures)
+returns-5 : tie.Need-returns-5
+returns-5 c = back-one (c .before .before .before .before .before .before .before .before .before .before .before .before .before .before .before .before .before .before .before .before .args .into) (c .before .before .before .before .before .before .before .before .before .before .before .before .before .before .before .before .before .before .before .before .args .n) (c .before .before .before .before .before .before .before .before .before .before .before .before .before .before .before .takes .ensures) (c .before .before .before .before .before .before .before .before .before .before .before .before .before .before .if1 .left) (c .before .before .before .before .before .before .before .before .before .before .before .before .before .if2 .left) (c .before .before .before .before .before .before .before .before .before .before .part .kept .1 .1 .1 .0) (c .before .before .before .before .before .before .before .before .before .before .part .ensures) (c .before .before .before .before .before .if3 .left) (omega (arith, c .before .before .before .before .before .before .before .before .before .before .part .kept .1 .1 .1 .0, c .before .before .before .before .if4 .left)) (c .before .before .and-over .ensures)
 
 pub come-back-spec : {M : Type 1} → statement M
 come-back-spec =
@@ -48,7 +58,10 @@ come-back-spec =
     same-length
     same-length-2
     returns-3
-    and-over-requires
     same-length-3
     same-length-4
-    returns-4)
+    returns-4
+    and-over-requires
+    same-length-5
+    same-length-6
+    returns-5)

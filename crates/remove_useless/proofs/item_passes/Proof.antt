@@ -1,3 +1,4 @@
+use borrow.Author.Needs.{needs}
 use Rattle.labels.proofs.Routes.{item-in}
 use Rattle.remove_useless.proofs.Items.{labelled-item, column-item, other-item}
 use native.Mathlib.Omega.{arith}
@@ -16,6 +17,9 @@ sub-cell-at c = let (h, k) = item-in (c .before .before .before .before .pre) in
 cell-at-requires-2 : tie.Need-cell-at-requires-2
 cell-at-requires-2 c κs = let (h, k) = item-in (c .before .before .before .before .pre) in (omega arith, omega arith)
 
+cast-result : tie.Need-cast-result
+cast-result c = search needs
+
 returns-2 : tie.Need-returns-2
 returns-2 c = column-item (c .before .before .before .before .before .before .cell-at .ensures) (c .before .before .before .cell-at2 .ensures) (c .before .before .before .before .if1 .left) (c .before .before .before .before .before .before .before .before .args .i) (c .before .if2 .taken)
 
@@ -25,4 +29,11 @@ returns-3 c = other-item (c .before .before .before .before .before .cell-at .en
 pub item-passes-spec : {M : Type 1} → statement M
 item-passes-spec =
     tie.close
-    (tie.spec cell-at-requires returns sub-cell-at cell-at-requires-2 returns-2 returns-3)
+    (tie.spec
+    cell-at-requires
+    returns
+    sub-cell-at
+    cell-at-requires-2
+    cast-result
+    returns-2
+    returns-3)

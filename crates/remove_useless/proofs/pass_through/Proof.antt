@@ -25,6 +25,9 @@ sub-i c = search needs
 item-passes-requires : tie.Need-item-passes-requires Inv-loop μ-loop
 item-passes-requires c κs = unasked-ends (c .before .before .before .pre .items) (c .loop-test .taken) (c .before .loop .inv (c .before .before .before .pre .items) (c .before .before .before .pre .part) (c .before .before .before .pre .count))
 
+mul-end : tie.Need-mul-end Inv-loop μ-loop
+mul-end c = search needs
+
 sub-end : tie.Need-sub-end Inv-loop μ-loop
 sub-end c = unasked-long (c .before .before .before .before .before .pre .items) (c .before .before .loop-test .taken) (c .before .before .before .loop .inv (c .before .before .before .before .before .pre .items) (c .before .before .before .before .before .pre .part) (c .before .before .before .before .before .pre .count)) (c .before .item-passes .ensures) (c .if1 .taken)
 
@@ -49,6 +52,7 @@ pass-through-spec =
     loop-holds
     sub-i
     item-passes-requires
+    mul-end
     sub-end
     loop-less
     loop-again

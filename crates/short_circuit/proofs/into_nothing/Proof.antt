@@ -31,7 +31,10 @@ write-labels-requires : tie.Need-write-labels-requires
 write-labels-requires c κs = (c .before .before .before .before .before .before .before .before .before .before .pre .0, c .before .before .before .before .before .before .before .before .before .before .pre .1 .0)
 
 copy-requires : tie.Need-copy-requires
-copy-requires c κs = (omega arith, labels-end (c .before .before .before .before .before .before .before .before .columns .ensures) (c .before .before .before .before .write-labels .kept .1 .1 .1 .0) (c .before .before .before .before .write-labels .ensures) (omega (arith, c .before .before .before .before .before .before .before .if1 .left, c .before .before .before .before .before .before .before .before .before .before .before .before .before .before .before .pre .1 .1 .0)) (c .before .before .before .before .before .before .before .before .before .before .before .before .before .before .before .pre .1 .0) (c .before .before .before .before .before .before .before .before .before .before .before .before .before .before .before .pre .0))
+copy-requires c κs = (omega arith, labels-end (c .before .before .before .before .before .before .before .before .columns .ensures) (c .before .before .before .before .write-labels .kept .1 .1 .1 .0) (c .before .before .before .before .write-labels .ensures) (omega (arith, c .before .before .before .before .before .before .before .if1 .left, c .before .before .before .before .before .before .before .before .before .before .before .before .before .before .before .pre .1 .1 .0)) (omega (arith, c .before .before .before .before .before .before .before .before .before .before .before .before .before .before .before .pre .1 .1 .0, c .before .before .before .before .before .before .before .before .before .before .before .before .before .before .before .pre .1 .1 .1 .1)) (c .before .before .before .before .before .before .before .before .before .before .before .before .before .before .before .pre .1 .0) (c .before .before .before .before .before .before .before .before .before .before .before .before .before .before .before .pre .0))
+
+cast-t29 : tie.Need-cast-t29
+cast-t29 c = search needs
 
 put-requires : tie.Need-put-requires
 put-requires c κs = search needs
@@ -43,7 +46,7 @@ same-length-3 : tie.Need-same-length-3
 same-length-3 c = search needs
 
 returns-2 : tie.Need-returns-2
-returns-2 c = let (h, k) = at-in (columns-node (c .before .before .before .before .before .before .before .before .before .before .before .before .before .before .before .before .before .before .before .before .before .before .pre .0)) in emptied (c .before .before .before .before .before .before .before .before .before .before .before .before .before .before .before .columns .ensures) (c .before .before .before .before .before .before .before .before .before .before .before .write-labels .kept .1 .1 .1 .0) (c .before .before .before .before .before .before .before .before .before .before .before .write-labels .ensures) (omega (arith, c .before .before .before .before .before .before .before .before .before .before .before .before .before .before .if1 .left, c .before .before .before .before .before .before .before .before .before .before .before .before .before .before .before .before .before .before .before .before .before .before .pre .1 .1 .0)) (omega (arith, c .before .before .before .before .before .before .before .before .before .before .before .before .before .before .if1 .left, c .before .before .before .before .before .before .before .before .before .before .before .before .before .before .before .before .before .before .before .before .before .before .pre .1 .1 .1 .0)) (c .before .before .before .before .before .before .copy .kept .1 .1 .1 .0) (c .before .before .before .before .before .before .copy .ensures) (c .before .before .put .ensures)
+returns-2 c = let (h, k) = at-in (columns-node (c .before .before .before .before .before .before .before .before .before .before .before .before .before .before .before .before .before .before .before .before .before .before .pre .0)) in emptied (c .before .before .before .before .before .before .before .before .before .before .before .before .before .before .before .columns .ensures) (c .before .before .before .before .before .before .before .before .before .before .before .write-labels .kept .1 .1 .1 .0) (c .before .before .before .before .before .before .before .before .before .before .before .write-labels .ensures) (omega (arith, c .before .before .before .before .before .before .before .before .before .before .before .before .before .before .if1 .left, c .before .before .before .before .before .before .before .before .before .before .before .before .before .before .before .before .before .before .before .before .before .before .pre .1 .1 .0)) (omega (arith, c .before .before .before .before .before .before .before .before .before .before .before .before .before .before .before .before .before .before .before .before .before .before .pre .1 .1 .0, c .before .before .before .before .before .before .before .before .before .before .before .before .before .before .before .before .before .before .before .before .before .before .pre .1 .1 .1 .1)) (omega (arith, c .before .before .before .before .before .before .before .before .before .before .before .before .before .before .if1 .left, c .before .before .before .before .before .before .before .before .before .before .before .before .before .before .before .before .before .before .before .before .before .before .pre .1 .1 .1 .0)) (c .before .before .before .before .before .before .before .before .before .before .before .before .before .before .before .before .before .before .before .before .before .before .pre .1 .1 .1 .1) (c .before .before .before .before .before .before .copy .kept .1 .1 .1 .0) (c .before .before .before .before .before .before .copy .ensures) (c .before .before .put .ensures)
 
 pub into-nothing-spec : {M : Type 1} → statement M
 into-nothing-spec =
@@ -58,6 +61,7 @@ into-nothing-spec =
     returns
     write-labels-requires
     copy-requires
+    cast-t29
     put-requires
     same-length-2
     same-length-3

@@ -1,2 +1,0 @@
-pub mod PredicateFree
-pub mod Idle

@@ -1,0 +1,86 @@
+-- Float results are IEEE 754's: `Float-results` says so, in a line for each operator that works out a result from a Float, at every operand. It is proved in
+-- proofs/Floats.antt, as `float-results`; examples are in FloatExamples.antt.
+--
+-- A line has an operator as `evaluate` applies it (crate sql, Expression.antt; in crate value these are `checked-add`, `checked-div`, `negate`, `equal`,
+-- `greater-than`, `less-than` and `is-nan`), and what IEEE 754's binary64 says of its result, by whole numbers alone (crate ieee754, Ieee754.antt):
+--
+-- read x        what the 64-bit pattern x stands for: a NaN, an infinity, or a sign and a number of units of 2 ^ -1074
+-- sum a b, quotient a b, negation x, of-integer i
+--               what is asked for: one pattern, or the double nearest to a fraction of units, ties to even
+-- Is asked p    p is the pattern that is asked for
+-- equal a b, less a b
+--               whether the doubles a and b are equal, and whether a is less
+--
+-- Nothing is asked of the patterns x and y. So every NaN, the infinities, the zeros of both signs and the subnormal numbers are among the operands, and among the
+-- results each overflow, each underflow, each division by zero and each one that is no number.
+--
+-- Covered are a Float with a Float, an Integer with a Float, a Float with an Integer, and a Float alone. What other operands give is no matter of IEEE 754, and
+-- crate value defines it outright: two Integers are added, divided and compared exactly, and one is negated so (Arithmetic.antt: `add-integers`,
+-- `divide-integers`, `checked`; Comparison.antt: `compare-integers`); Null, Booleans and Strings are in the same two files, the truth tables in Tables.antt.
+-- Identity hands a Float back with its pattern.
+use Prim.Native.Nat.{ℕ}
+use mathlib.Core.Bool.{Bool, true, false}
+use mathlib.Core.Path.{_≡_}
+use lib.IntN.{ℤ}
+use Rattle.value.specs.Value.{Value, datum, integer, float, boolean, Result, ok}
+use Rattle.sql.specs.Expression.{Unary, Binary, function, IsNaN, Negate, Equal, GreaterThan, LessThan, Add, Divide, evaluate-unary, evaluate-binary}
+use Rattle.ieee754.specs.Ieee754 as Ieee754
+use Rattle.ieee754.specs.Ieee754.{Double, nan, infinite, finite, read, Is, quiet-nan, sum, quotient, negation, of-integer, less, equal}
+
+-- ======== What is said of a result
+
+abbrev pub Integer : ℤ → Value
+Integer i = datum (integer i)
+
+-- by its pattern
+abbrev pub Float : ℕ → Value
+Float x = datum (float x)
+
+-- There is a pattern that is asked for, and no other is.
+pub record Exactly-one (asked : Ieee754.Result) : Type 0 where
+  pub pattern : ℕ
+  pub is-asked : Is asked pattern
+  pub no-other : (p : ℕ) → Is asked p → p ≡ pattern
+
+-- The result is the Float that is asked for.
+pub record Gives (asked : Ieee754.Result) (result : Result Value) : Type 0 where
+  pub exactly-one : Exactly-one asked
+  pub is-float : result ≡ ok (Float (exactly-one .pattern))
+
+-- The result is this Boolean.
+abbrev pub Says : Bool → Result Value → Type 0
+Says b result = result ≡ ok (boolean b)
+
+abbrev pub is-nan : Double → Bool
+is-nan nan = true
+is-nan (infinite s) = false
+is-nan (finite s u) = false
+
+-- ======== For which operands
+
+-- Two operands, at least one of them a Float. A Float is taken as the double that its pattern stands for, and an Integer is first rounded to the double nearest to
+-- it, ties to even. `Right a b` is what is said of the result for the doubles a and b.
+pub record Pairs (operator : Binary) (Right : Double → Double → Result Value → Type 0) : Type 0 where
+  pub float-float : (x y : ℕ) → Right (read x) (read y) (evaluate-binary operator (Float x) (Float y))
+  pub integer-float : (i : ℤ) (x y : ℕ) → Is (of-integer i) x → Right (read x) (read y) (evaluate-binary operator (Integer i) (Float y))
+  pub float-integer : (x : ℕ) (j : ℤ) (y : ℕ) → Is (of-integer j) y → Right (read x) (read y) (evaluate-binary operator (Float x) (Integer j))
+
+-- A Float alone. `Right x` is what is said of the result for the pattern x.
+abbrev pub Single : Unary → (ℕ → Result Value → Type 0) → Type 0
+Single operator Right = (x : ℕ) → Right x (evaluate-unary operator (Float x))
+
+-- ======== The statement
+
+pub record Float-results : Type 0 where
+  -- each Integer has one nearest double, so that the lines on Integers speak of all
+  pub every-integer : (i : ℤ) → Exactly-one (of-integer i)
+  -- what is asked for where a result is no number; IEEE 754 leaves open which NaN that is
+  pub one-nan : quiet-nan ≡ 0x7FF8000000000000
+  pub add : Pairs (function Add) (λ a b. Gives (sum a b))
+  pub divide : Pairs (function Divide) (λ a b. Gives (quotient a b))
+  -- a NaN too gives the one pattern, where IEEE 754 would turn its sign's bit alone
+  pub negate : Single (function Negate) (λ x. Gives (negation x))
+  pub equal : Pairs Equal (λ a b. Says (equal a b))
+  pub greater-than : Pairs (function GreaterThan) (λ a b. Says (less b a))
+  pub less-than : Pairs (function LessThan) (λ a b. Says (less a b))
+  pub is-nan : Single (function IsNaN) (λ x. Says (is-nan (read x)))
