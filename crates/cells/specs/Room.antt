@@ -25,6 +25,10 @@ pub record Wrote (d : List ℕ) (at : ℕ) (w : List ℕ) (n : ℕ) (d′ : List
 abbrev pub Seals : List ℕ → ℕ → ℕ → Cell → ℕ → List ℕ → Type 0
 Seals d lo at k n d′ = (d₀ b : List ℕ) → length d ≡ length d₀ → Wrote d₀ lo b at d → Wrote d₀ lo (sized b k) n d′
 
+-- Where `at` stands before lo, nothing can have been written so: n is past the end.
+abbrev pub Puts : List ℕ → ℕ → ℕ → Cell → ℕ → List ℕ → Type 0
+Puts d lo at k n d′ = Seals d lo at k n d′ × (at < lo → length d < n)
+
 -- The words of s from lo up to hi, whatever they are, are appended.
 abbrev pub Copies : List ℕ → ℕ → ℕ → List ℕ → ℕ → ℕ → List ℕ → Type 0
 Copies s lo hi d at n d′ = (w : List ℕ) → Part s lo hi w → Wrote d at w n d′

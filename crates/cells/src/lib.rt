@@ -4,7 +4,7 @@ ghost use mathlib.Core.List.{List, [], _∷_, _++_};
 ghost use Prim.Native.Nat.{ℕ, _+_, _-_, _≤_, _<_};
 ghost use lib.ListN.{length, take, drop};
 ghost use Rattle.cells.specs.Cells.{cell-words, cell-at, start-at, tag-at, Part, Sized};
-ghost use Rattle.cells.specs.Room.{Wrote, Seals, Copies};
+ghost use Rattle.cells.specs.Room.{Wrote, Puts, Copies};
 
 pub struct Cell {
     pub tag: u32,
@@ -81,7 +81,7 @@ pub fn start(s: &[u32], hi: usize) -> usize
 
 // The cell k over the words of d from lo up to at.
 pub fn put(d: &mut [u32], lo: usize, at: usize, k: Cell) -> usize
-    ensures { λ r. ⌜ Seals (now (d .entry)) lo at k r (now (d .exit)) ⌝ }
+    ensures { λ r. ⌜ Puts (now (d .entry)) lo at k r (now (d .exit)) ⌝ }
 {
     if at < lo {
         return FULL;

@@ -12,11 +12,11 @@ use Rattle.cells.specs.Room.{Wrote, Copies}
 use Rattle.cells.proofs.Laws as cells
 use Rattle.cells.proofs.Laws.{full, then, no-room, done, lt-or-ge, wrote-up}
 use Rattle.words.specs.Words.{node-words}
-use Rattle.words.specs.Place.{NodeHere}
-use Rattle.words.proofs.Nodes.{node-size-at, node-start}
-use Rattle.chain.specs.Chain.{chain, behind, Follows}
+use Rattle.words.specs.Place.{NodeHere, NodeAt}
+use Rattle.words.proofs.Nodes.{node-in, node-size-at, node-start}
+use Rattle.chain.specs.Chain.{chain, behind, ChainAt, Follows}
 use Rattle.chain.specs.Resized.{resized, Reseals}
-use Rattle.chain.proofs.Chains.{chain-words, behind-long, behind-resized, behind-same}
+use Rattle.chain.proofs.Chains.{chain-words, chain-end, behind-long, behind-resized, behind-same}
 use Rattle.chain.proofs.Bare.{no-length}
 
 -- any words from lo up to hi
@@ -40,6 +40,14 @@ copy-up {s} {lo} {hi} c h k z = omega (arith, wrote-up (c (take (hi - lo) (drop 
 
 copy-full : {s : List ℕ} {lo hi : ℕ} {d : List ℕ} {at n : ℕ} {d′ : List ℕ} → Copies s lo hi d at n d′ → lo ≤ hi → hi ≤ length s → length d < at → length d < n
 copy-full {s} {lo} {hi} c h k z = full (c (take (hi - lo) (drop lo s)) (part-of s lo hi h k)) (omega arith)
+
+-- ---- where the chain and the node written stand
+
+pub chain-in : {x : List ℕ} {end hi : ℕ} → ChainAt x end hi → (end ≤ hi) × (hi ≤ length x)
+chain-in t = (omega (arith, chain-end (t .os) (t .p) (t .whole) (t .below)), node-in (chain (t .os) (t .p)) (t .whole) .1)
+
+pub written-in : {y : List ℕ} {lo at : ℕ} → (at ≤ length y → NodeAt y lo at) → at ≤ length y → lo ≤ at
+written-in f h = let t = f h in omega (arith, node-in (t .p) (t .here) .0)
 
 -- the chain's words in the slice that is read
 behind-part : {x : List ℕ} {low end hi : ℕ} (os : List Other) (p : Node) → NodeHere x low hi (chain os p) → NodeHere x low end p → Part x end hi (behind os p)

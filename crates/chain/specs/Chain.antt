@@ -53,6 +53,14 @@ pub record Through (s : List ℕ) (n lo left end : ℕ) (p : Node) : Type 0 wher
 abbrev pub GoesDown : List ℕ → ℕ → ℕ → ℕ → ℕ → ℕ → Type 0
 GoesDown s n lo hi left end = (p : Node) → NodeHere s lo hi p → Through s n lo left end p
 
+-- In x stands a chain over some node, which ends before `end`; the chain ends before hi.
+pub record ChainAt (x : List ℕ) (end hi : ℕ) : Type 0 where
+  pub low : ℕ
+  pub os : List Other
+  pub p : Node
+  pub whole : NodeHere x low hi (chain os p)
+  pub below : NodeHere x low end p
+
 -- The chain from `end` up to hi is written over whatever node was written from lo up to `at`. A position past the end of y stays so.
 pub record Follows (x : List ℕ) (end hi : ℕ) (y : List ℕ) (lo at n : ℕ) (y′ : List ℕ) : Type 0 where
   pub over-node : (low : ℕ) (os : List Other) (p q : Node) → NodeHere x low hi (chain os p) → NodeHere x low end p → (y₀ : List ℕ) → length y ≡ length y₀

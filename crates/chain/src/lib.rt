@@ -5,7 +5,7 @@ ghost use mathlib.Core.Path.{_≡_};
 ghost use Prim.Native.Nat.{_<_, _+_, _≤_};
 ghost use lib.ListN.{length};
 ghost use Rattle.words.specs.Place.{NodeAt};
-ghost use Rattle.chain.specs.Chain.{IsOther, GoesDown, GoesBelow, Follows};
+ghost use Rattle.chain.specs.Chain.{IsOther, GoesDown, GoesBelow, ChainAt, Follows};
 ghost use Rattle.chain.specs.Resized.{new-size, Reseals};
 
 // Whether the node from lo to hi has one source and is no Filter.
@@ -96,7 +96,8 @@ pub fn reseal(x: &mut [u32], t: usize, lo: usize, from: usize, tail: usize) -> u
 // them is the length of the chain with the node that it stood over. Where that is the length now too, the two nodes are equally long, and the sizes in the
 // chain's cells are right already.
 pub fn follow(x: &[u32], end: usize, hi: usize, y: &mut [u32], lo: usize, at: usize) -> usize
-    requires { ⌜ (end ≤ hi) × ((hi ≤ length (now x)) × (lo ≤ at)) ⌝ }
+    requires { ⌜ ChainAt (now x) end hi ⌝ }
+    requires { ⌜ (at ≤ length (now y) → NodeAt (now y) lo at) ⌝ }
     ensures { λ r. ⌜ Follows (now (x .entry)) end hi (now (y .entry)) lo at r (now (y .exit)) ⌝ }
 {
     if hi <= end {

@@ -19,7 +19,7 @@ use Rattle.structure.specs.Structure.{plan-of, place}
 use Rattle.structure.proofs.Plan.{refused-at, planned, Planned}
 use Rattle.scope.specs.declared.Scope.{Scope}
 use Rattle.scope.specs.declared.Scope.the-variants.{Outside, Within}
-use Rattle.scope.specs.Scope.{scope-of, unless-outside, Judges}
+use Rattle.scope.specs.Scope.{scope-of, unless-outside, OnePlan, Judges}
 use Rattle.targets.specs.Targets.{Repeats}
 use Rattle.checker.specs.Checker.{scoped, Targets, numbers}
 
@@ -92,6 +92,9 @@ module _ (s : List ℕ) where
   module _ (cells : bad-cell s ≡ none) where
     scoped-is : (n : Node) → plan-of s ≡ done n → checked s (in-scope (schema s) n) ≡ checked s (scoped s)
     scoped-is n e = ap (λ a. checked s (a >>= in-scope (schema s))) (sym e)
+
+    pub one-plan-at : none ≡ place (plan-of s) → OnePlan s
+    one-plan-at e = let p = planned s e in record { n = p .node; cells-ok = cells; reads = reads (p .node) (p .is) }
 
     -- what the scope's answer says of the plan
     found-outside : (m : ℕ) (node : Node) (o : Option ℕ) (i : ℕ) → outside (schema s) 0 node ≡ o → scope-of o m ≡ Outside i → refusal 9 i ≡ checked s (in-scope (schema s) node)

@@ -7,6 +7,7 @@ ghost use Rattle.sheet.specs.Cell.{bad-cell};
 ghost use Rattle.sheet.specs.Check;
 ghost use Rattle.sheet.specs.Check.{checked, cells-checked};
 ghost use Rattle.layout.specs.Layout.{Whole};
+ghost use Rattle.scope.specs.Scope.{OnePlan};
 ghost use Rattle.checker.specs.Checker.{numbers, scoped, Targets};
 
 // What an operation returns: 0 or a refusal's number, its place, and of a success the length of the sheet handed out (0 for `check`), its cells and
@@ -78,7 +79,7 @@ fn check_plan(s: &[u8]) -> Answer
 
 // Refusal 10, or success, of a plan in scope that has n columns.
 fn check_targets(s: &[u8], n: usize) -> Answer
-    requires { ⌜ Whole (now s) × (bad-cell (now s) ≡ none) ⌝ }
+    requires { ⌜ Whole (now s) × OnePlan (now s) ⌝ }
     ensures { λ r. ⌜ Targets (now (s .entry)) n r ⌝ }
 {
     if let Found::At(i) = targets::target_repeated(s) {

@@ -11,10 +11,10 @@ use Rattle.cells.specs.Cells.{words, Part}
 use Rattle.cells.specs.Room.{Wrote, Seals, Copies}
 use Rattle.cells.proofs.Laws.{then, nothing, wrote-up, no-more}
 use Rattle.words.specs.Words.{cell, root, expression-words, operand-words, optional-words}
-use Rattle.words.specs.Place.{Maps}
+use Rattle.words.specs.Place.{ExpressionAt, Maps}
 use Rattle.words.proofs.Expressions.{shape}
 use Rattle.words.proofs.Writing.{plain}
-use Rattle.conjuncts.specs.Conjuncts.{and-then, and-onto, Appends, Joins, AppendsEach, OptionalHere}
+use Rattle.conjuncts.specs.Conjuncts.{and-then, and-onto, GatheredAt, Appends, JoinableAt, Joins, AppendsEach, OptionalHere}
 use Rattle.conjuncts.proofs.Lists.{onto-append, onto-none, shift-none}
 
 pub words-long : (e : Expression) → 6 ≤ length (expression-words e)
@@ -60,6 +60,26 @@ module _ {d : List ℕ} {from at : ℕ} where
 -- Conjuncts appended where none stood are and_vec of them.
 pub appends-vec : {d : List ℕ} {at : ℕ} (xs : List Expression) {n : ℕ} {d′ : List ℕ} → Appends d at at xs n d′ → Wrote d at (optional-words (and-vec xs)) n d′
 appends-vec {d} {at} xs {n} {d′} f = subst (λ (o : Option Expression). Wrote d at (optional-words o) n d′) (onto-none xs) (f d none refl (nothing d at))
+
+-- ---- what the functions ask for
+
+-- none yet
+pub gathered-none : (d : List ℕ) (at : ℕ) → GatheredAt d at at
+gathered-none d at = record { d₀ = d; acc = none; same = refl; wrote = nothing d at }
+
+module _ {d : List ℕ} {from at m : ℕ} {d₁ : List ℕ} (g : GatheredAt d from at) (k : length d₁ ≡ length d) where
+  pub gathered-more : (xs : List Expression) → Appends d from at xs m d₁ → GatheredAt d₁ from m
+  gathered-more xs f = record { d₀ = g .d₀; acc = and-onto (g .acc) xs; same = k ∙ g .same; wrote = f (g .d₀) (g .acc) (g .same) (g .wrote) }
+
+  pub joinable : (x : Expression) → Wrote d at (expression-words x) m d₁ → JoinableAt d₁ from at m
+  joinable x w = record { d₁ = d; gathered = g; x = x; same = k; wrote = w }
+
+  module _ {s : List ℕ} {lo hi : ℕ} (t : ExpressionAt s lo hi) where
+    pub gathered-each : (f : Expression → List Expression) → AppendsEach f s lo hi d from at m d₁ → GatheredAt d₁ from m
+    gathered-each f a = gathered-more (f (t .e)) (a (t .e) (t .here))
+
+    pub joinable-mapped : (f : Expression → Expression) → Maps f s lo hi d at m d₁ → JoinableAt d₁ from at m
+    joinable-mapped f a = joinable (f (t .e)) (a (t .e) (t .here))
 
 -- ---- a copy, and a move
 

@@ -26,10 +26,25 @@ abbrev pub and-onto : Option Expression → List Expression → Option Expressio
 and-onto acc [] = acc
 and-onto acc (x ∷ xs) = and-onto (and-then acc x) xs
 
+-- Some conjuncts, or none, were written to d from word `from` up to `at`, or had no room.
+pub record GatheredAt (d : List ℕ) (from at : ℕ) : Type 0 where
+  pub d₀ : List ℕ
+  pub acc : Option Expression
+  pub same : length d ≡ length d₀
+  pub wrote : Wrote d₀ from (optional-words acc) at d
+
 -- Whatever conjuncts stood in d from word `from` up to `at`, the conjuncts xs now stand behind them up to n; or there is no room, and n is past the end.
 abbrev pub Appends : List ℕ → ℕ → ℕ → List Expression → ℕ → List ℕ → Type 0
 Appends d from at xs n d′ = (d₀ : List ℕ) (acc : Option Expression) → length d ≡ length d₀
     → Wrote d₀ from (optional-words acc) at d → Wrote d₀ from (optional-words (and-onto acc xs)) n d′
+
+-- Some conjuncts, or none, were written there up to `at`, and an expression behind them up to m, or they had no room.
+pub record JoinableAt (d : List ℕ) (from at m : ℕ) : Type 0 where
+  pub d₁ : List ℕ
+  pub gathered : GatheredAt d₁ from at
+  pub x : Expression
+  pub same : length d ≡ length d₁
+  pub wrote : Wrote d₁ at (expression-words x) m d
 
 -- Whatever conjuncts stood there up to `at`, and whatever expression was written behind them up to m, that is one more conjunct now.
 abbrev pub Joins : List ℕ → ℕ → ℕ → ℕ → ℕ → List ℕ → Type 0

@@ -6,7 +6,7 @@ ghost use Prim.Native.Nat.{_-_, _<_};
 ghost use Rattle.sql.specs.Expression.{shift-column-down, ands};
 ghost use Rattle.sql.specs.Optimizer.{for-left, for-right, for-both};
 ghost use Rattle.words.specs.Place.{ExpressionAt, Maps};
-ghost use Rattle.conjuncts.specs.Conjuncts.{Joins, Walks, goes, chosen, AppendsEach};
+ghost use Rattle.conjuncts.specs.Conjuncts.{GatheredAt, JoinableAt, Joins, Walks, goes, chosen, AppendsEach};
 
 // Where a conjunct goes: to one of the join's sources, or nowhere, and stays with the join.
 pub enum Destination {
@@ -28,6 +28,7 @@ fn move_down(s: &[u32], lo: usize, hi: usize, d: &mut [u32], at: usize, shift: u
 
 // The And of the conjuncts that stand in d from `from` up to at and the expression from at up to m; that expression alone if no conjunct stands before it.
 pub fn and_over(d: &mut [u32], from: usize, at: usize, m: usize) -> usize
+    requires { ⌜ JoinableAt (now d) from at m ⌝ }
     ensures { λ r. ⌜ Joins (now (d .entry)) from at m r (now (d .exit)) ⌝ }
 {
     if d.len() < at {
@@ -61,6 +62,7 @@ pub fn append(
     shift: usize,
 ) -> usize
     requires { ⌜ ExpressionAt (now s) lo hi ⌝ }
+    requires { ⌜ GatheredAt (now d) from at ⌝ }
     ensures { λ r. ⌜ AppendsEach (λ e. shift-column-down shift e ∷ []) (now (s .entry)) lo hi (now (d .entry)) from at r (now (d .exit)) ⌝ }
 {
     let m = move_down(s, lo, hi, d, at, shift);
@@ -106,6 +108,7 @@ fn gather(
     shift: usize,
 ) -> usize
     requires { ⌜ ExpressionAt (now s) lo hi ⌝ }
+    requires { ⌜ GatheredAt (now d) from at ⌝ }
     ensures { λ r. ⌜ Walks (chosen to n shift) (now (s .entry)) lo hi (now (d .entry)) from at r (now (d .exit)) ⌝ }
 {
     if cells::tag_at(s, hi) == tags::AND {
@@ -131,6 +134,7 @@ pub fn for_left(
     n: usize,
 ) -> usize
     requires { ⌜ ExpressionAt (now s) lo hi ⌝ }
+    requires { ⌜ GatheredAt (now d) from at ⌝ }
     ensures { λ r. ⌜ AppendsEach (λ e. for-left n (ands e)) (now (s .entry)) lo hi (now (d .entry)) from at r (now (d .exit)) ⌝ }
 {
     gather(s, lo, hi, d, from, at, Destination::Left, n, 0)
@@ -148,6 +152,7 @@ pub fn for_right(
     shift: usize,
 ) -> usize
     requires { ⌜ ExpressionAt (now s) lo hi ⌝ }
+    requires { ⌜ GatheredAt (now d) from at ⌝ }
     ensures { λ r. ⌜ AppendsEach (λ e. map (shift-column-down shift) (for-right n (ands e))) (now (s .entry)) lo hi (now (d .entry)) from at r (now (d .exit)) ⌝ }
 {
     gather(s, lo, hi, d, from, at, Destination::Right, n, shift)
@@ -164,6 +169,7 @@ pub fn for_both(
     n: usize,
 ) -> usize
     requires { ⌜ ExpressionAt (now s) lo hi ⌝ }
+    requires { ⌜ GatheredAt (now d) from at ⌝ }
     ensures { λ r. ⌜ AppendsEach (λ e. for-both n (ands e)) (now (s .entry)) lo hi (now (d .entry)) from at r (now (d .exit)) ⌝ }
 {
     gather(s, lo, hi, d, from, at, Destination::Join, n, 0)

@@ -11,16 +11,16 @@ use Rattle.sql.specs.Optimizer.{fold-over, ConstantFolding}
 use Rattle.sheet.specs.Content.{item-cell, key-cell}
 use Rattle.cells.specs.Room.{Short}
 use Rattle.words.specs.Words.{cell, all-words, expression-words, item-words, key-words, over-own, node-words}
-use Rattle.words.specs.Place.{NodeHere}
+use Rattle.words.specs.Place.{NodeHere, NodeAt}
 use Rattle.words.proofs.Nodes.{node-in}
 use Rattle.words.proofs.Sizes.{sized-long}
-use Rattle.chain.specs.Chain.{chain, Bare, Follows}
+use Rattle.chain.specs.Chain.{chain, Bare, ChainAt, Follows}
 use Rattle.chain.proofs.Chains.{Each, chain-left, chain-long, chain-end}
 use Rattle.chain.proofs.Bare.{bare-chain}
 use Rattle.fold_operator.specs.Left.{Appended}
 use Rattle.fold_operator.specs.declared.Folded.{Folded}
 use Rattle.fold_operator.specs.declared.Folded.the-variants as Folded
-use Rattle.fold_operator.proofs.Parts.{appended, wrote}
+use Rattle.fold_operator.proofs.Parts.{appended, appended-part, wrote}
 use Rattle.fold_parts.specs.Leaves.{Leaves}
 use Rattle.fold_parts.proofs.Leaves.{answer-as, said-as, up-to-as, refused-on, done-on, made-into}
 use Rattle.constant_folding.specs.Nodes.{Node-fits, words-of, fold-source, SourceHere, SourceAt, FoldsSource}
@@ -81,10 +81,23 @@ module _ {text x : List ℕ} {lo hi end : ℕ} (b : Bare x lo hi end) (h : lo < 
       by-below (λ o. (lo < end) × ((end ≤ hi) × (hi ≤ length x)))
       (λ os e p v w f. (omega (arith, node-in p w .0), (omega (arith, chain-end os p v w), node-in (chain os p) v .1))) (t .source) (t .here)
 
+  -- the chain, as `follow` asks for it
+  pub chain-at : SourceAt text x lo hi → ChainAt x end hi
+  chain-at t = by-below (λ o. ChainAt x end hi) (λ os e p v w f. record { low = lo; os = os; p = p; whole = v; below = w }) (t .source) (t .here)
+
   -- what the node below leaves
   left-below : {y : List ℕ} {at : ℕ} {r : Folded} {y₁ : List ℕ} → FoldsSource text x lo end y at r y₁ → (first : ℕ) → lo ≡ 6 * first
       → (p : Node) → NodeHere x lo end p → Node-fits text p → Leaves node-words y at (ConstantFolding first p) r y₁
   left-below g first k p w f = node-left first p (g .leaves first (some p) k (below-here p w f))
+
+  -- what it folds to stands where it was written
+  pub folded-at : SourceAt text x lo hi → {y : List ℕ} {at u : ℕ} {y₁ : List ℕ} → at ≤ length y → FoldsSource text x lo end y at (Folded.Done u) y₁ → NodeAt y₁ at u
+  folded-at t {y} {at} {u} {y₁} i g =
+      by-below (λ o. NodeAt y₁ at u) (λ os e p v w f. go (ConstantFolding (t .first) p) (left-below g (t .first) (t .numbered) p w f)) (t .source) (t .here)
+    where
+      go : (a : Answer Node) → Leaves node-words y at a (Folded.Done u) y₁ → NodeAt y₁ at u
+      go (done q) l = record { p = q; here = record { part = appended-part (l .left) i } }
+      go (refused number place) l = absurd (l .left)
 
   pub bare-refused : {y : List ℕ} {at : ℕ} {r : Folded} {j i : ℕ} {y₁ : List ℕ} → r ≡ Folded.Refused j i → FoldsSource text x lo end y at r y₁ → FoldsSource text x lo hi y at r y₁
   bare-refused {y} {at} {r} {y₁ = y₁} q g = record {

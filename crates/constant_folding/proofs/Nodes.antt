@@ -197,7 +197,7 @@ own-appended : {text x : List ℕ} {lo hi : ℕ} {y : List ℕ} {at m : ℕ} {q 
     → FoldsOwn text x lo hi y at m q y′ → Some-appended y at n y′
 own-appended t e g = some-left (fold-own (t .first) (t .p)) (said-as e (own-folded (t .first) (t .p) (g .leaves (t .first) (t .p) (t .numbered) (t .here))))
 
-pub source-appended : {text x : List ℕ} {lo hi : ℕ} {y : List ℕ} {at : ℕ} {q : Folded} {y′ : List ℕ} {n : ℕ} → SourceAt text x lo hi → q ≡ Folded.Done n
+source-appended : {text x : List ℕ} {lo hi : ℕ} {y : List ℕ} {at : ℕ} {q : Folded} {y′ : List ℕ} {n : ℕ} → SourceAt text x lo hi → q ≡ Folded.Done n
     → FoldsSource text x lo hi y at q y′ → Some-appended y at n y′
 source-appended t e g = some-left (fold-source (t .first) (t .source)) (said-as e (g .leaves (t .first) (t .source) (t .numbered) (t .here)))
 

@@ -17,13 +17,13 @@ use Rattle.column_lookup.specs.declared.ColumnPair.{ColumnPair}
 use Rattle.column_lookup.specs.declared.ColumnPair.the-variants as ColumnPair
 use Rattle.column_lookup.specs.Lookup.{pair, SetsEqual}
 use Rattle.column_numbers.specs.declared.JoinedColumn.{JoinedColumn}
-use Rattle.conjuncts.specs.Conjuncts.{Appends, Joins, AppendsEach, OptionalHere, OptionalAt}
-use Rattle.conjuncts.proofs.Appending.{words-long, appends-none, appends-then, appends-one, appends-vec}
+use Rattle.conjuncts.specs.Conjuncts.{GatheredAt, Appends, Joins, AppendsEach, OptionalHere, OptionalAt}
+use Rattle.conjuncts.proofs.Appending.{words-long, appends-none, appends-then, appends-one, appends-vec, gathered-more}
 use Rattle.copied_lookups.specs.declared.Source.{Source}
 use Rattle.copied_lookups.specs.declared.Source.the-variants as Source
 use Rattle.copied_lookups.specs.declared.Place.{Place}
 use Rattle.copied_lookups.specs.declared.Place.the-variants as Place
-use Rattle.copied_lookups.specs.Copies.{Stands, FindsLast, conjuncts-of, pair-copy, optional-copies, copies, CopiesLast, CopiesPair, CopiesConjunct, CopiesEach, PushesLeft, PushesRight}
+use Rattle.copied_lookups.specs.Copies.{Stands, FindsLast, conjuncts-of, pair-copy, optional-copies, copies, CopiesLast, CopiesPair, CopiesConjunct, CopiesEach, LeftAt, PushesLeft, RightAt, PushesRight}
 use Rattle.copied_lookups.proofs.Lists.{moved-vec, pushed-left, pushed-right}
 
 -- ---- the last lookup, copied
@@ -106,7 +106,26 @@ module _ (into : Source) (n shift : ℕ) {s : List ℕ} {lo hi : ℕ} {g : List 
       → CopiesConjunct into n shift s lo hi g a b d from at m d′
   pair-copied z {m} {d′} w o u e v = subst (λ p. Appends d from at (optional-copies into n shift (conjuncts-of o) p) m d′) (ap pair (sym z) ∙ f e v) (w o u)
 
+-- what the copies of the conjuncts before left, as the copy of the next one asks for it
+pub copies-gathered : (into : Source) (n shift : ℕ) {s : List ℕ} {lo hi : ℕ} {g : List ℕ} {a b : ℕ} {d : List ℕ} {from at m : ℕ} {d₁ : List ℕ} → GatheredAt d from at
+    → length d₁ ≡ length d → ExpressionAt s lo hi → OptionalAt g a b → CopiesEach into n shift s lo hi g a b d from at m d₁ → GatheredAt d₁ from m
+copies-gathered into n shift v k t o f =
+    gathered-more v k (flat-map (copies into n shift (conjuncts-of (o .o))) (ands (t .e))) (f (o .o) (o .here) (t .e) (t .here))
+
 -- ---- what is pushed
+
+module _ {n : ℕ} {s : List ℕ} {lo hi : ℕ} {g : List ℕ} {a b : ℕ} where
+  pub left-expression : LeftAt n s lo hi g a b → ExpressionAt s lo hi
+  left-expression t = record { e = t .e; here = t .here }
+
+  pub left-others : LeftAt n s lo hi g a b → OptionalAt g a b
+  left-others t = record { o = and-vec (for-right n (ands (t .e))); here = t .others }
+
+  pub right-expression : RightAt n s lo hi g a b → ExpressionAt s lo hi
+  right-expression t = record { e = t .e; here = t .here }
+
+  pub right-others : RightAt n s lo hi g a b → OptionalAt g a b
+  right-others t = record { o = and-vec (for-left n (ands (t .e))); here = t .others }
 
 module _ (n : ℕ) {s : List ℕ} {lo hi : ℕ} {g : List ℕ} {a b : ℕ} {d : List ℕ} {at m j : ℕ} {d₁ d₂ : List ℕ} (k : length d₁ ≡ length d) where
   pub pushes-left : AppendsEach (λ e. for-left n (ands e)) s lo hi d at at m d₁ → CopiesEach Source.Left n 0 s lo hi g a b d₁ at m j d₂

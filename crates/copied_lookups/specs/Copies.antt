@@ -80,6 +80,17 @@ CopiesEach into n shift s lo hi g a b d from at m d′ =
 
 -- ---- what is pushed: e's conjuncts for the other source are those that stand in g
 
+-- Some expression stands in s from lo up to hi, and its conjuncts for the right source, or for the left one, in g from a up to b.
+pub record LeftAt (n : ℕ) (s : List ℕ) (lo hi : ℕ) (g : List ℕ) (a b : ℕ) : Type 0 where
+  pub e : Expression
+  pub here : ExpressionHere s lo hi e
+  pub others : OptionalHere g a b (and-vec (for-right n (ands e)))
+
+pub record RightAt (n : ℕ) (s : List ℕ) (lo hi : ℕ) (g : List ℕ) (a b : ℕ) : Type 0 where
+  pub e : Expression
+  pub here : ExpressionHere s lo hi e
+  pub others : OptionalHere g a b (and-vec (for-left n (ands e)))
+
 abbrev pub PushesLeft : ℕ → List ℕ → ℕ → ℕ → List ℕ → ℕ → ℕ → List ℕ → ℕ → ℕ → List ℕ → Type 0
 PushesLeft n s lo hi g a b d at m d′ = (e : Expression) → ExpressionHere s lo hi e → OptionalHere g a b (and-vec (for-right n (ands e)))
     → Wrote d at (optional-words (and-vec (push-left n (ands e)))) m d′

@@ -6,8 +6,8 @@ ghost use Prim.Native.Nat.{_-_, _<_};
 ghost use Rattle.sql.specs.Optimizer.{is-number};
 ghost use Rattle.words.specs.Place.{ExpressionAt};
 ghost use Rattle.column_lookup.specs.Lookup.{found, column-in, equal-cells};
-ghost use Rattle.conjuncts.specs.Conjuncts.{OptionalAt};
-ghost use Rattle.copied_lookups.specs.Copies.{IsLookupOf, ending, FindsLast, CopiesLast, CopiesPair, CopiesConjunct, CopiesEach, PushesLeft, PushesRight};
+ghost use Rattle.conjuncts.specs.Conjuncts.{OptionalAt, GatheredAt};
+ghost use Rattle.copied_lookups.specs.Copies.{IsLookupOf, ending, FindsLast, CopiesLast, CopiesPair, CopiesConjunct, CopiesEach, LeftAt, PushesLeft, RightAt, PushesRight};
 
 // A source of a join.
 pub enum Source {
@@ -162,6 +162,7 @@ fn copy_last(
     to: u32,
 ) -> usize
     requires { ⌜ OptionalAt (now s) lo hi ⌝ }
+    requires { ⌜ GatheredAt (now d) from at ⌝ }
     ensures { λ r. ⌜ CopiesLast column to (now (s .entry)) lo hi (now (d .entry)) from at r (now (d .exit)) ⌝ }
 {
     if lo == hi {
@@ -191,6 +192,7 @@ fn copy_pair(
     shift: usize,
 ) -> usize
     requires { ⌜ OptionalAt (now s) lo hi ⌝ }
+    requires { ⌜ GatheredAt (now d) from at ⌝ }
     ensures { λ q. ⌜ CopiesPair into n shift (l .0) (r .0) (now (s .entry)) lo hi (now (d .entry)) from at q (now (d .exit)) ⌝ }
 {
     if n <= l.0 as usize {
@@ -225,6 +227,7 @@ fn copy_conjunct(
 ) -> usize
     requires { ⌜ ExpressionAt (now s) lo hi ⌝ }
     requires { ⌜ OptionalAt (now g) a b ⌝ }
+    requires { ⌜ GatheredAt (now d) from at ⌝ }
     ensures { λ r. ⌜ CopiesConjunct into n shift (now (s .entry)) lo hi (now (g .entry)) a b (now (d .entry)) from at r (now (d .exit)) ⌝ }
 {
     let pair = column_lookup::equijoin(s, lo, hi);
@@ -251,6 +254,7 @@ fn copy_each(
 ) -> usize
     requires { ⌜ ExpressionAt (now s) lo hi ⌝ }
     requires { ⌜ OptionalAt (now g) a b ⌝ }
+    requires { ⌜ GatheredAt (now d) from at ⌝ }
     ensures { λ r. ⌜ CopiesEach into n shift (now (s .entry)) lo hi (now (g .entry)) a b (now (d .entry)) from at r (now (d .exit)) ⌝ }
 {
     if cells::tag_at(s, hi) == tags::AND {
@@ -274,8 +278,7 @@ pub fn push_left(
     at: usize,
     n: usize,
 ) -> usize
-    requires { ⌜ ExpressionAt (now s) lo hi ⌝ }
-    requires { ⌜ OptionalAt (now g) a b ⌝ }
+    requires { ⌜ LeftAt n (now s) lo hi (now g) a b ⌝ }
     ensures { λ r. ⌜ PushesLeft n (now (s .entry)) lo hi (now (g .entry)) a b (now (d .entry)) at r (now (d .exit)) ⌝ }
 {
     let m = conjuncts::for_left(s, lo, hi, d, at, at, n);
@@ -295,8 +298,7 @@ pub fn push_right(
     n: usize,
     shift: usize,
 ) -> usize
-    requires { ⌜ ExpressionAt (now s) lo hi ⌝ }
-    requires { ⌜ OptionalAt (now g) a b ⌝ }
+    requires { ⌜ RightAt n (now s) lo hi (now g) a b ⌝ }
     ensures { λ r. ⌜ PushesRight n shift (now (s .entry)) lo hi (now (g .entry)) a b (now (d .entry)) at r (now (d .exit)) ⌝ }
 {
     let m = conjuncts::for_right(s, lo, hi, d, at, at, n, shift);

@@ -213,10 +213,10 @@ not-resealed x t lo tail h₁ h₂ h₃ = record { same = λ h. absurd (omega ar
 -- ---- replace_own
 
 -- the length of a plan with the node
-same-long : (pre sources post w : List ℕ) (k : Cell)
-    → length pre + length (sized (sources ++ w) k ++ post) ≡ length (pre ++ sources) + length (sized w k ++ post)
-same-long pre sources post w k =
-    omega (arith, length-append (sized (sources ++ w) k) post, length-append (sized w k) post, sized-long (sources ++ w) k, sized-long w k, length-append sources w, length-append pre sources)
+same-long : (pre sources post w : List ℕ) (k : Cell) (size : ℕ)
+    → length pre + length (sized (sources ++ w) k ++ post) ≡ length (pre ++ sources) + length ((w ++ words k size) ++ post)
+same-long pre sources post w k size =
+    omega (arith, length-append (sized (sources ++ w) k) post, length-append (w ++ words k size) post, sized-long (sources ++ w) k, length-append w (words k size), length-append sources w, length-append pre sources)
 
 module _ (x : List ℕ) (t : ℕ) {y : List ℕ} {n lo own tail u : ℕ} {x₁ : List ℕ} (k₀ : length y ≡ length x) (k : length x₁ ≡ length x) (f : Replaces x y n t own tail u x₁) where
   own-placed : (pre sources old post : List ℕ) → take t x ≡ pre ++ (sources ++ (old ++ post)) → length pre ≡ lo → lo + length sources ≡ own → length post ≡ tail
@@ -225,9 +225,9 @@ module _ (x : List ℕ) (t : ℕ) {y : List ℕ} {n lo own tail u : ℕ} {x₁ :
       f (pre ++ sources) old post (e ∙ sym (append-assoc pre sources (old ++ post))) (omega (arith, length-append pre sources)) c y₀ w l k₀ g
 
   pub own-full : length x₁ < u → ReplacesOwn x y n t lo own tail u x₁
-  own-full z pre sources old post e a b c y₀ w i l g =
-      let p = own-placed pre sources old post e a b c y₀ (sized w i) l g in
-      let q = same-long pre sources post w i in
+  own-full z pre sources old post e a b c y₀ w i size l g =
+      let p = own-placed pre sources old post e a b c y₀ (w ++ words i size) l g in
+      let q = same-long pre sources post w i size in
       record { is = λ h. absurd (omega arith); room = λ s h. absurd (omega (arith, p .room s (omega arith))) }
 
   -- the cell stands behind the sources
@@ -235,13 +235,13 @@ module _ (x : List ℕ) (t : ℕ) {y : List ℕ} {n lo own tail u : ℕ} {x₁ :
   own-room h (i, j) z = let r = replaced-up x h k₀ k f z in (omega (arith, j (omega arith)), z)
 
   pub own-done : u ≤ length x₁ → {r : ℕ} {x₂ : List ℕ} → length x₂ ≡ length x₁ → Reseals x₁ u lo tail r x₂ → ReplacesOwn x y n t lo own tail r x₂
-  own-done z {r} {x₂} k₂ s pre sources old post e a b c y₀ w i l g =
-      let p = own-placed pre sources old post e a b c y₀ (sized w i) l g in
-      let q = same-long pre sources post w i in
+  own-done z {r} {x₂} k₂ s pre sources old post e a b c y₀ w i size l g =
+      let p = own-placed pre sources old post e a b c y₀ (w ++ words i size) l g in
+      let q = same-long pre sources post w i size in
       record {
         is = λ h. let (m, v) = p .is z in
             let j : r ≤ length x₁ = omega arith in
-            (omega (arith, s .same j), ap (λ (m : ℕ). take m x₂) (s .same j) ∙ s .seal j pre (sources ++ w) post i (length w + 6) (v ∙ simp append-assoc) a c);
+            (omega (arith, s .same j), ap (λ (m : ℕ). take m x₂) (s .same j) ∙ s .seal j pre (sources ++ w) post i size (v ∙ simp append-assoc) a c);
         room = λ q h. omega (arith, s .room (omega arith));
       }
 

@@ -96,9 +96,9 @@ pub record Reseals (x : List ℕ) (t lo tail r : ℕ) (x′ : List ℕ) : Type 0
   pub seal : r ≤ length x → (pre b post : List ℕ) (k : Cell) (n : ℕ) → take t x ≡ pre ++ ((b ++ words k n) ++ post) → length pre ≡ lo → length post ≡ tail
       → take t x′ ≡ pre ++ (sized b k ++ post)
 
--- Whatever was written into the scratch y, a cell over some words, takes the place of the node's own words and its cell. The cell is then over the words of
--- the node's sources too.
+-- Whatever was written into the scratch y, some words and a cell, takes the place of the node's own words and its cell, whatever size the cell says. The cell is
+-- then over the words of the node's sources too.
 abbrev pub ReplacesOwn : (x y : List ℕ) (n t lo own tail r : ℕ) → List ℕ → Type 0
 ReplacesOwn x y n t lo own tail r x′ =
     (pre sources old post : List ℕ) → take t x ≡ pre ++ (sources ++ (old ++ post)) → length pre ≡ lo → lo + length sources ≡ own → length post ≡ tail
-    → (y₀ w : List ℕ) (k : Cell) → length y ≡ length y₀ → Wrote y₀ 0 (sized w k) n y → Placed x′ r pre post (sized (sources ++ w) k)
+    → (y₀ w : List ℕ) (k : Cell) (size : ℕ) → length y ≡ length y₀ → Wrote y₀ 0 (w ++ words k size) n y → Placed x′ r pre post (sized (sources ++ w) k)

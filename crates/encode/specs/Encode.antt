@@ -53,6 +53,11 @@ trailer-of p total = bytes (p .tables .at) ++ (bytes (p .columns .at) ++ (bytes 
 
 -- ---- contracts
 
+-- Some plan has n words.
+pub record PlanLong (n : ℕ) : Type 0 where
+  pub node : Node
+  pub long : length (node-words node) ≡ n
+
 -- r is the number of bytes of the sheet that any plan of n words is written as.
 abbrev pub Lengths : (s : List ℕ) (n r : ℕ) → Type 0
 Lengths s n r = (m : Node) → length (node-words m) ≡ n → r ≡ length (write s m)

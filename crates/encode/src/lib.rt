@@ -6,7 +6,7 @@ ghost use Rattle.sheet.specs.Bytes.{bytes};
 ghost use Rattle.sheet.specs.Write.{cell-bytes, cells-bytes};
 ghost use Rattle.layout.specs.Layout.{Whole};
 ghost use Rattle.cells.specs.Room.{most-words};
-ghost use Rattle.encode.specs.Encode.{written, as-cell, cells-in, trailer-of, CellsAt, Lengths, Encodable, Encodes};
+ghost use Rattle.encode.specs.Encode.{written, as-cell, cells-in, trailer-of, CellsAt, PlanLong, Lengths, Encodable, Encodes};
 
 // The 4 bytes of a number.
 fn put_word(out: &mut [u8], at: usize, w: usize) -> usize
@@ -74,6 +74,7 @@ fn put_trailer(out: &mut [u8], at: usize, p: layout::Parts) -> usize
 // How many bytes the sheet has that a plan of n words is written as.
 pub fn encoded_length(s: &[u8], n: usize) -> usize
     requires { ⌜ Whole (now s) × (n ≤ most-words) ⌝ }
+    requires { ⌜ PlanLong n ⌝ }
     ensures { λ r. ⌜ Lengths (now (s .entry)) n r ⌝ }
 {
     let p = layout::parts_of(s);

@@ -21,7 +21,7 @@ use Rattle.sheet_laws.specs.Fits.{Value-fits}
 use Rattle.sheet_laws.specs.Exact.{integer-kept, bits-bound, wide-halves, low-word, high-word}
 use Rattle.cells.specs.declared.Cell.{Cell}
 use Rattle.words.specs.Words.{cell}
-use Rattle.evaluate.specs.Evaluate.{Halves, of-halves}
+use Rattle.evaluate.specs.Evaluate.{of-halves, ConstantCell}
 
 -- ---- from a cell to its constant
 
@@ -67,7 +67,10 @@ module _ {k : Cell} (text : List ℕ) (v : Value) (f : Value-fits text (length t
   said-else g h i j = simp (ne-eqb (k .tag) 1 g, ne-eqb (k .tag) 2 h, ne-eqb (k .tag) 3 i, ne-eqb (k .tag) 4 j) at said
 
 -- The numbers of a constant's cell have 32 bits.
-pub constant-halves : (text : List ℕ) → length text < 65536 → (v : Value) → Value-fits text (length text) v → Halves (cell (constant-cell v))
+abbrev pub Halves : Cell → Type 0
+Halves k = (k .a < 4294967296) × (k .b < 4294967296)
+
+constant-halves : (text : List ℕ) → length text < 65536 → (v : Value) → Value-fits text (length text) v → Halves (cell (constant-cell v))
 unfolding cell
 constant-halves text h (truth False) f = (omega arith, omega arith)
 constant-halves text h (truth Unknown) f = (omega arith, omega arith)
@@ -76,6 +79,9 @@ constant-halves text h (datum (integer n)) f = (low-word (integer-bits n), high-
 constant-halves text h (datum (float b)) f = (low-word b, high-word b (f .0))
 constant-halves text h (datum (string r s)) f =
     (omega (arith, leb-true (r % 65536 + r / 65536) (length text) (f .0), mod-add-div r 65536, mod-lt r {m = 65536} (omega arith)), omega arith)
+
+pub halves : {k : Cell} → ConstantCell k → Halves k
+halves t = subst Halves (sym (t .is)) (constant-halves (t .text) (t .short) (t .v) (t .fits))
 
 -- ---- from a constant to its cell
 

@@ -9,11 +9,11 @@ ghost use Rattle.value.specs.Meaning.{meaning};
 ghost use Rattle.sheet.specs.Cell.{wide};
 ghost use Rattle.sheet.specs.Content.{constant-cell};
 ghost use Rattle.words.specs.Words.{cell};
-ghost use Rattle.evaluate.specs.Evaluate.{Halves, of-halves, Reads, EvaluatesUnary, EvaluatesBinary};
+ghost use Rattle.evaluate.specs.Evaluate.{of-halves, ConstantCell, Reads, UnaryTag, BinaryTag, EvaluatesUnary, EvaluatesBinary};
 
 // The value that a constant's cell says.
 pub fn value_of(k: Cell) -> Value
-    requires { ⌜ Halves k ⌝ }
+    requires { ⌜ ConstantCell k ⌝ }
     ensures { λ r. ⌜ Reads k r ⌝ }
 {
     let t = k.tag;
@@ -67,6 +67,7 @@ fn constant(tag: u32, bits: u64) -> Cell
 
 // The operator with tag o, which has one operand.
 pub fn evaluate_unary(o: u32, v: Value) -> Result
+    requires { ⌜ UnaryTag o ⌝ }
     ensures { λ r. ⌜ EvaluatesUnary o v r ⌝ }
 {
     match o {
@@ -80,6 +81,7 @@ pub fn evaluate_unary(o: u32, v: Value) -> Result
 
 // The operator with tag o, which has two operands. Strings refer to bytes of `text`.
 pub fn evaluate_binary(text: &[u8], o: u32, v: Value, w: Value) -> Result
+    requires { ⌜ BinaryTag o ⌝ }
     ensures { λ r. ⌜ EvaluatesBinary (now (text .entry)) o v w r ⌝ }
 {
     match o {

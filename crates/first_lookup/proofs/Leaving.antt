@@ -10,11 +10,11 @@ use Rattle.sql.specs.Expression.{Expression, ands, is-column-lookup, shift-colu
 use Rattle.sql.specs.Optimizer.{Found, cons-if}
 use Rattle.cells.specs.Cells.{tag-at, start-at}
 use Rattle.words.specs.Words.{root}
-use Rattle.words.specs.Place.{ExpressionHere}
+use Rattle.words.specs.Place.{ExpressionHere, ExpressionAt}
 use Rattle.words.proofs.Expressions.{tag, by-binary, root-tag, here-left, here-right}
-use Rattle.conjuncts.specs.Conjuncts.{Appends, AppendsEach}
+use Rattle.conjuncts.specs.Conjuncts.{GatheredAt, Appends, AppendsEach}
 use Rattle.conjuncts.proofs.Lists.{ands-and, ands-one, shift-none}
-use Rattle.conjuncts.proofs.Appending.{appends-none, appends-then}
+use Rattle.conjuncts.proofs.Appending.{appends-none, appends-then, gathered-more}
 use Rattle.first_lookup.specs.declared.FoundLookup.{FoundLookup}
 use Rattle.first_lookup.specs.declared.FoundLookup.the-variants.{At, None}
 use Rattle.first_lookup.specs.declared.Rest.{Rest}
@@ -136,3 +136,8 @@ module _ (marks : List Bool) (met : Bool) {s : List ℕ} {lo hi : ℕ} {d : List
         unmarked : (o : Option ℕ) → by-mark marks lo hi o ≡ None → is-marked marks o ≡ false
         unmarked none k = refl
         unmarked (some i) k = test i (getD marks i false) k
+
+-- What the call for the left operand left, as the call for the right one asks for it.
+pub left-gathered : (marks : List Bool) (met : Bool) {s : List ℕ} {lo hi : ℕ} {d : List ℕ} {from at : ℕ} {r : Rest} {d₁ : List ℕ} → GatheredAt d from at → length d₁ ≡ length d
+    → ExpressionAt s lo hi → Leaves marks met s lo hi d from at r d₁ → GatheredAt d₁ from (r .at)
+left-gathered marks met g k t f = gathered-more g k (remaining marks met (ands (t .e))) (f (t .e) (t .here) .appends)

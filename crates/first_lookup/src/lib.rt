@@ -5,6 +5,7 @@ ghost use mathlib.Core.Bool.{false};
 ghost use Prim.Native.Nat.{_-_, _<_};
 ghost use lib.ListN.{getD};
 ghost use Rattle.words.specs.Place.{ExpressionAt};
+ghost use Rattle.conjuncts.specs.Conjuncts.{GatheredAt};
 ghost use Rattle.first_lookup.specs.First.{marks-in, FindsOne, FindsFirst, LeavesOne, Leaves};
 
 // Where a conjunct stands, from a word up to another, and the column that it looks up.
@@ -77,6 +78,7 @@ fn remaining_one(
     met: bool,
 ) -> Rest
     requires { ⌜ ExpressionAt (now s) lo hi ⌝ }
+    requires { ⌜ GatheredAt (now d) from at ⌝ }
     ensures { λ r. ⌜ LeavesOne (marks-in key (now (columns .entry))) met (now (s .entry)) lo hi (now (d .entry)) from at r (now (d .exit)) ⌝ }
 {
     if met {
@@ -104,6 +106,7 @@ pub fn remaining(
     met: bool,
 ) -> Rest
     requires { ⌜ ExpressionAt (now s) lo hi ⌝ }
+    requires { ⌜ GatheredAt (now d) from at ⌝ }
     ensures { λ r. ⌜ Leaves (marks-in key (now (columns .entry))) met (now (s .entry)) lo hi (now (d .entry)) from at r (now (d .exit)) ⌝ }
 {
     if cells::tag_at(s, hi) == tags::AND {

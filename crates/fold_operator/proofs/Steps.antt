@@ -24,12 +24,11 @@ use Rattle.words.proofs.Expressions.{tag, by-constant, unary-range, binary-rang
 use Rattle.words.proofs.Expressions as expressions
 use Rattle.words.proofs.Writing.{plain}
 use Rattle.words.proofs.Sizes.{sized-long}
-use Rattle.evaluate.specs.Evaluate.{Halves, Reads, EvaluatesUnary, EvaluatesBinary}
-use Rattle.evaluate.proofs.Laws.{constant-halves}
+use Rattle.evaluate.specs.Evaluate.{ConstantCell, Reads, EvaluatesUnary, EvaluatesBinary}
 use Rattle.fold_operator.specs.declared.Folded.{Folded}
 use Rattle.fold_operator.specs.declared.Folded.the-variants as Folded
-use Rattle.fold_operator.specs.Left.{Settled, Appended, Leaves}
-use Rattle.fold_operator.specs.Steps.{Deciding, Neutral, Readable, Writes, FoldsUnary, FoldsBinary, FoldsNeutral, Simplifies}
+use Rattle.fold_operator.specs.Left.{Settled, SettledAt, Appended, Leaves}
+use Rattle.fold_operator.specs.Steps.{OperandOf, Deciding, Neutral, Writes, FoldsUnary, OperandsAt, Simplifies, BinaryAt, FoldsBinary, FoldsNeutral}
 use Rattle.fold_operator.proofs.Parts.{part-appended, appended, here-in, here-wrote, leaves-as, leaves-words}
 use Rattle.fold_operator.proofs.Operands.{by-deciding, left-decides, right-decides, right-is-neutral, neither, neutral-simplified, neutral-truth, neutral-datum, fold-unary-kept, fold-left-kept, fold-right-kept}
 
@@ -62,14 +61,29 @@ module _ (P : Expression → Type 0) where
   by-datum f (unary o x) h k = absurd (omega (arith, unary-range o))
   by-datum f (binary o l r) h k = absurd (omega (arith, binary-range o .0))
 
--- What an expression folds to can be read where it stands.
-pub readable : {text d : List ℕ} {at n : ℕ} (y : Expression) → length text < 65536 → ExpressionHere d at n y → Settled text y → Readable d n
-readable {text} {d} {at} {n} y short u s = record {
-  first = omega (arith, expressions.here-in y u .0);
-  last = expressions.here-in y u .1;
-  halves = λ h. by-constant (λ y. ExpressionHere d at n y → Settled text y → Halves (cell-at d n))
-      (λ v u s. subst Halves (sym (root-is (constant v) u)) (constant-halves text short v (s .fits))) y (omega (arith, root-tag y u)) u s;
-}
+-- ---- what the calls ask
+
+-- where an expression ends, a cell can be read
+pub cell-in : {d : List ℕ} {at n : ℕ} (e : Expression) → ExpressionHere d at n e → (6 ≤ n) × (n ≤ length d)
+cell-in e u = let (h, k) = expressions.here-in e u in (omega arith, k)
+
+-- the cell of a constant, told by its tag
+pub constant-here : {text d : List ℕ} {at n : ℕ} {k : Cell} → length text < 65536 → (t : SettledAt text d at n) → k ≡ cell-at d n → k .tag < 6 → ConstantCell k
+constant-here {text} {d} {at} {n} {k} short t q h =
+    by-constant (λ y. ExpressionHere d at n y → Settled text y → ConstantCell k)
+    (λ v u s. record { text = text; short = short; v = v; fits = s .fits; is = q ∙ root-is (constant v) u })
+    (t .y) (omega (arith, root-tag (t .y) (t .here), ap (λ (x : Cell). x .tag) q)) (t .here) (t .settled)
+
+module _ {d : List ℕ} {at m n o : ℕ} {k : Cell} (t : OperandsAt d at m n o) where
+  pub right-operand : k ≡ cell-at d n → OperandOf o k
+  right-operand q = record { operator = t .operator; e = t .y; is = q ∙ root-is (t .y) (t .right) }
+
+module _ {text d : List ℕ} {at m n o : ℕ} (t : BinaryAt text d at m n o) where
+  pub left-part : SettledAt text d at m
+  left-part = record { y = t .operands .x; here = t .operands .left; settled = t .left-settled }
+
+  pub right-part : SettledAt text d m n
+  right-part = record { y = t .operands .y; here = t .operands .right; settled = t .right-settled }
 
 -- ---- write
 
@@ -93,15 +107,15 @@ over {d} {at} {n} {j} {d′} {b} t q a short room w =
     appended (subst (λ (x : Cell). Wrote d at (sized b x) j d′) q (w d b refl a)) short (omega (arith, sized-long b (plain t)))
 
 module _ (o place : ℕ) {d : List ℕ} {at n : ℕ} {d′ : List ℕ} where
-  pub unary-kept : {j : ℕ} {k : Cell} → k ≡ plain o → 6 ≤ tag-at d n → Seals d at n k j d′ → FoldsUnary d at n o place (Folded.Done j) d′
+  pub unary-kept : {j : ℕ} {k : Cell} → Short d → n + 6 ≤ length d → k ≡ plain o → 6 ≤ tag-at d n → Seals d at n k j d′ → FoldsUnary d at n o place (Folded.Done j) d′
   unfolding expression-words cell
-  unary-kept {j} q h w text p y e u s short room =
+  unary-kept {j} short room q h w text p y e u s =
       leaves-as (fold-unary-kept place p y (s .column-left (omega (arith, root-tag y u))))
       (leaves-words (over (unary-tag p) (q ∙ ap plain (sym e)) (here-wrote y u) short (omega (arith, part-appended (u .part) .ends)) w))
 
-  pub unary-constant : {answer : Folded} {k : Cell} (v : Declared.Value) (r : DeclaredResult.Result) → k ≡ cell-at d n → tag-at d n < 6 → Reads k v → EvaluatesUnary o v r
+  pub unary-constant : {answer : Folded} {k : Cell} → Short d → n + 6 ≤ length d → (v : Declared.Value) (r : DeclaredResult.Result) → k ≡ cell-at d n → tag-at d n < 6 → Reads k v → EvaluatesUnary o v r
       → Writes d at r place answer d′ → FoldsUnary d at n o place answer d′
-  unary-constant {answer} v r q h f g w text p y e u s short room =
+  unary-constant {answer} short room v r q h f g w text p y e u s =
       by-constant (λ y. ExpressionHere d at n y → Settled text y → Leaves d at (fold place (unary p y)) answer d′)
       (λ c u s. let (i, j) = here-in (constant c) u in
       let z = f text c (s .fits) (q ∙ root-is (constant c) u) in
@@ -137,18 +151,18 @@ module _ (o : ℕ) {d : List ℕ} {at m n : ℕ} where
 
 -- ---- fold_binary
 
-module _ (text : List ℕ) (o place : ℕ) {d : List ℕ} {at m n : ℕ} {d′ : List ℕ} where
+module _ (text : List ℕ) (o place : ℕ) {d : List ℕ} {at m n : ℕ} {d′ : List ℕ} (short : Short d) (room : n + 6 ≤ length d) where
   pub binary-left-kept : {i : ℕ} → 6 ≤ tag-at d m → Simplifies d at m n o i d′ → FoldsBinary text d at m n o place (Folded.Done i) d′
-  binary-left-kept h w p x y e u v s t z short room =
+  binary-left-kept h w p x y e u v s t z =
       leaves-as (fold-left-kept place p x y (s .column-left (omega (arith, root-tag x u)))) (leaves-words (w p x y e u v z short room))
 
   pub binary-right-kept : {i : ℕ} → 6 ≤ tag-at d n → Simplifies d at m n o i d′ → FoldsBinary text d at m n o place (Folded.Done i) d′
-  binary-right-kept h w p x y e u v s t z short room =
+  binary-right-kept h w p x y e u v s t z =
       leaves-as (fold-right-kept place p x y (t .column-left (omega (arith, root-tag y v)))) (leaves-words (w p x y e u v z short room))
 
   pub binary-constants : {answer : Folded} {j k : Cell} (a b : Declared.Value) (r : DeclaredResult.Result) → j ≡ cell-at d m → k ≡ cell-at d n → tag-at d m < 6 → tag-at d n < 6
       → Reads j a → Reads k b → EvaluatesBinary text o a b r → Writes d at r place answer d′ → FoldsBinary text d at m n o place answer d′
-  binary-constants {answer} a b r q l h i f g ev w p x y e u v s t z short room =
+  binary-constants {answer} a b r q l h i f g ev w p x y e u v s t z =
       by-constant (λ x. ExpressionHere d at m x → Settled text x → Leaves d at (fold place (binary p x y)) answer d′)
       (λ c u s. by-constant (λ y. ExpressionHere d m n y → Settled text y → Leaves d at (fold place (binary p (constant c) y)) answer d′)
       (λ c′ v t. let (k₁, k₂) = here-in (constant c) u in let (k₃, k₄) = here-in (constant c′) v in

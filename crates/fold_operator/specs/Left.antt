@@ -10,6 +10,7 @@ use Rattle.sheet.specs.Content.{cell-of}
 use Rattle.sheet_laws.specs.Fits.{Value-fits}
 use Rattle.sound.specs.Expressions.{Made-of}
 use Rattle.words.specs.Words.{root, expression-words}
+use Rattle.words.specs.Place.{ExpressionHere}
 use Rattle.fold_operator.specs.declared.Folded.{Folded}
 use Rattle.fold_operator.specs.declared.Folded.the-variants as Folded
 use Rattle.sheet.specs.Tags
@@ -22,6 +23,12 @@ Constants-fit text e = Made-of (Value-fits text (length text)) (λ c. Unit {0}) 
 pub record Settled (text : List ℕ) (y : Expression) : Type 0 where
   pub column-left : Tags.column ≤ cell-of (root y) .tag → contains-column (λ c. true) y ≡ true
   pub fits : Constants-fit text y
+
+-- What some expression folds to stands in d from `at` up to n.
+pub record SettledAt (text d : List ℕ) (at n : ℕ) : Type 0 where
+  pub y : Expression
+  pub here : ExpressionHere d at n y
+  pub settled : Settled text y
 
 -- w is appended to the first `at` words of d, which makes n words.
 pub record Appended (d : List ℕ) (at : ℕ) (w : List ℕ) (n : ℕ) (d′ : List ℕ) : Type 0 where

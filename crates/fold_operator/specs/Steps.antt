@@ -13,13 +13,13 @@ use Rattle.sql.specs.Answer.{at-place}
 use Rattle.sql.specs.Optimizer.{Operand, deciding, neutral, undetermined, operand, fold, simplify}
 use Rattle.sheet.specs.Content.{unary-tag, binary-tag}
 use Rattle.cells.specs.declared.Cell.{Cell}
-use Rattle.cells.specs.Cells.{cell-words, cell-at, tag-at}
+use Rattle.cells.specs.Cells.{cell-words}
 use Rattle.cells.specs.Room.{Short}
 use Rattle.words.specs.Words.{cell, root, expression-words}
 use Rattle.words.specs.Place.{ExpressionHere}
-use Rattle.evaluate.specs.Evaluate.{Halves}
+use Rattle.evaluate.specs.Evaluate.{UnaryTag, BinaryTag}
 use Rattle.fold_operator.specs.declared.Folded.{Folded}
-use Rattle.fold_operator.specs.Left.{Settled, Appended, Leaves}
+use Rattle.fold_operator.specs.Left.{Settled, SettledAt, Appended, Leaves}
 use Rattle.sheet.specs.Tags
 
 -- ---- operands of And and Or
@@ -44,6 +44,12 @@ is-neutral deciding = false
 is-neutral neutral = true
 is-neutral undetermined = false
 
+-- o is the tag of an operator with two operands, and k the cell of an expression.
+pub record OperandOf (o : ℕ) (k : Cell) : Type 0 where
+  pub operator : BinaryTag o
+  pub e : Expression
+  pub is : k ≡ cell (root e)
+
 -- of the operator with tag o and the operand with cell k
 abbrev pub Deciding : ℕ → Cell → Bool → Type 0
 Deciding o k r = (p : Binary) (e : Expression) → binary-tag p ≡ o → k ≡ cell (root e) → r ≡ is-deciding (operand-of p e)
@@ -53,11 +59,39 @@ Neutral o k r = (p : Binary) (e : Expression) → binary-tag p ≡ o → k ≡ c
 
 -- ---- an operator over its operands
 
--- A cell ends before word n, and can be read if it is a constant's.
-pub record Readable (d : List ℕ) (n : ℕ) : Type 0 where
-  pub first : cell-words ≤ n
-  pub last : n ≤ length d
-  pub halves : tag-at d n < Tags.column → Halves (cell-at d n)
+-- The operator with tag o has one operand; what that folds to stands in d from `at` up to n, with room for the operator's cell. A text has at most 8,192
+-- bytes; less than 65,536 is what text references need.
+pub record UnaryAt (d : List ℕ) (at n o : ℕ) : Type 0 where
+  pub text : List ℕ
+  pub short : length text < 65536
+  pub operator : UnaryTag o
+  pub operand : SettledAt text d at n
+  pub few : Short d
+  pub room : n + cell-words ≤ length d
+
+-- The operator with tag o has two operands; expressions stand in their places, in d from `at` up to m and on to n.
+pub record OperandsAt (d : List ℕ) (at m n o : ℕ) : Type 0 where
+  pub operator : BinaryTag o
+  pub x : Expression
+  pub y : Expression
+  pub left : ExpressionHere d at m x
+  pub right : ExpressionHere d m n y
+
+-- They are what the operands fold to, the left one isn't neutral, and there is room for the operator's cell.
+pub record BinaryAt (text d : List ℕ) (at m n o : ℕ) : Type 0 where
+  pub short : length text < 65536
+  pub operands : OperandsAt d at m n o
+  pub left-settled : Settled text (operands .x)
+  pub right-settled : Settled text (operands .y)
+  pub not-neutral : is-neutral (operand-of (operands .operator .p) (operands .x)) ≡ false
+  pub few : Short d
+  pub room : n + cell-words ≤ length d
+
+-- What some expression folds to ends before word n.
+pub record OperandAt (d : List ℕ) (n : ℕ) : Type 0 where
+  pub text : List ℕ
+  pub at : ℕ
+  pub operand : SettledAt text d at n
 
 -- the value of an operator, or the refusal for its error
 abbrev pub Writes : List ℕ → ℕ → Result → ℕ → Folded → List ℕ → Type 0
@@ -66,7 +100,7 @@ Writes d at r place answer d′ =
 
 abbrev pub FoldsUnary : List ℕ → ℕ → ℕ → ℕ → ℕ → Folded → List ℕ → Type 0
 FoldsUnary d at n o place answer d′ =
-    (text : List ℕ) (p : Unary) (y : Expression) → unary-tag p ≡ o → ExpressionHere d at n y → Settled text y → Short d → n + cell-words ≤ length d
+    (text : List ℕ) (p : Unary) (y : Expression) → unary-tag p ≡ o → ExpressionHere d at n y → Settled text y
     → Leaves d at (fold place (unary p y)) answer d′
 
 -- The left operand isn't neutral: where it is, the right one alone is written.
@@ -78,7 +112,7 @@ Simplifies d at m n o r d′ =
 abbrev pub FoldsBinary : List ℕ → List ℕ → ℕ → ℕ → ℕ → ℕ → ℕ → Folded → List ℕ → Type 0
 FoldsBinary text d at m n o place answer d′ =
     (p : Binary) (x y : Expression) → binary-tag p ≡ o → ExpressionHere d at m x → ExpressionHere d m n y → Settled text x → Settled text y
-    → is-neutral (operand-of p x) ≡ false → Short d → n + cell-words ≤ length d → Leaves d at (fold place (binary p x y)) answer d′
+    → is-neutral (operand-of p x) ≡ false → Leaves d at (fold place (binary p x y)) answer d′
 
 -- The left operand is neutral, and isn't in d.
 abbrev pub FoldsNeutral : List ℕ → ℕ → ℕ → Folded → Type 0

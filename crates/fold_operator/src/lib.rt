@@ -4,7 +4,7 @@ use value::Error;
 use value::Result;
 ghost use Prim.Native.Nat.{ℕ, _+_, _≤_, _<_};
 ghost use mathlib.Core.Path.{_≡_};
-ghost use Rattle.fold_operator.specs.Steps.{boolean-cell, Deciding, Neutral, Readable, Writes, FoldsUnary, FoldsBinary, FoldsNeutral, Simplifies};
+ghost use Rattle.fold_operator.specs.Steps.{boolean-cell, OperandOf, Deciding, Neutral, Writes, UnaryAt, FoldsUnary, OperandsAt, Simplifies, BinaryAt, FoldsBinary, OperandAt, FoldsNeutral};
 
 pub enum Folded {
     // What is folded ends before this word.
@@ -38,6 +38,7 @@ fn is_deciding(o: u32, k: Cell) -> bool
 
 // Whether the operand with cell k leaves And or Or, which has tag o, to the other operand.
 pub fn is_neutral(o: u32, k: Cell) -> bool
+    requires { ⌜ OperandOf o k ⌝ }
     ensures { λ r. ⌜ Neutral o k r ⌝ }
 {
     if o == tags::AND {
@@ -74,7 +75,7 @@ fn write(d: &mut [u32], at: usize, r: Result, place: usize) -> Folded
 
 // `fold` of the operator with tag o, whose operand stands in d from `at` to n.
 pub fn fold_unary(d: &mut [u32], at: usize, n: usize, o: u32, place: usize) -> Folded
-    requires { ⌜ Readable (now d) n ⌝ }
+    requires { ⌜ UnaryAt (now d) at n o ⌝ }
     ensures { λ r. ⌜ FoldsUnary (now (d .entry)) at n o place r (now (d .exit)) ⌝ }
 {
     let k = cells::cell_at(d, n);
@@ -91,7 +92,7 @@ pub fn fold_unary(d: &mut [u32], at: usize, n: usize, o: u32, place: usize) -> F
 
 // And and Or with a constant side, the left one not neutral: `simplify` of the operator with tag o, whose operands stand in d from `at` to m and to n.
 fn simplify(d: &mut [u32], at: usize, m: usize, n: usize, o: u32) -> usize
-    requires { ⌜ Readable (now d) m × Readable (now d) n ⌝ }
+    requires { ⌜ OperandsAt (now d) at m n o ⌝ }
     ensures { λ r. ⌜ Simplifies (now (d .entry)) at m n o r (now (d .exit)) ⌝ }
 {
     if is_deciding(o, cells::cell_at(d, m)) {
@@ -117,7 +118,7 @@ pub fn fold_binary(
     o: u32,
     place: usize,
 ) -> Folded
-    requires { ⌜ Readable (now d) m × Readable (now d) n ⌝ }
+    requires { ⌜ BinaryAt (now text) (now d) at m n o ⌝ }
     ensures { λ r. ⌜ FoldsBinary (now (text .entry)) (now (d .entry)) at m n o place r (now (d .exit)) ⌝ }
 {
     let left = cells::cell_at(d, m);
@@ -138,7 +139,7 @@ pub fn fold_binary(
 
 // `fold` of And or Or, whose left operand is neutral, and whose right one ends at n in d: that operand, if it is no constant but Null or a Boolean.
 pub fn fold_neutral(d: &[u32], n: usize, place: usize) -> Folded
-    requires { ⌜ Readable (now d) n ⌝ }
+    requires { ⌜ OperandAt (now d) n ⌝ }
     ensures { λ r. ⌜ FoldsNeutral (now (d .entry)) n place r ⌝ }
 {
     let t = cells::tag_at(d, n);

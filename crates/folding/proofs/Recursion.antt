@@ -23,12 +23,12 @@ use Rattle.words.proofs.Writing.{sealed}
 use Rattle.words.proofs.Sizes.{expression-long}
 use Rattle.fold_operator.specs.declared.Folded.{Folded}
 use Rattle.fold_operator.specs.declared.Folded.the-variants as Folded
-use Rattle.fold_operator.specs.Left.{Appended, Leaves, Settled}
-use Rattle.folding.specs.Folding.{Counts, Foldable, FoldableAt, Folds, SettledAt, RightAt, FoldsRight}
-use Rattle.fold_operator.specs.Steps.{Neutral, Readable, FoldsUnary, FoldsBinary, FoldsNeutral}
+use Rattle.evaluate.specs.Evaluate.{UnaryTag, BinaryTag}
+use Rattle.fold_operator.specs.Left.{Appended, Leaves, Settled, SettledAt}
+use Rattle.folding.specs.Folding.{Counts, Foldable, FoldableAt, Folds, RightAt, FoldsRight}
+use Rattle.fold_operator.specs.Steps.{OperandOf, Neutral, UnaryAt, FoldsUnary, BinaryAt, FoldsBinary, OperandAt, FoldsNeutral}
 use Rattle.fold_operator.proofs.Parts.{appended, appended-part, before-stays, here-in, here-kept, leaves-moved, leaves-refused, leaves-done, leaves-words}
 use Rattle.folding.proofs.Settled.{expression-settled}
-use Rattle.fold_operator.proofs.Steps.{readable}
 
 -- an expression's words, six to a cell
 pub here-long : {s : List ℕ} {lo hi : ℕ} (e : Expression) → ExpressionHere s lo hi e → hi ≡ lo + 6 * size e
@@ -66,6 +66,15 @@ module _ {text s : List ℕ} {lo hi : ℕ} where
     right-at t = by-binary (λ e. Foldable text s lo hi e → FoldableAt text s mid (hi - 6)) (λ o l r f. record { e = r; foldable = foldable-right st o l r f; short = t .short })
         (t .e) (omega (arith, root-tag (t .e) (t .foldable .here))) (omega (arith, root-tag (t .e) (t .foldable .here))) (t .foldable)
 
+  -- the operator by its tag
+  pub unary-of : 30 ≤ tag-at s hi → FoldableAt text s lo hi → UnaryTag (tag-at s hi)
+  unary-of h t = by-unary (λ e. ExpressionHere s lo hi e → UnaryTag (tag-at s hi)) (λ o x u. record { p = o; is = sym (root-tag (unary o x) u) })
+      (t .e) (omega (arith, root-tag (t .e) (t .foldable .here))) (t .foldable .here)
+
+  pub binary-of : 10 ≤ tag-at s hi → tag-at s hi < 30 → FoldableAt text s lo hi → BinaryTag (tag-at s hi)
+  binary-of h k t = by-binary (λ e. ExpressionHere s lo hi e → BinaryTag (tag-at s hi)) (λ o l r u. record { p = o; is = sym (root-tag (binary o l r) u) })
+      (t .e) (omega (arith, root-tag (t .e) (t .foldable .here))) (omega (arith, root-tag (t .e) (t .foldable .here))) (t .foldable .here)
+
 -- ---- numbers of cells
 
 module _ {text s : List ℕ} {lo hi c : ℕ} where
@@ -87,7 +96,6 @@ as-answer first {d = d} {at} {d′ = d′} h g e f = subst (λ (x : Folded). Lea
 pub record Result-at (text d : List ℕ) (at room n : ℕ) (d₁ : List ℕ) : Type 0 where
   pub stands : SettledAt text d₁ at n
   pub within : n ≤ at + room
-  pub read : Readable d₁ n
   pub before : take at d₁ ≡ take at d
 
 module _ {text s : List ℕ} {lo hi : ℕ} (first : ℕ) {d : List ℕ} {at m : ℕ} {d₁ : List ℕ} where
@@ -106,7 +114,7 @@ module _ {text s : List ℕ} {lo hi : ℕ} (first : ℕ) {d : List ℕ} {at m : 
     where
       go : (a : Answer Expression) → fold-expression first (t .e) ≡ a → Leaves d at a (Folded.Done m) d₁ → Result-at text d at (hi - lo) m d₁
       go (done y) e h = let ((u, s), w) = result-here (t .e) y (t .foldable) e (h .left) room long in
-          record { stands = record { y = y; here = u; settled = s }; within = w; read = readable y (t .short) u s; before = before-stays (h .left) (omega arith) }
+          record { stands = record { y = y; here = u; settled = s }; within = w; before = before-stays (h .left) (omega arith) }
       go (refused j p) e h = absurd (h .left)
 
 -- ---- fold_expression
@@ -126,6 +134,15 @@ module _ {text s : List ℕ} {lo hi : ℕ} (first : ℕ) {d : List ℕ} {at : �
       (λ o x f. leaves-refused (fold-expression first x) (λ y. fold (first + size x) (unary o y)) (g x (foldable-operand o x f)))
       e (omega (arith, root-tag e (f .here))) f
 
+  -- what fold_unary asks
+  pub unary-ready : {n tag-of : ℕ} {d₁ : List ℕ} → 30 ≤ tag-at s hi → tag-of ≡ tag-at s hi → FoldableAt text s lo hi → at + (hi - lo) ≤ length d → Short d → length d₁ ≡ length d
+      → Folds text first s lo (hi - 6) d at (Folded.Done n) d₁ → UnaryAt d₁ at n tag-of
+  unary-ready {n} {tag-of} {d₁} h oe t room few long g =
+      let (b₁, b₂) = foldable-in t in
+      let (b₃, b₄) = foldable-in (operand-at h t) in
+      let q = result-at first (operand-at h t) g (omega arith) long in
+      record { text = text; short = t .short; operator = subst UnaryTag (sym oe) (unary-of h t); operand = q .stands; few = omega arith; room = omega (arith, q .within) }
+
   pub unary-done : {c n tag-of : ℕ} {d₁ : List ℕ} {answer : Folded} {d₂ : List ℕ} → 30 ≤ tag-at s hi → tag-of ≡ tag-at s hi → Counts lo (hi - 6) c → at + (hi - lo) ≤ length d → Short d → length d₁ ≡ length d
       → Folds text first s lo (hi - 6) d at (Folded.Done n) d₁ → FoldsUnary d₁ at n tag-of (first + c) answer d₂
       → Folds text first s lo hi d at answer d₂
@@ -136,7 +153,7 @@ module _ {text s : List ℕ} {lo hi : ℕ} (first : ℕ) {d : List ℕ} {at : �
       leaves-done (fold-expression first x) (λ y. fold (first + size x) (unary o y)) (g x i)
       (λ y e a. let ((u, s), v) = result-here first x y i e a (omega arith) long in
       leaves-moved (before-stays a (omega arith))
-      (subst (λ (z : ℕ). Leaves d₁ at (fold (first + z) (unary o y)) answer d₂) j (w text o y (sym (oe ∙ root-tag (unary o x) (f .here))) u s (omega arith) (omega arith)))))
+      (subst (λ (z : ℕ). Leaves d₁ at (fold (first + z) (unary o y)) answer d₂) j (w text o y (sym (oe ∙ root-tag (unary o x) (f .here))) u s))))
       e (omega (arith, root-tag e (f .here))) f
 
   module _ {mid : ℕ} (st : mid ≡ start-at s (hi - 6)) (h : 10 ≤ tag-at s hi) (k : tag-at s hi < 30) where
@@ -214,7 +231,7 @@ module _ {text s : List ℕ} {lo hi : ℕ} {d : List ℕ} {at first mid m : ℕ}
       let kept = before-stays a h₂ in
       leaves-moved (sym (take-take at m d₁ h₁) ∙ (ap (take at) kept ∙ take-take at m d h₁))
       (subst (λ (j : ℕ). Leaves d₁ at (fold (first + j) (binary o x y)) answer d₂) e₂
-      (w o x y tag-is (here-kept x kept u) v sx sy (sym (z o x tag-is (ke ∙ root-is x u)) ∙ qe) (omega arith) (omega arith))))
+      (w o x y tag-is (here-kept x kept u) v sx sy (sym (z o x tag-is (ke ∙ root-is x u)) ∙ qe))))
 
 -- ---- what fold_right's calls ask
 
@@ -233,7 +250,30 @@ module _ {text s : List ℕ} {lo hi : ℕ} {d : List ℕ} {at first mid m : ℕ}
       → Result-at text d at₁ (hi - 6 - mid) n d₁
   right-result next h long g = let (h₁, h₂) = foldable-in the-right in let room = t .room in result-at next the-right g (omega arith) long
 
-  pub both-readable : {n : ℕ} {d₁ : List ℕ} (next : ℕ) → length d₁ ≡ length d → Folds text next s mid (hi - 6) d m (Folded.Done n) d₁ → Readable d₁ m × Readable d₁ n
-  both-readable next long g =
-      let q = right-result next (omega arith) long g in
-      (readable (t .left .y) (t .operator .short) (here-kept (t .left .y) (q .before) (t .left .here)) (t .left .settled), q .read)
+  -- the operator, and what its left operand folds to
+  the-operator : {tag-of : ℕ} → tag-of ≡ tag-at s hi → BinaryTag tag-of
+  the-operator oe = subst BinaryTag (sym oe) (binary-of (t .low-tag) (t .high-tag) (t .operator))
+
+  pub left-operand : {tag-of : ℕ} {k : Cell} → tag-of ≡ tag-at s hi → k ≡ cell-at d m → OperandOf tag-of k
+  left-operand oe ke = record { operator = the-operator oe; e = t .left .y; is = ke ∙ root-is (t .left .y) (t .left .here) }
+
+  pub neutral-ready : {n at₁ : ℕ} {d₁ : List ℕ} (next : ℕ) → at₁ ≤ m → length d₁ ≡ length d → Folds text next s mid (hi - 6) d at₁ (Folded.Done n) d₁ → OperandAt d₁ n
+  neutral-ready {at₁ = at₁} next h long g = record { text = text; at = at₁; operand = right-result next h long g .stands }
+
+  pub binary-ready : {n tag-of : ℕ} {k : Cell} {q : Bool} {d₁ : List ℕ} (next : ℕ) → (oe : tag-of ≡ tag-at s hi) → (ke : k ≡ cell-at d m) → Neutral tag-of k q → q ≡ false → length d₁ ≡ length d
+      → Folds text next s mid (hi - 6) d m (Folded.Done n) d₁ → BinaryAt text d₁ at m n tag-of
+  binary-ready next oe ke z qe long g =
+      let v = right-result next (omega arith) long g in
+      let o = the-operator oe in
+      let (h₁, h₂) = foldable-in the-right in
+      let room = t .room in
+      let few = t .few in
+      record {
+        short = t .operator .short;
+        operands = record { operator = o; x = t .left .y; y = v .stands .y; left = here-kept (t .left .y) (v .before) (t .left .here); right = v .stands .here };
+        left-settled = t .left .settled;
+        right-settled = v .stands .settled;
+        not-neutral = sym (z (o .p) (t .left .y) (o .is) (ke ∙ root-is (t .left .y) (t .left .here))) ∙ qe;
+        few = omega arith;
+        room = omega (arith, v .within);
+      }

@@ -10,7 +10,7 @@ use Rattle.cells.specs.Cells.{cell-words, tag-at, start-at}
 use Rattle.cells.specs.Room.{Short}
 use Rattle.words.specs.Place.{ExpressionHere}
 use Rattle.fold_operator.specs.declared.Folded.{Folded}
-use Rattle.fold_operator.specs.Left.{Constants-fit, Settled, Leaves}
+use Rattle.fold_operator.specs.Left.{Constants-fit, Settled, SettledAt, Leaves}
 use Rattle.sheet.specs.Tags
 
 -- e stands in s from word lo up to hi, and its constants fit.
@@ -33,12 +33,6 @@ abbrev pub Folds : List ℕ → ℕ → List ℕ → ℕ → ℕ → List ℕ �
 Folds text first s lo hi d at r d′ = (e : Expression) → Foldable text s lo hi e → Leaves d at (fold-expression first e) r d′
 
 -- ---- between the two operands of an operator
-
--- What some expression folds to stands in d from `at` up to n.
-pub record SettledAt (text d : List ℕ) (at n : ℕ) : Type 0 where
-  pub y : Expression
-  pub here : ExpressionHere d at n y
-  pub settled : Settled text y
 
 -- The operator's cell ends before hi, its right operand starts at mid, and what its left one folds to stands in d from `at` up to m, with room for the rest.
 pub record RightAt (text s : List ℕ) (lo hi : ℕ) (d : List ℕ) (at first mid m : ℕ) : Type 0 where

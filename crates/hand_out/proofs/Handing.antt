@@ -22,7 +22,7 @@ use Rattle.words.specs.Place.{NodeHere}
 use Rattle.words.proofs.Sizes.{words-long}
 use Rattle.stream.proofs.Streams.{top-here}
 use Rattle.decode.proofs.Laws.{whole}
-use Rattle.encode.specs.Encode.{Lengths, Encodable, Encodes}
+use Rattle.encode.specs.Encode.{PlanLong, Lengths, Encodable, Encodes}
 use Rattle.checker.specs.Checker.{numbers}
 use Rattle.checker.specs.declared.Answer as Code
 use Rattle.cells.specs.Room.{most-words}
@@ -50,8 +50,8 @@ module _ {s x : List ℕ} {n : ℕ} {node m : Node} (w : Written-in s x n node m
   written-by : (out : List ℕ) (b c : Bool) → b ≡ c → written s out m (write s m) b ≡ written s out m (write s m) c
   written-by out b c e = ap (written s out m (write s m)) e
 
-pub asked-length : {s x : List ℕ} {n : ℕ} → WrittenAt s x n → Whole s × (n ≤ most-words)
-asked-length at = (whole-of (at .there), omega (arith, at .there .inside, at .short))
+pub asked-length : {s x : List ℕ} {n : ℕ} → WrittenAt s x n → (Whole s × (n ≤ most-words)) × PlanLong n
+asked-length at = ((whole-of (at .there), omega (arith, at .there .inside, at .short)), record { node = at .m; long = words-count (at .there) })
 
 pub encodable : {s x : List ℕ} {n : ℕ} {out : List ℕ} {needed : ℕ} → WrittenAt s x n → Lengths s n needed → needed ≤ length out → Encodable s x n out
 encodable {s} {x} {n} {out} at l h =

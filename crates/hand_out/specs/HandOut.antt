@@ -44,6 +44,12 @@ Writes s x n count out a out′ =
     (node m : Node) → Written-in s x n node m → count ≡ columns (schema s) node
     → outcome a out′ ≡ written s out m (write s m) (leb (length (write s m)) (length out))
 
+-- s stands for some plan, which has so many columns.
+pub record Counted (s : List ℕ) (count : ℕ) : Type 0 where
+  pub node : Node
+  pub is : plan s ≡ done node
+  pub wide : count ≡ columns (schema s) node
+
 -- s stands for some plan, and a run on it has left an answer in x and r.
 pub record AnsweredAt (s x : List ℕ) (r : Folded) : Type 0 where
   pub node : Node

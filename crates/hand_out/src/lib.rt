@@ -1,7 +1,7 @@
 // What an operation hands out: the sheet that a plan is written as, or a refusal, and then no byte of the output has changed.
 use checker::Answer;
 use fold_operator::Folded;
-ghost use Rattle.hand_out.specs.HandOut.{WrittenAt, Writes, AnsweredAt, HandsOut};
+ghost use Rattle.hand_out.specs.HandOut.{Counted, WrittenAt, Writes, AnsweredAt, HandsOut};
 
 // The plan in the first n words of x, which has so many columns, as a sheet like s; or refusal 15, with the number of bytes needed.
 fn write(s: &[u8], x: &[u32], n: usize, columns: usize, out: &mut [u8]) -> Answer
@@ -25,6 +25,7 @@ fn write(s: &[u8], x: &[u32], n: usize, columns: usize, out: &mut [u8]) -> Answe
 // What a run on the plan of s, which has so many columns, has left in x.
 pub fn hand_out(s: &[u8], x: &[u32], r: Folded, columns: usize, out: &mut [u8]) -> Answer
     requires { ⌜ AnsweredAt (now s) (now x) r ⌝ }
+    requires { ⌜ Counted (now s) columns ⌝ }
     ensures { λ a. ⌜ HandsOut (now (s .entry)) (now (x .entry)) r columns (now (out .entry)) a (now (out .exit)) ⌝ }
 {
     match r {

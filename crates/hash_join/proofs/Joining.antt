@@ -38,7 +38,7 @@ use Rattle.column_numbers.specs.declared.JoinedColumn.{JoinedColumn}
 use Rattle.column_numbers.specs.declared.SourceColumn.{SourceColumn}
 use Rattle.column_numbers.specs.declared.SourceColumn.the-variants.{Left, Right}
 use Rattle.stream.specs.Stream.{StreamAt, Streams, Finishes}
-use Rattle.stream.proofs.Streams.{reading-total, written-done}
+use Rattle.stream.proofs.Streams.{reading-total, written-done, finishes-node}
 use Rattle.hash_join.specs.Hash.{sides, hash-sides, hash-cell, JoinAt, Rewrites, Writes}
 use Rattle.hash_join.specs.declared.HashColumns.{HashColumns}
 use Rattle.hash_join.specs.declared.HashColumns.the-variants.{Pair, None}
@@ -150,7 +150,7 @@ module _ {x : List ℕ} {m hi : ℕ} where
       → Wrote y₀ at (node-words p ++ node-words q) u y → Wrote y₀ at (node-words (join outer (hash-join n j) p q)) k y′
   stays n {lo} {outer} j {l} {r} v own e {at = at} {k = k} {y′ = y′} f y₀ p q g w =
       subst (λ (i : Join). Wrote y₀ at (node-words (join outer i p q)) k y′) (sym e)
-      (subst (λ (z : List ℕ). Wrote y₀ at z k y′) (sym (node-shape (join outer j p q))) (f lo (join outer j l r) v own y₀ (node-words p ++ node-words q) g w))
+      (subst (λ (z : List ℕ). Wrote y₀ at z k y′) (sym (node-shape (join outer j p q))) (finishes-node f lo (join outer j l r) v own y₀ (node-words p ++ node-words q) g w))
 
   pub rewrites-alone : (n : ℕ) → m ≡ hi - 6 → {y : List ℕ} {at u k : ℕ} {y′ : List ℕ} → Finishes x m hi y at u k y′ → Rewrites n x m hi y at u k y′
   rewrites-alone n z f lo outer j l r v own = stays n j v own (alone n j v own z) f
@@ -196,7 +196,7 @@ module _ {widths x : List ℕ} {lo hi g : ℕ} (c : SourceCount x lo hi g) where
     writes-over z {y} {at} {u} {n} {y₁} {y₂} k a f schema p w h =
         by-over (λ p. NodeHere x lo hi p → Wrote y at (node-words (HashJoin schema p)) n y₂)
         (λ o s v. subst (λ (w : List ℕ). Wrote y at w n y₂) (sym (node-shape (over o (HashJoin schema s))))
-        (f lo (over o s) v own y (node-words (HashJoin schema s)) k (a schema s w (over-source o s v (own (over o s) v)))))
+        (finishes-node f lo (over o s) v own y (node-words (HashJoin schema s)) k (a schema s w (over-source o s v (own (over o s) v)))))
         p (sym (c p h) ∙ z) h
 
     -- a node whose columns are its source's, by its tag

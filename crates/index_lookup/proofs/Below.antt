@@ -8,28 +8,28 @@ use Rattle.sql.specs.Schema.{Schema}
 use Rattle.sql.specs.Plan.{Other, Node, over}
 use Rattle.sql.specs.Answer.{Answer, done, refused, _>>=_}
 use Rattle.sql.specs.Room.{IndexLookup}
-use Rattle.words.specs.Place.{NodeHere}
-use Rattle.chain.specs.Chain.{chain, sizes, GoesDown, Follows}
+use Rattle.words.specs.Place.{NodeHere, NodeAt}
+use Rattle.chain.specs.Chain.{chain, sizes, GoesDown, ChainAt, Follows}
 use Rattle.chain.proofs.Chains.{chain-long, chain-end, each, chain-left}
 use Rattle.chain.proofs.Edits.{chain-source, chain-with}
 use Rattle.kept.specs.Kept.{Kept, kept}
 use Rattle.stream.specs.Stream.{Reading, StreamAt, Streamed, Streams}
-use Rattle.stream.proofs.Streams.{written-done, done-long, done-wrote, streamed-stop}
+use Rattle.stream.proofs.Streams.{written-done, done-long, done-wrote, done-here, streamed-stop}
 
 lookup-chain : (room : ℕ) (schema : Schema) (rest : ℕ) (os : List Other) (p : Node)
     → IndexLookup room schema rest (chain os p) ≡ (IndexLookup room schema (rest + sizes os) p >>= λ q. done (chain os q))
 unfolding IndexLookup
 lookup-chain room schema rest os p = chain-left {P = λ o. Unit {0}} (IndexLookup room schema) (λ rest o h p. refl) rest os (each (λ o. tt) os) p
 
--- what a streamed function writes ends behind where it starts
-pub stream-up : {Lent : Schema → Type 0} {f : ℕ → Schema → ℕ → Node → Answer Node} {x : List ℕ} {lo hi tail : ℕ} {y : List ℕ} {at u : ℕ} {y₁ : List ℕ}
-    → StreamAt Lent x lo hi tail y at → length y₁ ≡ length y → Streams Lent f x lo hi tail y at u y₁ → at ≤ u
-stream-up {f = f} {tail = tail} {y = y} {at = at} {u = u} {y₁ = y₁} g k a =
+-- what a streamed function hands out stands there, if it isn't refused
+pub stream-stands : {Lent : Schema → Type 0} {f : ℕ → Schema → ℕ → Node → Answer Node} {x : List ℕ} {lo hi tail : ℕ} {y : List ℕ} {at u : ℕ} {y₁ : List ℕ}
+    → StreamAt Lent x lo hi tail y at → Streams Lent f x lo hi tail y at u y₁ → u ≤ length y₁ → NodeAt y₁ at u
+stream-stands {f = f} {tail = tail} {y = y} {at = at} {u = u} {y₁ = y₁} g a h =
     go (f (g .room) (g .schema) (g .rest) (g .p)) (a (g .schema) (g .text) (g .tables) (g .lent) (g .room) (g .rest) (g .p) (g .reading))
   where
-    go : (o : Answer Node) → Streamed (Kept (g .schema) (g .text) (g .tables) (g .p)) y at tail u y₁ o → at ≤ u
-    go (done q) s = omega (arith, done-long q (omega (arith, g .reading .fits)) s)
-    go (refused number place) s = omega (arith, s .is .0, g .reading .fits)
+    go : (o : Answer Node) → Streamed (Kept (g .schema) (g .text) (g .tables) (g .p)) y at tail u y₁ o → NodeAt y₁ at u
+    go (done q) s = record { p = q; here = done-here q (omega (arith, g .reading .fits)) s }
+    go (refused number place) s = absurd (omega (arith, s .is .0))
 
 module _ {x : List ℕ} {n lo hi left end : ℕ} (d : GoesDown x n lo hi left end) where
   by-chain : {schema : Schema} {text : List ℕ} {tables tail : ℕ} {y : List ℕ} {at room rest : ℕ} (P : Node → Type 0)
@@ -49,6 +49,9 @@ module _ {x : List ℕ} {n lo hi left end : ℕ} (d : GoesDown x n lo hi left en
           shares = record { all = h .shares .all; short = h .shares .short; outside = omega (arith, chain-end os p (h .here) v, h .shares .outside) };
           fits = omega (arith, chain-end os p (h .here) v, v .part .high, h .fits);
         }
+
+  pub chain-at : {Lent : Schema → Type 0} {tail : ℕ} {y : List ℕ} {at : ℕ} → StreamAt Lent x lo hi tail y at → ChainAt x end hi
+  chain-at g = by-chain (λ p. ChainAt x end hi) (λ os p v h. record { low = lo; os = os; p = p; whole = h .here; below = v }) (g .p) (g .reading)
 
   pub below-in : {Lent : Schema → Type 0} {tail : ℕ} {y : List ℕ} {at : ℕ} → StreamAt Lent x lo hi tail y at → end ≤ hi
   below-in g = by-chain (λ p. end ≤ hi) (λ os p v h. omega (arith, chain-end os p (h .here) v)) (g .p) (g .reading)

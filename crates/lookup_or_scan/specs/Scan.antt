@@ -35,6 +35,7 @@ pub record ScanAt (x : List ℕ) (lo hi : ℕ) (y w : List ℕ) (m key : ℕ) (c
   pub here : NodeHere x lo hi (leaf (scan table alias (some predicate)))
   pub cnf-here : ExpressionHere w 0 m cnf
   pub marked : Marks schema table (marks-in key columns)
+  pub keyed : key ≡ table-of schema table .primary-key
   pub few : length columns ≤ 4096
   pub short : length y ≤ most-words
 

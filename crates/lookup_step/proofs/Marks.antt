@@ -133,6 +133,7 @@ module _ {x : List ℕ} {lo hi : ℕ} {k : Cell} (e : k ≡ cell-at x hi) where
             here = p .here;
             cnf-here = p .cnf-here;
             marked = table-marked (p .given) (p .table) (omega arith) (d ∙ ap (λ (n : ℕ). 16 * n) f₁) d₁ z₁;
+            keyed = z₁ ∙ key-is (p .given) (p .table);
             few = slice-few (p .given) (p .table) (omega arith) (d ∙ ap (λ (n : ℕ). 16 * n) f₁) d₁ z₁;
             short = p .short;
           }

@@ -21,7 +21,7 @@ use Rattle.words.proofs.Sizes.{over-long}
 use Rattle.words.proofs.Tags.{tag-of, tagged, tag-known, told, sources-by-tag, by-aggregate, by-filter, by-remap, by-nested-loop}
 use Rattle.nodes.specs.Trees.{Trees, Parts, PartsAt, trees-start}
 use Rattle.nodes.specs.Trees as trees
-use Rattle.nodes.specs.Own.{leaf-count, over-count, join-count, own-count, OwnStart, OwnTrees, SourceCount}
+use Rattle.nodes.specs.Own.{leaf-count, over-count, join-count, own-count, OwnStart, SourcedAt, OwnTrees, SourceCount}
 use Rattle.nodes.proofs.Trees.{plain, parts-one, append-parts, all-parts, trees-start-is, trees-few}
 
 -- ---- a node's own words are so many parts
@@ -161,6 +161,9 @@ module _ {s : List ℕ} {lo hi n : ℕ} (k : SourceCount s lo hi n) where
       go (leaf l) h = omega arith
       go (over o n) h = absurd (omega arith)
       go (join outer j l r) h = absurd (omega arith)
+
+  pub has-sources : (n ≡ 0 → ⊥) → NodeAt s lo hi → SourcedAt s lo hi
+  has-sources z t = record { node = t; sourced = λ y. z (k (t .p) (t .here) ∙ y) }
 
   module _ (z : n ≡ 0 → ⊥) {r : ℕ} (f : OwnTrees s lo hi r) where
     pub own-at : NodeAt s lo hi → PartsAt s r (hi - 6)

@@ -6,7 +6,7 @@ ghost use lib.ListN.{getD};
 ghost use Rattle.cells.specs.Cells.{tag-at};
 ghost use Rattle.words.specs.Place.{NodeAt};
 ghost use Rattle.nodes.specs.Trees.{TreesAt, PartsAt, trees-start};
-ghost use Rattle.nodes.specs.Own.{OwnStart, OwnTrees, SourceCount};
+ghost use Rattle.nodes.specs.Own.{OwnStart, SourcedAt, OwnTrees, SourceCount};
 ghost use Rattle.nodes.specs.Columns.{ColumnsAt, ColumnCount, past, TargetsAt, RemapColumns, GoesThrough};
 
 // Where the last n trees start that end before hi.
@@ -72,7 +72,7 @@ pub fn source_count(s: &[u32], lo: usize, hi: usize) -> usize
 // How many trees the own words of a node with sources are: an Aggregate's expressions and Aggs, an Order's Keys, a Projection's Items, a Remap's
 // Targets, a Filter's predicate, and that of a NestedLoopJoin if it has one.
 pub fn own_trees(s: &[u32], lo: usize, hi: usize) -> usize
-    requires { ⌜ NodeAt (now s) lo hi ⌝ }
+    requires { ⌜ SourcedAt (now s) lo hi ⌝ }
     ensures { λ r. ⌜ OwnTrees (now (s .entry)) lo hi r ⌝ }
 {
     let c = cells::cell_at(s, hi);

@@ -16,7 +16,7 @@ use Rattle.sheet_laws.specs.Plan.{Bytes, parts-of, plan-size}
 use Rattle.sound.specs.Refusals.{Refused-by, From-to, plan-refused}
 use Rattle.checker.specs.Checker.{numbers}
 use Rattle.checker.specs.declared.Answer as Code
-use Rattle.hand_out.specs.HandOut.{outcome}
+use Rattle.hand_out.specs.HandOut.{outcome, Counted}
 use Rattle.sheet_passes.specs.Rooms.{FitsIn}
 
 outcome-of : (a : Code.Answer) (out : List ℕ) (m : Numbers) → numbers a ≡ m → outcome a out ≡ record { numbers = m; output = out }
@@ -54,8 +54,9 @@ stands s b a e z = go (plan s) refl e (plan-refused s)
         }
     go (refused number place) p g x = absurd (omega (arith, x .0, z, ap (λ (m : Numbers). m .number) g))
 
-pub fits : {s : List ℕ} {a : Code.Answer} → Stands s a → FitsIn (a .cells) s × (a .cells ≤ 2048)
-fits t = (record { node = t .node; is = t .is; fits = omega (arith, t .size) }, omega (arith, t .size, t .few))
+pub fits : {s : List ℕ} {a : Code.Answer} → Stands s a → (FitsIn (a .cells) s × (a .cells ≤ 2048)) × Counted s (a .columns)
+fits t =
+    ((record { node = t .node; is = t .is; fits = omega (arith, t .size) }, omega (arith, t .size, t .few)), record { node = t .node; is = t .is; wide = t .wide })
 
 -- ---- one pass
 

@@ -6,7 +6,7 @@ ghost use mathlib.Core.Path.{_≡_};
 ghost use Prim.Native.Nat.{_≤_};
 ghost use Rattle.sheet.specs.Operations.{one-pass, all-five};
 ghost use Rattle.optimizer.specs.Choices.{Choice};
-ghost use Rattle.hand_out.specs.HandOut.{outcome};
+ghost use Rattle.hand_out.specs.HandOut.{outcome, Counted};
 ghost use Rattle.sheet_passes.specs.Rooms.{FitsIn, RunsIn};
 
 // Buffers for 24 cells, where plans of up to 16 are tried: copies of lookups make a small join's plan half as large again, and a second run takes longer than the
@@ -15,6 +15,7 @@ ghost use Rattle.sheet_passes.specs.Rooms.{FitsIn, RunsIn};
 fn in_24(s: &[u8], c: Chosen, count: usize, out: &mut [u8]) -> Answer
     requires { ⌜ Choice c ⌝ }
     requires { ⌜ FitsIn 24 (now s) ⌝ }
+    requires { ⌜ Counted (now s) count ⌝ }
     ensures { λ a. ⌜ RunsIn 24 (now (s .entry)) c count (now (out .entry)) a (now (out .exit)) ⌝ }
 {
     let mut x = [0u32; 144];
@@ -28,6 +29,7 @@ fn in_24(s: &[u8], c: Chosen, count: usize, out: &mut [u8]) -> Answer
 fn in_96(s: &[u8], c: Chosen, count: usize, out: &mut [u8]) -> Answer
     requires { ⌜ Choice c ⌝ }
     requires { ⌜ FitsIn 96 (now s) ⌝ }
+    requires { ⌜ Counted (now s) count ⌝ }
     ensures { λ a. ⌜ RunsIn 96 (now (s .entry)) c count (now (out .entry)) a (now (out .exit)) ⌝ }
 {
     let mut x = [0u32; 576];
@@ -41,6 +43,7 @@ fn in_96(s: &[u8], c: Chosen, count: usize, out: &mut [u8]) -> Answer
 fn in_224(s: &[u8], c: Chosen, count: usize, out: &mut [u8]) -> Answer
     requires { ⌜ Choice c ⌝ }
     requires { ⌜ FitsIn 224 (now s) ⌝ }
+    requires { ⌜ Counted (now s) count ⌝ }
     ensures { λ a. ⌜ RunsIn 224 (now (s .entry)) c count (now (out .entry)) a (now (out .exit)) ⌝ }
 {
     let mut x = [0u32; 1344];
@@ -54,6 +57,7 @@ fn in_224(s: &[u8], c: Chosen, count: usize, out: &mut [u8]) -> Answer
 fn in_704(s: &[u8], c: Chosen, count: usize, out: &mut [u8]) -> Answer
     requires { ⌜ Choice c ⌝ }
     requires { ⌜ FitsIn 704 (now s) ⌝ }
+    requires { ⌜ Counted (now s) count ⌝ }
     ensures { λ a. ⌜ RunsIn 704 (now (s .entry)) c count (now (out .entry)) a (now (out .exit)) ⌝ }
 {
     let mut x = [0u32; 4224];
@@ -67,6 +71,7 @@ fn in_704(s: &[u8], c: Chosen, count: usize, out: &mut [u8]) -> Answer
 fn in_2048(s: &[u8], c: Chosen, count: usize, out: &mut [u8]) -> Answer
     requires { ⌜ Choice c ⌝ }
     requires { ⌜ FitsIn 2048 (now s) ⌝ }
+    requires { ⌜ Counted (now s) count ⌝ }
     ensures { λ a. ⌜ RunsIn 2048 (now (s .entry)) c count (now (out .entry)) a (now (out .exit)) ⌝ }
 {
     let mut x = [0u32; 12288];
@@ -81,6 +86,7 @@ fn in_2048(s: &[u8], c: Chosen, count: usize, out: &mut [u8]) -> Answer
 fn run(s: &[u8], c: Chosen, count: usize, cells: usize, out: &mut [u8]) -> Answer
     requires { ⌜ Choice c ⌝ }
     requires { ⌜ FitsIn cells (now s) × (cells ≤ 2048) ⌝ }
+    requires { ⌜ Counted (now s) count ⌝ }
     ensures { λ a. ⌜ RunsIn 2048 (now (s .entry)) c count (now (out .entry)) a (now (out .exit)) ⌝ }
 {
     if cells <= 16 {

@@ -3,7 +3,7 @@ use Prim.Native.Nat.{ℕ, _+_, _-_, _≤_, _<_}
 use native.Mathlib.Omega.{arith}
 use mathlib.Core.Bool.{Bool, true, false}
 use mathlib.Core.Path.{_≡_, refl, sym, ap, _∙_, subst}
-use mathlib.Core.List.{List, _++_, append-assoc}
+use mathlib.Core.List.{List, [], _++_, append-assoc}
 use mathlib.Core.Option.{none, some}
 use lib.ListN.{length, length-append}
 use Rattle.sql.specs.Schema.{Schema}
@@ -13,7 +13,7 @@ use Rattle.sql.specs.Answer.{Answer, done}
 use Rattle.sql.specs.Room.{maybe-push-join, maybe-push-filter, push-filters}
 use Rattle.cells.specs.Cells.{words, sized, tag-at}
 use Rattle.cells.specs.Room.{Short, Wrote, Seals, Copies}
-use Rattle.cells.proofs.Laws.{then, fits-to}
+use Rattle.cells.proofs.Laws.{nothing, then, fits-to}
 use Rattle.words.specs.Words.{cell, expression-words, over-cell, node-words}
 use Rattle.words.specs.Place.{NodeHere, NodeAt}
 use Rattle.words.proofs.Sizes.{sized-long, words-long}
@@ -26,7 +26,7 @@ use Rattle.edit.proofs.Edits.{total, holds-here, shares-next, left-done, left-s
 use Rattle.kept.specs.Kept.{Kept, kept}
 use Rattle.kept.specs.Pass.{PassAt, Passes}
 use Rattle.conjuncts.proofs.Appending as conjuncts
-use Rattle.push_into.specs.Push.{Takes, PushesInPlace}
+use Rattle.push_into.specs.Push.{Takes, PredicateWritten, PushesInPlace}
 use Rattle.push_into.proofs.Taking.{taken, not-taken, by-taker}
 use Rattle.push_filters.specs.Tried.{Gathered, Stands, TriedAt, Tries, Gathers, Filters}
 use Rattle.push_filters.proofs.Merging.{merge, merge-smaller, merge-keeps, none-left, not-merged, merged-is}
@@ -63,7 +63,7 @@ pub filtered : (x : List ℕ) (t : ℕ) {lo end tail : ℕ} {y y₁ : List ℕ} 
     → ReplacesOwn x y₁ m t lo end tail r x′ → Filters x y n t lo end tail r x′
 unfolding cell node-words
 filtered x t {y = y} k s f e source pre gone post w a b c v =
-    f pre (node-words source) gone post w a b c y (expression-words e) (plain 51) k (s y (expression-words e) refl v)
+    f pre (node-words source) gone post w a b c y (expression-words e) (plain 51) (length (expression-words e) + 6) k (s y (expression-words e) refl v)
 
 -- where a node's own words stand
 pub own-ends : {x : List ℕ} {lo hi own : ℕ} → OwnStart x lo hi own → NodeAt x lo hi → (own ≤ hi - 6) × (hi - 6 ≤ length x)
@@ -151,6 +151,11 @@ module _ {x y : List ℕ} {at end t lo tail : ℕ} (z : at ≡ 0 → ⊥) where
     pub tried-in : (lo ≤ end) × ((end + tail ≤ t) × (t ≤ length x))
     tried-in =
         when-gathered z (λ p. (lo ≤ end) × ((end + tail ≤ t) × (t ≤ length x))) (λ e source h. below-in h) (g .p) (g .stands)
+
+    pub tried-predicate : PredicateWritten y 0 0 at
+    tried-predicate =
+        when-gathered z (λ p. PredicateWritten y 0 0 at)
+        (λ e source h. record { d₀ = y; d₁ = y; b = []; e = e; same-before = refl; same = refl; before = nothing y 0; predicate = gathered-wrote h }) (g .p) (g .stands)
 
   -- another Filter: it is gathered
   gathers-next : {e q : Expression} {p : Node} {pre post : List ℕ} → Gathered x y at end t lo tail pre post e (over (filter q) p) → {own : ℕ} → OwnStart x lo end own

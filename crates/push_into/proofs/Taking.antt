@@ -247,4 +247,4 @@ module _ {x : List ℕ} {lo end own : ℕ} (o : OwnStart x lo end own) where
       (ap (λ (s : List ℕ). sized (s ++ own-words pushed) (cell (node-cell pushed))) (same-sources e source pushed j) ∙ sym (node-shape pushed))
       (f pre ss (own-words source ++ (last ++ gone)) post
       (w ∙ ap (λ (l : List ℕ). pre ++ (l ++ (gone ++ post))) (node-shape source) ∙ simp append-assoc)
-      a (sym (o source here)) c y₀ (own-words pushed) (cell (node-cell pushed)) (k ∙ l) (p .writes e source pushed here j y₀ y₀ [] refl l (no-words y₀ 0) v))
+      a (sym (o source here)) c y₀ (own-words pushed) (cell (node-cell pushed)) (length (own-words pushed) + 6) (k ∙ l) (p .writes e source pushed here j y₀ y₀ [] refl l (no-words y₀ 0) v))

@@ -28,6 +28,17 @@ pub record TakerAt (s : List ℕ) (lo hi : ℕ) : Type 0 where
   pub here : NodeHere s lo hi p
   pub takes : (e : Expression) → is-some (push-into e p) ≡ true
 
+-- Some words were written to d from `from` up to mid, and a predicate behind them up to `at`, or they had no room.
+pub record PredicateWritten (d : List ℕ) (from mid at : ℕ) : Type 0 where
+  pub d₀ : List ℕ
+  pub d₁ : List ℕ
+  pub b : List ℕ
+  pub e : Expression
+  pub same-before : length d₁ ≡ length d₀
+  pub same : length d ≡ length d₁
+  pub before : Wrote d₀ from b mid d₁
+  pub predicate : Wrote d₁ mid (expression-words e) at d
+
 -- Whatever node stands in s from lo up to hi, if some words were written to d from `from` up to mid, and a predicate behind them up to `at`, then the own
 -- words and the cell of the node with the predicate pushed into it stand behind the words now, up to r, and the cell is over them all; or there is no room,
 -- and r is past the end. Where the words are those of the node's sources, that is the whole node.

@@ -4,7 +4,7 @@ ghost use mathlib.Core.Path.{_≡_};
 ghost use Prim.Native.Nat.{_+_, _≤_};
 ghost use lib.ListN.{length};
 ghost use Rattle.words.specs.Place.{NodeAt};
-ghost use Rattle.push_into.specs.Push.{Takes, TakerAt, Pushes, PushesInPlace};
+ghost use Rattle.push_into.specs.Push.{Takes, TakerAt, PredicateWritten, Pushes, PushesInPlace};
 
 // Whether the node from lo to hi can take a predicate: a Filter, a NestedLoopJoin or a Scan.
 pub fn takes(s: &[u32], lo: usize, hi: usize) -> bool
@@ -37,6 +37,7 @@ pub fn with_predicate(
     at: usize,
 ) -> usize
     requires { ⌜ TakerAt (now s) lo hi ⌝ }
+    requires { ⌜ PredicateWritten (now d) from mid at ⌝ }
     ensures { λ r. ⌜ Pushes (now (s .entry)) lo hi (now (d .entry)) from mid at r (now (d .exit)) ⌝ }
 {
     let k = cells::cell_at(s, hi);
@@ -83,6 +84,7 @@ pub fn push_into(
     tail: usize,
 ) -> usize
     requires { ⌜ TakerAt (now x) lo end ⌝ }
+    requires { ⌜ PredicateWritten (now y) 0 0 n ⌝ }
     requires { ⌜ (end + tail ≤ t) × (t ≤ length (now x)) ⌝ }
     requires { ⌜ length (now y) ≡ length (now x) ⌝ }
     ensures { λ r. ⌜ PushesInPlace (now (x .entry)) (now (y .entry)) n t lo end tail r (now (x .exit)) ⌝ }

@@ -1,9 +1,9 @@
 -- The column numbers in the splitter's arrays: what the rewrites keep of a sound join's numbers (crate sound), in words.
-use Prim.Native.Nat.{ℕ, _+_, _-_, _*_, _%_, _≤_, _<_}
+use Prim.Native.Nat.{ℕ, zero, suc, _+_, _-_, _*_, _%_, _≤_, _<_}
 use native.Mathlib.Omega.{arith}
-use mathlib.Core.Bool.{Bool, true, false, _||_}
+use mathlib.Core.Bool.{Bool, true, false, _||_, cond}
 use mathlib.Core.Path.{_≡_, refl, sym, ap, _∙_, subst}
-use mathlib.Core.List.{List, _++_, map, append-assoc}
+use mathlib.Core.List.{List, [], _∷_, _++_, map, append-assoc}
 use mathlib.Core.Option.{Option, none, some}
 use lib.Dec.{eqb}
 use lib.ListN.{length, take, drop, length-append, take-append-drop}
@@ -13,7 +13,7 @@ use Rattle.value.specs.Value.{Value, False, Unknown, True, truth, datum, intege
 use Rattle.sql.specs.Schema.{Schema, table-of}
 use Rattle.sql.specs.Expression.{Expression, Unary, Not, function, IsNull, IsNaN, Identity, Negate, Binary, logical, And, Or, Equal, GreaterThan, LessThan, Add, Divide, shift-column-down, into-nnf, distribute, into-cnf, ands, and-vec}
 use Rattle.sql.specs.Plan.{unlabelled, unqualified, qualified, scan, lookup, nothing, values, filter, other, nested-loop, hash, Node, leaf, over, join, columns, node-size}
-use Rattle.sql.specs.Optimizer.{push-into, pushed-or-back, push-part, for-left, for-right, for-both, push-left, push-right, split}
+use Rattle.sql.specs.Optimizer.{push-into, pushed-or-back, push-part, for-left, for-right, for-both, equijoin, push-left, push-right, split}
 use Rattle.sql.specs.Answer.{Answer, done, refused}
 use Rattle.sql.specs.Room
 use Rattle.sheet.specs.Cell.{Cell}
@@ -21,26 +21,32 @@ use Rattle.sheet.specs.Content.{Content, cell-of, constant-cell, column-cell, u
 use Rattle.sheet.specs.Cells.{present}
 use Rattle.sheet_laws.specs.Fits.{All, Optional}
 use Rattle.sheet_laws.specs.Counts.{most-columns, all-map}
-use Rattle.sound.specs.Lists.{all-append, map-of, optional-map}
-use Rattle.sound.specs.Expressions.{Made-of, moved, weaker, nnf, distributed, ands-of, and-vec-of}
+use Rattle.sound.specs.Lists.{all-append, all-both, map-of, optional-map}
+use Rattle.sound.specs.Expressions.{Made-of, moved, weaker, nnf, distributed, ands-of, and-vec-of, pair-of}
 use Rattle.sound.specs.Columns.{Right, shifted-down}
 use Rattle.sound.specs.Sound.{Fitting, Sound, Emits}
 use Rattle.sound.specs.Widest.{sound-few}
 use Rattle.sound.specs.Numbers.{Numbers-below, optional-below, sound-below}
 use Rattle.sound.specs.Pushdown.{Across, left-of, right-of, across-of, push-left-of, push-right-of, part-keeps, split-keeps}
+use Rattle.cells.specs.declared.Cell as Word
 use Rattle.cells.specs.Cells.{Part}
 use Rattle.cells.specs.Room.{Wrote}
 use Rattle.cells.proofs.Laws.{part-is, wrote-up}
-use Rattle.words.specs.Words.{optional-words, node-words}
+use Rattle.words.specs.Words.{expression-words, optional-words, node-words}
 use Rattle.words.specs.Place.{ExpressionHere, NodeHere}
 use Rattle.words.proofs.Sizes.{words-long}
-use Rattle.encode.specs.Encode.{cells-in}
+use Rattle.encode.specs.Encode.{as-cell, cells-in}
 use Rattle.encode.proofs.Says.{optional-in, optional-under, node-in}
 use Rattle.nodes.specs.Columns.{Tables}
 use Rattle.nodes.proofs.Widths.{table-width}
 use Rattle.edit.specs.Edit.{Left}
 use Rattle.kept.specs.Kept.{Kept}
 use Rattle.kept.specs.Pass.{PassAt, Passes}
+use Rattle.column_numbers.specs.declared.Change.{Change}
+use Rattle.column_numbers.specs.declared.Change.the-variants.{Down, Replace}
+use Rattle.column_numbers.specs.Columns.{changed, changed-cell, changed-sized, Rewrites}
+use Rattle.column_numbers.specs.Flat.{flat, cells-before}
+use Rattle.column_numbers.proofs.Flat.{flat-words}
 use Rattle.conjuncts.proofs.Appending.{appends-vec, written-part}
 use Rattle.copied_lookups.specs.declared.Source.{Source}
 use Rattle.copied_lookups.specs.declared.Source.the-variants as Source
@@ -48,7 +54,7 @@ use Rattle.push_into.specs.Push.{is-some}
 use Rattle.push_into.proofs.Taking.{no-true}
 use Rattle.push_part.specs.Part.{part-for, own-end, WritesOwn}
 use Rattle.split_join.specs.Split.{stays}
-use Rattle.push_join.specs.Below.{Cell-below, Below, Parts-below, Arrays-below, Splits-below, Held-below, Passes-below}
+use Rattle.push_join.specs.Below.{Cell-below, Below, Steps-below, Parts-below, Arrays-below, Splits-below, Held-below, Passes-below}
 
 -- ---- a cell by what it says
 
@@ -171,6 +177,82 @@ optional-words-below P n o x = optional-in (Cell-below n) (cell-below n) o (opti
 vec-words-below : (P : Value → Type 0) (n : ℕ) (es : List Expression) → All (Made-of P (λ c. c < n)) es → Words-below n (optional-words (and-vec es))
 vec-words-below P n es x = optional-words-below P n (and-vec es) (and-vec-of P (λ c. c < n) es x)
 
+-- ---- an expression whose columns are rewritten where they stand, by a rewrite that takes numbers below n to such
+
+module _ (how : Change) (n : ℕ) (keeps : (c : ℕ) → c < n → changed how c < n) where
+  changed-below : (k : Word.Cell) → Cell-below n (as-cell k) → Cell-below n (as-cell (changed-cell how k))
+  changed-below k b = go (eqb (k .tag) 6) refl
+    where
+      go : (t : Bool) → eqb (k .tag) 6 ≡ t
+          → Cell-below n (as-cell (cond t (record { tag = k .tag; flag = k .flag; a = changed how (k .a); b = k .b; c = k .c }) k))
+      go true e =
+          let six : k .tag ≡ 6 = eqb-true (k .tag) 6 e in
+          record {
+            column = λ h. keeps (k .a) (b .column h);
+            target = λ h f. absurd (omega arith);
+            hash-join = λ h. absurd (omega arith);
+            index-lookup = b .index-lookup;
+          }
+      go false e = b
+
+  -- Of these cells the first so many are rewritten, and the rest are not.
+  record Partly (cs : List (Word.Cell × ℕ)) (passed : ℕ) : Type 0 where
+    first : List (Word.Cell × ℕ)
+    rest : List (Word.Cell × ℕ)
+    is : flat cs ≡ flat first ++ flat rest
+    long : length (flat first) ≡ 6 * passed
+    as-long : length (flat (map (changed-sized how) first)) ≡ 6 * passed
+    below : Words-below n (flat (map (changed-sized how) first) ++ flat rest)
+
+  partly : (cs : List (Word.Cell × ℕ)) → Words-below n (flat cs) → (passed : ℕ) → 6 * passed ≤ length (flat cs) → Partly cs passed
+  unfolding cells-in
+  partly cs b zero h = record { first = []; rest = cs; is = refl; long = refl; as-long = refl; below = b }
+  partly [] b (suc passed) h = absurd (omega arith)
+  partly (c ∷ cs) b (suc passed) h =
+      let g = partly cs (b .1) passed (omega arith) in
+      record {
+        first = c ∷ g .first;
+        rest = g .rest;
+        is = ap (λ (w : List ℕ). c .0 .tag ∷ c .0 .flag ∷ c .0 .a ∷ c .0 .b ∷ c .0 .c ∷ c .1 ∷ w) (g .is);
+        long = omega (arith, g .long);
+        as-long = omega (arith, g .as-long);
+        below = (changed-below (c .0) (b .0), g .below);
+      }
+
+  steps-below : (e : Expression) → Words-below n (expression-words e) → Steps-below how n e
+  steps-below e b = record { each = λ w h passed i f. at-step (written-part w h) passed i f }
+    where
+      at-step : {copy : List ℕ} {at k : ℕ} {y : List ℕ} → Part copy at k (expression-words e)
+          → (passed : ℕ) → at + 6 * passed ≤ k → Rewrites how copy at (at + 6 * passed) y → Below n y at k
+      at-step {copy} {at} {k} {y} u passed i f =
+          let g = partly (cells-before e []) (subst (Words-below n) (sym (flat-words e)) b) passed (omega (arith, u .high, ap length (flat-words e))) in
+          let done = flat (map (changed-sized how) (g .first)) in
+          let first-here : Part copy at (at + 6 * passed) (flat (g .first)) =
+          record {
+            before = u .before;
+            after = flat (g .rest) ++ u .after;
+            whole = u .whole ∙ (ap (λ (w : List ℕ). u .before ++ (w ++ u .after)) (sym (flat-words e) ∙ g .is) ∙ simp append-assoc);
+            low = u .low;
+            high = omega (arith, g .long);
+          } in
+          let now : Part y at k (done ++ flat (g .rest)) =
+          record {
+            before = u .before;
+            after = u .after;
+            whole = f (g .first) first-here ∙ simp append-assoc;
+            low = u .low;
+            high = omega (arith, u .high, ap length (flat-words e), ap length (g .is), length-append (flat (g .first)) (flat (g .rest)), length-append done (flat (g .rest)), g .long, g .as-long);
+          } in
+          stand-below now (g .below)
+
+-- a column's number after the copy of a lookup
+replaced-below : (n from to : ℕ) → to < n → (c : ℕ) → c < n → changed (Replace from to) c < n
+replaced-below n from to h c i = go (eqb c from)
+  where
+    go : (t : Bool) → cond t to c < n
+    go true = h
+    go false = i
+
 -- what comes back of a part
 part-back : (Q : Expression → Type 0) (o : Option Expression) (n : Node) → Optional Q o → All Q (push-part o n .1)
 part-back Q none n x = tt
@@ -267,6 +349,18 @@ module _ (schema : Schema) (narrow : (t : ℕ) → length (table-of schema t .co
     unfolding into-cnf
     each-made = ands-of F (λ c. c < left + right) (into-cnf p) cnf-made
 
+    each-step : (how : Change) → ((c : ℕ) → c < left + right → changed how c < left + right) → All (Steps-below how (left + right)) conjuncts
+    each-step how keeps =
+        all-map On-both (Steps-below how (left + right)) (λ e m. steps-below how (left + right) keeps e (optional-words-below F (left + right) (some e) m)) conjuncts each-made
+
+    copy-steps : (i j shift : ℕ) (e : Expression) → On-both e → equijoin e ≡ some (i, j)
+        → All (λ lookup. Steps-below (Replace j i) (left + right) lookup × Steps-below (Replace i (j - shift)) (left + right) lookup) conjuncts
+    copy-steps i j shift e m h =
+        let pair = pair-of F (λ c. c < left + right) left e (i, j) h m in
+        all-both (Steps-below (Replace j i) (left + right)) (Steps-below (Replace i (j - shift)) (left + right)) conjuncts
+        (each-step (Replace j i) (replaced-below (left + right) j i (pair .lower)))
+        (each-step (Replace i (j - shift)) (replaced-below (left + right) i (j - shift) (omega (arith, pair .higher))))
+
     -- the parts: of the left source, of the right source, and of the right source in the joined row's columns
     abbrev to-left : Option Expression
     to-left = part-for Source.Left left 0 conjuncts
@@ -335,6 +429,12 @@ module _ (schema : Schema) (narrow : (t : ℕ) → length (table-of schema t .co
         left-part = λ f h. wrote-below (f (into-cnf p) v) h (optional-words-below F left to-left left-made);
         right-part = λ f h. wrote-below (f (into-cnf p) v) h (optional-words-below F right to-right right-made);
         right-back = λ f h. wrote-below (f (into-cnf p) v) h (optional-words-below F (left + right) back-right back-made);
+        while-shifted = each-step (Down left) (λ c h. omega arith);
+        while-copied = λ i j shift.
+            all-map On-both
+            (λ e. equijoin e ≡ some (i, j)
+            → All (λ lookup. Steps-below (Replace j i) (left + right) lookup × Steps-below (Replace i (j - shift)) (left + right) lookup) conjuncts)
+            (copy-steps i j shift) conjuncts each-made;
         left-own = λ t f h. own-wrote left l on-left f h (own-made to-left l t new-left);
         right-own = λ t f h. own-wrote right r on-right f h (own-made to-right r t new-right);
         stays = λ f h. wrote-below (f l r on-left on-right (into-cnf p) v) h (optional-words-below F (left + right) (stays left conjuncts l r) stays-made);

@@ -2,9 +2,9 @@
 -- words is below `left + right`, the columns of the join; in what is pushed into a source it is below that source's columns. A source that is written again keeps the
 -- numbers of all that stands below it. They are below the most columns of a plan that the array has room for (crate sheet_laws, Counts): 262,144, for 2,048 cells.
 --
--- This is said of what a function has written when it returns. Within `part` a conjunct is copied first as it stands, with the joined row's numbers, and rewritten in
--- its place (crate column_numbers, map_columns); all other writes append, copy words as they stand, or set a size. Nothing is said of words that the splitter only
--- moves, those of x before and behind the join, nor of what push_filters gathers in y of Filters, which is no split.
+-- This is said of what a function has written when it returns; and, where one rewrites what it wrote, which map_columns alone does (crate column_numbers), of each step
+-- of that too. All other writes append, copy words as they stand, or set a size. Nothing is said of words that the splitter only moves, those of x before and behind the
+-- join, nor of what push_filters gathers in y of Filters, which is no split.
 use Prim.Native.Nat.{ℕ, _+_, _-_, _*_, _%_, _≤_, _<_}
 use mathlib.Core.Bool.{Bool, true}
 use mathlib.Core.Path.{_≡_}
@@ -14,18 +14,22 @@ use lib.ListN.{length, take, drop}
 use Rattle.sql.specs.Schema.{Schema, table-of}
 use Rattle.sql.specs.Expression.{Expression, shift-column-down, into-nnf, distribute, into-cnf, ands}
 use Rattle.sql.specs.Plan.{nested-loop, Node, join, columns, node-size}
-use Rattle.sql.specs.Optimizer.{push-into, for-left, for-right, split}
+use Rattle.sql.specs.Optimizer.{push-into, for-left, for-right, equijoin, split}
 use Rattle.sheet.specs.Tags
 use Rattle.sheet.specs.Cell.{Cell}
 use Rattle.sheet_laws.specs.Fits.{All}
 use Rattle.sheet_laws.specs.Counts.{most-columns}
 use Rattle.sound.specs.Sound.{Sound}
 use Rattle.cells.specs.Cells.{cell-words}
-use Rattle.words.specs.Words.{node-words}
+use Rattle.cells.specs.Room.{Wrote}
+use Rattle.words.specs.Words.{expression-words, node-words}
 use Rattle.words.specs.Place.{ExpressionHere, Maps, NodeHere}
 use Rattle.encode.specs.Encode.{cells-in}
 use Rattle.edit.specs.Edit.{Placed}
 use Rattle.kept.specs.Pass.{PassAt}
+use Rattle.column_numbers.specs.declared.Change.{Change}
+use Rattle.column_numbers.specs.declared.Change.the-variants.{Down, Replace}
+use Rattle.column_numbers.specs.Columns.{Rewrites}
 use Rattle.conjuncts.specs.Conjuncts.{AppendsEach}
 use Rattle.copied_lookups.specs.declared.Source.the-variants.{Left, Right}
 use Rattle.push_into.specs.Push.{is-some}
@@ -44,6 +48,12 @@ pub record Cell-below (n : ℕ) (k : Cell) : Type 0 where
 pub record Below (n : ℕ) (s : List ℕ) (lo hi : ℕ) : Type 0 where
   pub each : All (Cell-below n) (cells-in (take (hi - lo) (drop lo s)))
 
+-- An expression e is copied (cells::copy), and its columns are rewritten where they stand, one cell after the other (change_columns). When so many cells are passed,
+-- which is as if it were asked for these alone, each number in e's words is below n. With none passed this is the copy as it was, with all of them the result.
+pub record Steps-below (how : Change) (n : ℕ) (e : Expression) : Type 0 where
+  pub each : {y : List ℕ} {at k : ℕ} {copy y′ : List ℕ} → Wrote y at (expression-words e) k copy → k ≤ length y
+      → (passed : ℕ) → at + cell-words * passed ≤ k → Rewrites how copy at (at + cell-words * passed) y′ → Below n y′ at k
+
 -- What stands in the arrays while the join of l and r with the predicate p is split. Each field says it of what one function has written, by that function's contract,
 -- from word `at` up to k, if there was room. x has the plan; z and w have the predicate's normal forms, and w is then lent as `cnf`, z as g; y is the scratch.
 
@@ -57,6 +67,11 @@ pub record Parts-below (p : Expression) (l r : Node) (left right : ℕ) (cnf : L
   pub left-part : {y : List ℕ} {at k : ℕ} {y′ : List ℕ} → WritesPart Left left 0 cnf end y at k y′ → k ≤ length y → Below left y′ at k
   pub right-part : {y : List ℕ} {at k : ℕ} {y′ : List ℕ} → WritesPart Right left left cnf end y at k y′ → k ≤ length y → Below right y′ at k
   pub right-back : {y : List ℕ} {at k : ℕ} {y′ : List ℕ} → WritesPart Right left 0 cnf end y at k y′ → k ≤ length y → Below (left + right) y′ at k
+  -- y, while `part` writes it: each conjunct, whose columns are made `left` lower; and each lookup, which is a conjunct too, that an equijoin of columns i and j copies
+  -- to i for the left source, or to j, `shift` lower, for the right one
+  pub while-shifted : All (Steps-below (Down left) (left + right)) (ands (into-cnf p))
+  pub while-copied : (i j shift : ℕ) → All (λ e. equijoin e ≡ some (i, j)
+      → All (λ lookup. Steps-below (Replace j i) (left + right) lookup × Steps-below (Replace i (j - shift)) (left + right) lookup) (ands (into-cnf p))) (ands (into-cnf p))
   -- y: own_part, the own words of a source that takes its part
   pub left-own : {y : List ℕ} {k : ℕ} {y′ : List ℕ}
       → is-some (push-into p l) ≡ true → WritesOwn Left left 0 x lo mid cnf end y k y′ → k ≤ length y → Below left y′ 0 k

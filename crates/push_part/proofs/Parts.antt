@@ -17,20 +17,24 @@ use Rattle.words.specs.Place.{ExpressionHere, ExpressionAt, NodeHere, NodeAt}
 use Rattle.words.proofs.Nodes.{node-shape, node-in, node-long, source-part}
 use Rattle.words.proofs.Sizes
 use Rattle.nodes.specs.Own.{OwnStart}
-use Rattle.conjuncts.specs.Conjuncts.{and-then, Appends, Joins, OptionalHere, OptionalAt}
-use Rattle.conjuncts.proofs.Appending.{words-long, join-full, appends-none, appends-one}
+use Rattle.conjuncts.specs.Conjuncts.{and-then, GatheredAt, Appends, JoinableAt, Joins, OptionalHere}
+use Rattle.conjuncts.proofs.Appending.{words-long, join-full, appends-none, appends-one, joinable}
 use Rattle.copied_lookups.specs.declared.Source.{Source}
 use Rattle.copied_lookups.specs.declared.Source.the-variants as Source
-use Rattle.copied_lookups.specs.Copies.{PushesLeft, PushesRight}
-use Rattle.push_into.specs.Push.{is-some, Takes, Pushes}
+use Rattle.copied_lookups.specs.Copies.{LeftAt, PushesLeft, RightAt, PushesRight}
+use Rattle.push_into.specs.Push.{is-some, Takes, PredicateWritten, Pushes}
 use Rattle.push_into.proofs.Taking.{taken, not-taken, own-over, same-sources}
-use Rattle.push_part.specs.Part.{part-for, own-end, WritesPart, WritesOwn, Closes, PushesPart, ComesBack}
+use Rattle.push_part.specs.Part.{part-for, own-end, WritesPart, WritesOwn, CloseableAt, Closes, PushesPart, ComesBack}
 
 -- ---- the part for a source
 
-pub gathered-at : {s : List ℕ} {end : ℕ} {g : List ℕ} {m : ℕ} (f : Expression → Option Expression)
-    → ((e : Expression) → ExpressionHere s 0 end e → OptionalHere g 0 m (f e)) → ExpressionAt s 0 end → OptionalAt g 0 m
-gathered-at f h t = record { o = f (t .e); here = h (t .e) (t .here) }
+-- with the other source's conjuncts
+module _ (n : ℕ) {s : List ℕ} {end : ℕ} {g : List ℕ} {m : ℕ} where
+  pub left-at : ((e : Expression) → ExpressionHere s 0 end e → OptionalHere g 0 m (and-vec (for-right n (ands e)))) → ExpressionAt s 0 end → LeftAt n s 0 end g 0 m
+  left-at h t = record { e = t .e; here = t .here; others = h (t .e) (t .here) }
+
+  pub right-at : ((e : Expression) → ExpressionHere s 0 end e → OptionalHere g 0 m (and-vec (for-left n (ands e)))) → ExpressionAt s 0 end → RightAt n s 0 end g 0 m
+  right-at h t = record { e = t .e; here = t .here; others = h (t .e) (t .here) }
 
 module _ {into : Source} (n shift : ℕ) {s : List ℕ} {end : ℕ} {g : List ℕ} {m : ℕ} {d : List ℕ} {at r : ℕ} {d′ : List ℕ} where
   pub part-left : into ≡ Source.Left → ((e : Expression) → ExpressionHere s 0 end e → OptionalHere g 0 m (and-vec (for-right n (ands e))))
@@ -49,6 +53,48 @@ own-in t own =
     let l = node-long (t .p) (t .here) in
     let (i, j) = node-in (t .p) (t .here) in
     (omega arith, (omega arith, j))
+
+-- ---- a part that was written, as the next function asks for it
+
+-- the first words
+pub part-predicate : (into : Source) (n shift : ℕ) {cnf : List ℕ} {end : ℕ} {d : List ℕ} {m : ℕ} {d₁ : List ℕ} → ExpressionAt cnf 0 end → length d₁ ≡ length d → (m ≡ 0 → ⊥)
+    → WritesPart into n shift cnf end d 0 m d₁ → PredicateWritten d₁ 0 0 m
+part-predicate into n shift {d = d} {m} {d₁} t k i f = go (part-for into n shift (ands (t .e))) (f (t .e) (t .here))
+  where
+    go : (o : Option Expression) → Wrote d 0 (optional-words o) m d₁ → PredicateWritten d₁ 0 0 m
+    go none w = absurd (i (let (c, e) = fits-to w (omega arith) (omega arith) in omega arith))
+    go (some x) w = record { d₀ = d; d₁ = d; b = []; e = x; same-before = refl; same = k; before = no-words d 0; predicate = w }
+
+-- behind the sources
+pub part-closeable : (into : Source) (n shift : ℕ) {s : List ℕ} {lo hi m : ℕ} {cnf : List ℕ} {end : ℕ} {d : List ℕ} {at a c : ℕ} {d₁ d₂ : List ℕ} → NodeAt s lo hi → ExpressionAt cnf 0 end
+    → OwnStart s lo hi m → length d₁ ≡ length d → length d₂ ≡ length d₁ → Copies s lo m d at a d₁ → WritesPart into n shift cnf end d₁ a c d₂ → CloseableAt d₂ at a c
+part-closeable into n shift {d = d} {d₁ = d₁} t x own k₁ k₂ g w =
+    record {
+      d₀ = d;
+      d₁ = d₁;
+      b = source-words (t .p);
+      o = part-for into n shift (ands (x .e));
+      same-before = k₁;
+      same = k₂;
+      before = g (source-words (t .p)) (source-part (t .p) (t .here) (own (t .p) (t .here)));
+      behind = w (x .e) (x .here);
+    }
+
+pub closed-predicate : {d : List ℕ} {from mid at : ℕ} → at ≤ length d → (at ≡ mid → ⊥) → CloseableAt d from mid at → PredicateWritten d from mid at
+closed-predicate {d} {from} {mid} {at} h i t = go (t .o) (t .behind)
+  where
+    go : (o : Option Expression) → Wrote (t .d₁) mid (optional-words o) at d → PredicateWritten d from mid at
+    go none w = absurd (i (omega (arith, wrote-up w (omega (arith, t .same)))))
+    go (some x) w = record { d₀ = t .d₀; d₁ = t .d₁; b = t .b; e = x; same-before = t .same-before; same = t .same; before = t .before; predicate = w }
+
+-- behind conjuncts
+pub back-joinable : (into : Source) (n : ℕ) {cnf : List ℕ} {end : ℕ} {d : List ℕ} {from at m : ℕ} {d₁ : List ℕ} → ExpressionAt cnf 0 end → GatheredAt d from at → length d₁ ≡ length d
+    → WritesPart into n 0 cnf end d at m d₁ → (m ≡ at → ⊥) → m ≤ length d → JoinableAt d₁ from at m
+back-joinable into n {d = d} {from} {at} {m} {d₁} t g k f i h = go (part-for into n 0 (ands (t .e))) (f (t .e) (t .here))
+  where
+    go : (o : Option Expression) → Wrote d at (optional-words o) m d₁ → JoinableAt d₁ from at m
+    go none w = absurd (i (omega (arith, wrote-up w h)))
+    go (some x) w = joinable g k x w
 
 -- ---- a node with a part in its predicate
 

@@ -39,6 +39,17 @@ pub record WritesOwn (into : Source) (n shift : ℕ) (s : List ℕ) (lo hi : ℕ
   pub own : (r ≡ 0 → ⊥) → (p : Node) → NodeHere s lo hi p → (e : Expression) → ExpressionHere cnf 0 end e
       → Wrote d 0 (own-end (push-part (part-for into n shift (ands e)) p .0)) r d′
 
+-- Some words were written to d from `from` up to mid, and behind them up to `at` an expression or nothing, or they had no room.
+pub record CloseableAt (d : List ℕ) (from mid at : ℕ) : Type 0 where
+  pub d₀ : List ℕ
+  pub d₁ : List ℕ
+  pub b : List ℕ
+  pub o : Option Expression
+  pub same-before : length d₁ ≡ length d₀
+  pub same : length d ≡ length d₁
+  pub before : Wrote d₀ from b mid d₁
+  pub behind : Wrote d₁ mid (optional-words o) at d
+
 -- What stands behind the sources of the node that is there, from mid up to at, is in its predicate; the node takes any predicate.
 abbrev pub Closes : List ℕ → ℕ → ℕ → List ℕ → ℕ → ℕ → ℕ → ℕ → List ℕ → Type 0
 Closes s lo hi d from mid at r d′ = (p : Node) → NodeHere s lo hi p → ((e : Expression) → is-some (push-into e p) ≡ true) → (o : Option Expression) (d₀ d₁ : List ℕ)

@@ -5,8 +5,9 @@ ghost use mathlib.Core.Path.{_≡_};
 ghost use lib.ListN.{length};
 ghost use Rattle.words.specs.Place.{ExpressionAt, NodeAt};
 ghost use Rattle.nodes.specs.Own.{OwnStart};
+ghost use Rattle.conjuncts.specs.Conjuncts.{GatheredAt};
 ghost use Rattle.push_into.specs.Push.{TakerAt};
-ghost use Rattle.push_part.specs.Part.{WritesPart, WritesOwn, Closes, PushesPart, ComesBack};
+ghost use Rattle.push_part.specs.Part.{WritesPart, WritesOwn, CloseableAt, Closes, PushesPart, ComesBack};
 
 // The part of the predicate that is for a source, with the right source's columns `shift` lower. The left source has n columns.
 fn part(
@@ -78,6 +79,7 @@ fn close(
 ) -> usize
     requires { ⌜ TakerAt (now s) lo hi ⌝ }
     requires { ⌜ OwnStart (now s) lo hi m ⌝ }
+    requires { ⌜ CloseableAt (now d) from mid at ⌝ }
     ensures { λ r. ⌜ Closes (now (s .entry)) lo hi (now (d .entry)) from mid at r (now (d .exit)) ⌝ }
 {
     if d.len() < at {
@@ -135,6 +137,7 @@ pub fn come_back(
     requires { ⌜ NodeAt (now s) lo hi ⌝ }
     requires { ⌜ ExpressionAt (now cnf) 0 end ⌝ }
     requires { ⌜ length (now g) ≡ length (now cnf) ⌝ }
+    requires { ⌜ GatheredAt (now d) from at ⌝ }
     ensures { λ r. ⌜ ComesBack into n (now (s .entry)) lo hi (now (cnf .entry)) end (now (d .entry)) from at r (now (d .exit)) ⌝ }
 {
     if push_into::takes(s, lo, hi) {

@@ -23,7 +23,13 @@ unless-outside (some i) otherwise = Outside i
 abbrev pub scope-of : Option ℕ → ℕ → Scope
 scope-of place n = unless-outside place (Within n)
 
--- The answer of the scope check, of the plan that the cells are. It is asked of a sheet that refusals 2 to 8 let by.
+-- A sheet's cells are one plan: refusals 6 to 8 let them by.
+pub record OnePlan (s : List ℕ) : Type 0 where
+  pub n : Node
+  pub cells-ok : bad-cell s ≡ none
+  pub reads : read (text s) 0 (cells-of s) [] ≡ stack (node-tree n ∷ [])
+
+-- The answer of the scope check, of the plan that the cells are.
 abbrev pub Judges : List ℕ → Scope → Type 0
 Judges s r =
     (n : Node) → bad-cell s ≡ none → read (text s) 0 (cells-of s) [] ≡ stack (node-tree n ∷ []) → r ≡ scope-of (outside (schema s) 0 n) (columns (schema s) n)

@@ -5,7 +5,7 @@ ghost use Prim.Native.Nat.{_≤_};
 ghost use lib.ListN.{length};
 ghost use Rattle.sheet.specs.Parts.{cell-count};
 ghost use Rattle.layout.specs.Layout.{Whole};
-ghost use Rattle.scope.specs.Scope.{width-at, Judges};
+ghost use Rattle.scope.specs.Scope.{width-at, OnePlan, Judges};
 use layout::Found;
 use layout::cell_at;
 use layout::parts_of;
@@ -32,7 +32,7 @@ fn width_at(widths: &[usize], at: usize, depth: usize) -> usize
 }
 
 // The lowest Column or node that is out of scope, or the plan's number of columns. `widths` is a stack, which is lent: the column counts of the plans read that
-// no node has as a source yet. `own` is the first cell since the last node. Of cells that are not one plan nothing is promised.
+// no node has as a source yet. `own` is the first cell since the last node. Of cells that are not one plan nothing is promised: `outside` isn't asked of them.
 fn outside_in(s: &[u8], widths: &mut [usize]) -> Scope
     requires { ⌜ Whole (now s) × (cell-count (now s) ≤ length (now widths)) ⌝ }
     ensures { λ r. ⌜ Judges (now (s .entry)) r ⌝ }
@@ -72,7 +72,7 @@ fn outside_in(s: &[u8], widths: &mut [usize]) -> Scope
 
 // The same with a stack of its own. Most plans are small, and a small stack is made faster.
 pub fn outside(s: &[u8]) -> Scope
-    requires { ⌜ Whole (now s) ⌝ }
+    requires { ⌜ Whole (now s) × OnePlan (now s) ⌝ }
     ensures { λ r. ⌜ Judges (now (s .entry)) r ⌝ }
 {
     let p = parts_of(s);

@@ -2,6 +2,7 @@
 use checker::Answer;
 use optimizer::Chosen;
 ghost use Rattle.optimizer.specs.Choices.{Choice};
+ghost use Rattle.hand_out.specs.HandOut.{Counted};
 ghost use Rattle.sheet_passes.specs.SheetPasses.{RunAt, Lends, RunsOn};
 
 // With what the schema says, in slices. `count` is the number of columns of the sheet's plan, which no pass changes.
@@ -22,6 +23,7 @@ fn run_with(
     requires { ⌜ Choice c ⌝ }
     requires { ⌜ RunAt (now s) (now x) (now y) (now z) (now w) ⌝ }
     requires { ⌜ Lends (now s) (now widths) (now names) (now columns) (now keys) ⌝ }
+    requires { ⌜ Counted (now s) count ⌝ }
     ensures { λ a. ⌜ RunsOn (now (s .entry)) c count (now (x .entry)) (now (out .entry)) a (now (out .exit)) ⌝ }
 {
     let t = decode::decode(s, x);
@@ -43,6 +45,7 @@ pub fn run(
 ) -> Answer
     requires { ⌜ Choice c ⌝ }
     requires { ⌜ RunAt (now s) (now x) (now y) (now z) (now w) ⌝ }
+    requires { ⌜ Counted (now s) count ⌝ }
     ensures { λ a. ⌜ RunsOn (now (s .entry)) c count (now (x .entry)) (now (out .entry)) a (now (out .exit)) ⌝ }
 {
     let mut widths = [0usize; 16];

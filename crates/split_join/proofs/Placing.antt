@@ -118,7 +118,7 @@ end-replaced n {y = y} {q = q} {x′ = x′} k₁ k₂ f g h pre post outer p l 
     let o = stays n (ands e) l r in
     subst (λ (s : List ℕ). Placed x′ q pre post (sized s (cell (join-cell outer (nested-loop o))))) (sym (append-assoc kept w (optional-words o)))
     (h pre kept (gone ++ old-words outer p l r) post (kept-whole outer p l r j kept gone i) (j .holds .low) d (j .holds .high) y₀ (w ++ optional-words o) (cell (join-cell outer (nested-loop o)))
-    (k₂ ∙ k₁ ∙ k₀)
+    (length (w ++ optional-words o) + 6) (k₂ ∙ k₁ ∙ k₀)
     (g .writes outer p l r (holds-here (j .holds)) o y₀ y w k₀ k₁ a (f l r (left-here outer p l r j) (right-here outer p l r j) e v)))
 
 -- ---- a source whose own words took their place is sealed

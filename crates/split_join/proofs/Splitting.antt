@@ -22,9 +22,9 @@ use Rattle.words.proofs.Nodes.{node-cell-is, own-part, node-in}
 use Rattle.words.proofs.Sizes.{sized-long}
 use Rattle.nodes.specs.Own.{OwnStart}
 use Rattle.nodes.proofs.Widths.{flag-here}
-use Rattle.conjuncts.specs.Conjuncts.{AppendsEach}
+use Rattle.conjuncts.specs.Conjuncts.{GatheredAt, AppendsEach}
 use Rattle.conjuncts.proofs.Lists.{shift-none}
-use Rattle.conjuncts.proofs.Appending.{words-long, appends-then, appends-vec}
+use Rattle.conjuncts.proofs.Appending.{words-long, appends-then, appends-vec, gathered-more}
 use Rattle.copied_lookups.specs.declared.Source.the-variants.{Left, Right}
 use Rattle.copied_lookups.proofs.Refers.{right-refers}
 use Rattle.push_into.proofs.Taking.{no-true, put-long}
@@ -56,6 +56,11 @@ module _ {s : List ℕ} {lo hi m : ℕ} (own : OwnStart s lo hi m) where
       (t .here)
 
 -- ---- the new predicate
+
+-- the conjuncts that stay and what comes back from the left source, as the right one's call asks for them
+pub back-gathered : (n : ℕ) {s : List ℕ} {lo mid : ℕ} {cnf : List ℕ} {end : ℕ} {d : List ℕ} {from at j : ℕ} {d₁ : List ℕ} → GatheredAt d from at → length d₁ ≡ length d
+    → NodeAt s lo mid → ExpressionAt cnf 0 end → ComesBack Left n s lo mid cnf end d from at j d₁ → GatheredAt d₁ from j
+back-gathered n g k t x f = gathered-more g k (push-part (part-for Left n 0 (ands (x .e))) (t .p) .1) (f (t .p) (t .here) (x .e) (x .here))
 
 pub stays-wrote : (n : ℕ) {s : List ℕ} {lo mid m : ℕ} {cnf : List ℕ} {end : ℕ} {d : List ℕ} {at i j q : ℕ} {d₁ d₂ d₃ : List ℕ} → length d₁ ≡ length d → length d₂ ≡ length d₁
     → AppendsEach (λ e. for-both n (ands e)) cnf 0 end d at at i d₁ → ComesBack Left n s lo mid cnf end d₁ at i j d₂ → ComesBack Right n s mid m cnf end d₂ at j q d₃

@@ -19,7 +19,7 @@ use Rattle.words.proofs.Sizes.{sized-long, over-long, join-long, words-long}
 use Rattle.nodes.specs.Own.{OwnStart, SourceCount}
 use Rattle.kept.specs.Kept.{Kept, kept}
 use Rattle.stream.specs.Stream.{Reading, StreamAt, Streamed, Streams, Finishes}
-use Rattle.stream.proofs.Streams.{written-done, done-long, done-wrote, streamed-with, streamed-stop, streamed-go}
+use Rattle.stream.proofs.Streams.{written-done, done-long, done-wrote, streamed-with, streamed-stop, streamed-go, finishes-node}
 
 module _ {Lent : Schema → Type 0} {x : List ℕ} {lo hi tail : ℕ} {y : List ℕ} {at : ℕ} (d : StreamAt Lent x lo hi tail y at) where
   -- a node has no, one or two sources
@@ -86,7 +86,7 @@ module _ {x : List ℕ} {lo hi m : ℕ} (own : OwnStart x lo hi m) {schema : Sch
 
     pub over-written : {r : ℕ} {y₂ : List ℕ} → Finishes x m hi y₁ at u r y₂ → Wrote y at (node-words (over o q)) r y₂
     over-written {r} {y₂} f =
-        subst (λ (w : List ℕ). Wrote y at w r y₂) (sym (node-shape (over o q))) (f lo (over o n) (h .here) own y (node-words q) k₁ (done-wrote q at-in s k₁))
+        subst (λ (w : List ℕ). Wrote y at w r y₂) (sym (node-shape (over o q))) (finishes-node f lo (over o n) (h .here) own y (node-words q) k₁ (done-wrote q at-in s k₁))
 
     pub over-done : {r : ℕ} {y₂ : List ℕ} → length y₂ ≡ length y₁ → Finishes x m hi y₁ at u r y₂
         → Streamed (Kept schema text tables (over o n)) y at tail r y₂ (done (over o q))
@@ -193,7 +193,7 @@ module _ {x : List ℕ} {lo hi m mid : ℕ} (own : OwnStart x lo hi m) (st : mid
       pub join-written : {w : ℕ} {y₃ : List ℕ} → Finishes x m hi y₂ at v w y₃ → Wrote y at (node-words (join outer j p q)) w y₃
       join-written {w} {y₃} f =
           subst (λ (z : List ℕ). Wrote y at z w y₃) (sym (node-shape (join outer j p q)))
-          (f lo (join outer j l r) (h .here) own y (node-words p ++ node-words q) (k₂ ∙ k₁) sources-written)
+          (finishes-node f lo (join outer j l r) (h .here) own y (node-words p ++ node-words q) (k₂ ∙ k₁) sources-written)
 
       pub join-done : {w : ℕ} {y₃ : List ℕ} → length y₃ ≡ length y₂ → Finishes x m hi y₂ at v w y₃
           → Streamed (Kept schema text tables (join outer j l r)) y at tail w y₃ (done (join outer j p q))

@@ -2,9 +2,9 @@
 use Prim.Native.Nat.{ℕ, _+_, _-_, _*_, _≤_, _<_}
 use native.Mathlib.Omega.{arith}
 use mathlib.Core.Logic.{_⊎_, ⊎-elim}
-use mathlib.Core.Path.{_≡_, refl, sym, ap, _∙_, subst}
+use mathlib.Core.Path.{_≡_, refl, sym, ap, ap₂, _∙_, subst}
 use mathlib.Core.List.{List, [], _++_, append-assoc}
-use lib.ListN.{length, take, drop, length-append, take-append-drop}
+use lib.ListN.{length, take, drop, replicate, length-append, length-drop, length-replicate, take-append-drop}
 use lib.Seq.{take-take, take-at, length-take-le}
 use lib.Dec.{leb}
 use borrow.Author.Tests.{le-leb, lt-leb}
@@ -13,13 +13,15 @@ use Rattle.sql.specs.Plan.{Node, node-size}
 use Rattle.sql.specs.Answer.{Answer, done, refused, _>>=_}
 use Rattle.sql.specs.Room.{if-room}
 use Rattle.cells.specs.declared.Cell.{Cell}
-use Rattle.cells.specs.Cells.{sized, cell-at}
-use Rattle.cells.specs.Room.{most-words, Short, Wrote, Seals, Copies}
+use Rattle.cells.specs.Cells.{words, sized, cell-at, Part}
+use Rattle.cells.specs.Room.{most-words, Short, Wrote, Puts, Copies}
+use Rattle.cells.proofs.Laws as cells
 use Rattle.cells.proofs.Laws.{then, fits, full, lt-or-ge}
-use Rattle.words.specs.Words.{cell, own-words, node-words}
+use Rattle.words.specs.Words.{cell, own-words, node-cell, node-words}
 use Rattle.words.specs.Place.{NodeHere, NodeAt}
 use Rattle.words.proofs.Nodes.{own-part, node-cell-is, node-in}
-use Rattle.words.proofs.Sizes.{words-long}
+use Rattle.words.proofs.Sizes.{words-long, sized-long}
+use Rattle.nodes.specs.Own.{OwnStart}
 use Rattle.edit.specs.Edit.{Shares}
 use Rattle.kept.specs.Kept.{Kept}
 use Rattle.stream.specs.Stream.{Reading, StreamAt, Streamed, Finishes, InRoom}
@@ -151,11 +153,82 @@ module _ {Fit : Node → Type 0} {y : List ℕ} {at tail n : ℕ} {y′ : List �
         go (refused number place) s = absurd (omega (arith, s .is .0))
 
 -- ---- own words and cell
+
+-- the words of y from `at` up to n, as if they were written now
+behind : (y : List ℕ) (at n : ℕ) → at ≤ n → n ≤ length y → Wrote y at (drop at (take n y)) n y
+behind y at n h k =
+    let l = length-drop at (take n y) in
+    let m = length-take-le n y k in
+    cells.done (omega arith) (omega arith) (sym (take-append-drop at (take n y)) ∙ ap (λ (w : List ℕ). w ++ drop at (take n y)) (take-take at n y h))
+
+-- where there is no room for the words, there is none for the cell
+past : {y : List ℕ} {at end n : ℕ} {y′ : List ℕ} (c : Cell) → Puts y at end c n y′ → length y < end → length y < n
+past {y} {end = end} c s z =
+    let l = length-replicate {A = ℕ} end 0 in
+    full (s .0 y (replicate end 0) refl (cells.no-room (omega arith) z)) (omega (arith, sized-long (replicate end 0) c))
+
 pub finished : {x : List ℕ} {m hi : ℕ} {y : List ℕ} {at u end n : ℕ} {y₁ y₂ : List ℕ} {c : Cell} → length y₁ ≡ length y → Copies x m (hi - 6) y u end y₁
-    → c ≡ cell-at x hi → Seals y₁ at end c n y₂ → Finishes x m hi y at u n y₂
-finished {at = at} {n = n} {y₂ = y₂} k a q s lo p h own y₀ b k₀ w =
-    subst (λ (k : Cell). Wrote y₀ at (sized (b ++ own-words p) k) n y₂) (q ∙ node-cell-is p h)
-    (s y₀ (b ++ own-words p) (k ∙ k₀) (then k₀ w (a (own-words p) (own-part p h (own p h)))))
+    → c ≡ cell-at x hi → Puts y₁ at end c n y₂ → Finishes x m hi y at u n y₂
+finished {x} {m} {hi} {y} {at} {u} {end} {n} {y₁} {y₂} {c} k a q s = record {
+  writes = λ own p h. ⊎-elim
+      (λ (z : length y₁ < end).
+      let j = length-append own (words (cell-at x hi) (u + length own - at + 6)) in
+      record { is = λ r. absurd (let d = past c s z in omega arith); room = λ r o. absurd (let d = a own p .room (omega arith) (omega arith) in omega arith) })
+      (λ (z : end ≤ length y₁). there own p h z) (lt-or-ge (length y₁) end);
+  before = λ own p h. ⊎-elim (λ (z : length y₁ < end). let d = past c s z in omega arith)
+      (λ (z : end ≤ length y₁). let e = cells.wrote-up (a own p) (omega arith) in let d = s .1 (omega arith) in omega arith) (lt-or-ge (length y₁) end);
+}
+  where
+    there : (own : List ℕ) → Part x m (hi - 6) own → at ≤ u + length own → end ≤ length y₁ → Wrote y u (own ++ words (cell-at x hi) (u + length own - at + 6)) n y₂
+    there own p h z =
+        let (e, t) = a own p .is (omega arith) in
+        let b = drop at (take end y₁) in
+        let v = behind y₁ at end (omega arith) z in
+        let (f, i) = v .is z in
+        let g = s .0 y₁ b refl v in
+        let l = sized-long b c in
+        let j = length-append own (words (cell-at x hi) (u + length own - at + 6)) in
+        let size : length b + 6 ≡ u + length own - at + 6 = omega arith in
+        record {
+          is = λ r. let (e₁, t₁) = g .is (omega arith) in (
+            omega arith,
+            t₁
+                ∙ sym (append-assoc (take at y₁) b (words c (length b + 6)))
+                ∙ ap (λ (w : List ℕ). w ++ words c (length b + 6)) (sym i ∙ t)
+                ∙ append-assoc (take u y) own (words c (length b + 6))
+                ∙ ap₂ (λ (d : Cell) (o : ℕ). take u y ++ (own ++ words d o)) q size,
+          );
+          room = λ r o. let d = g .room (omega arith) (omega arith) in omega arith;
+        }
+
+-- of the node whose own words they are, behind whatever was written from `at` on
+pub finishes-node : {x : List ℕ} {m hi : ℕ} {y : List ℕ} {at u n : ℕ} {y₁ : List ℕ} → Finishes x m hi y at u n y₁ → (lo : ℕ) (p : Node) → NodeHere x lo hi p → OwnStart x lo hi m
+    → (y₀ b : List ℕ) → length y ≡ length y₀ → Wrote y₀ at b u y → Wrote y₀ at (sized (b ++ own-words p) (cell (node-cell p))) n y₁
+finishes-node {x} {m} {hi} {y} {at} {u} {n} {y₁} f lo p h own y₀ b k w =
+    ⊎-elim full-there fits-there (lt-or-ge (length y) u)
+  where
+    part : Part x m (hi - 6) (own-words p)
+    part = own-part p h (own p h)
+
+    full-there : length y < u → Wrote y₀ at (sized (b ++ own-words p) (cell (node-cell p))) n y₁
+    full-there z =
+        let l = sized-long (b ++ own-words p) (cell (node-cell p)) in
+        let j = length-append b (own-words p) in
+        let past : length y < n =
+        ⊎-elim (λ (i : u + length (own-words p) < at). f .before (own-words p) part i)
+        (λ (i : at ≤ u + length (own-words p)). full (f .writes (own-words p) part i) (omega arith)) (lt-or-ge (u + length (own-words p)) at) in
+        record { is = λ r. absurd (omega arith); room = λ r o. absurd (let d = w .room (omega arith) (omega arith) in omega arith) }
+
+    fits-there : u ≤ length y → Wrote y₀ at (sized (b ++ own-words p) (cell (node-cell p))) n y₁
+    fits-there z =
+        let e = cells.wrote-up w (omega arith) in
+        let j = length-append b (own-words p) in
+        let size = u + length (own-words p) - at + 6 in
+        let i : size ≡ length (b ++ own-words p) + 6 = omega arith in
+        subst (λ (d : Cell). Wrote y₀ at (sized (b ++ own-words p) d) n y₁) (node-cell-is p h)
+        (subst (λ (o : ℕ). Wrote y₀ at ((b ++ own-words p) ++ words (cell-at x hi) o) n y₁) i
+        (subst (λ (l : List ℕ). Wrote y₀ at l n y₁) (sym (append-assoc b (own-words p) (words (cell-at x hi) size)))
+        (then k w (f .writes (own-words p) part (omega arith)))))
 
 -- ---- the whole plan
 module _ (x : List ℕ) (t : ℕ) (p : Node) (e : take t x ≡ node-words p) (h : t ≤ length x) where

@@ -9,11 +9,10 @@ use lib.ListN.{length, take}
 use Rattle.sql.specs.Schema.{Schema}
 use Rattle.sql.specs.Plan.{Node}
 use Rattle.sql.specs.Answer.{Answer, done, refused}
-use Rattle.cells.specs.Cells.{sized}
+use Rattle.cells.specs.Cells.{cell-words, words, cell-at, Part}
 use Rattle.cells.specs.Room.{most-words, Wrote}
-use Rattle.words.specs.Words.{cell, own-words, node-cell, node-words}
+use Rattle.words.specs.Words.{node-words}
 use Rattle.words.specs.Place.{NodeHere}
-use Rattle.nodes.specs.Own.{OwnStart}
 use Rattle.edit.specs.Edit.{Shares}
 use Rattle.kept.specs.Kept.{Kept}
 
@@ -56,11 +55,12 @@ Streams Lent f x lo hi tail y at n y′ =
 
 -- ---- contracts of the two functions that streamed passes share
 
--- The own words of the node that ends before hi, which start at m, and its cell are written behind whatever was written from `at` up to u.
-abbrev pub Finishes : List ℕ → ℕ → ℕ → List ℕ → ℕ → ℕ → ℕ → List ℕ → Type 0
-Finishes x m hi y at u n y′ =
-    (lo : ℕ) (p : Node) → NodeHere x lo hi p → OwnStart x lo hi m → (y₀ b : List ℕ) → length y ≡ length y₀ → Wrote y₀ at b u y
-    → Wrote y₀ at (sized (b ++ own-words p) (cell (node-cell p))) n y′
+-- The words of x from m on, up to the cell that ends before hi, are appended to the first u words of y, and then that cell, over all words from `at` on, or they
+-- have no room. Where the words end before `at`, there is nothing that the cell could be over, and n is past the end.
+pub record Finishes (x : List ℕ) (m hi : ℕ) (y : List ℕ) (at u n : ℕ) (y′ : List ℕ) : Type 0 where
+  pub writes : (own : List ℕ) → Part x m (hi - cell-words) own → at ≤ u + length own
+      → Wrote y u (own ++ words (cell-at x hi) (u + length own - at + cell-words)) n y′
+  pub before : (own : List ℕ) → Part x m (hi - cell-words) own → u + length own < at → length y < n
 
 -- r is n if there is room for tail words behind the first n words of y, and past the end if there isn't.
 pub record InRoom (y : List ℕ) (n tail r : ℕ) : Type 0 where

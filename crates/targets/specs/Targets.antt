@@ -23,6 +23,6 @@ pub record Untargeted (s : List ℕ) (n : ℕ) : Type 0 where
   pub within : n ≤ cell-count s
   pub none-before : (i : ℕ) → i < n → 256 ≤ target-number (cell s i)
 
--- The answer of the search for a repeated Target, of the plan that the cells are. It is asked of a sheet that refusals 2 to 8 let by.
+-- The answer of the search for a repeated Target, of the plan that the cells are.
 abbrev pub Repeats : List ℕ → Found → Type 0
 Repeats s r = (n : Node) → bad-cell s ≡ none → read (text s) 0 (cells-of s) [] ≡ stack (node-tree n ∷ []) → found r ≡ target-repeated 0 n

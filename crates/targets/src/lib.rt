@@ -2,6 +2,7 @@
 // behind the last node before it.
 ghost use mathlib.Core.Path.{_≡_};
 ghost use Rattle.layout.specs.Layout.{Whole, as-cell};
+ghost use Rattle.scope.specs.Scope.{OnePlan};
 ghost use Rattle.targets.specs.Targets.{target-number, Untargeted, Repeats};
 use layout::Cell;
 use layout::Found;
@@ -55,7 +56,7 @@ fn repeated_from(s: &[u8], from: usize) -> Found
 
 // The lowest Target that equals one before it in the same Remap. Few plans have Targets: the cells before the first one are passed over.
 pub fn target_repeated(s: &[u8]) -> Found
-    requires { ⌜ Whole (now s) ⌝ }
+    requires { ⌜ Whole (now s) × OnePlan (now s) ⌝ }
     ensures { λ r. ⌜ Repeats (now (s .entry)) r ⌝ }
 {
     let p = parts_of(s);

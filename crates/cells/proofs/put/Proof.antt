@@ -9,19 +9,19 @@ use Rattle.cells.proofs.put.Statement.{statement}
 use Rattle.cells.proofs.put.Tie as tie
 
 returns : tie.Need-returns
-returns c = seals-not (c .before .args .k) (inl (omega arith)) (omega arith)
+returns c = (seals-not (c .before .args .k) (inl (omega arith)) (omega arith), λ _. omega arith)
 
 returns-2 : tie.Need-returns-2
-returns-2 c = seals-not (c .before .before .args .k) (inr (inl (omega arith))) (omega arith)
+returns-2 c = (seals-not (c .before .before .args .k) (inr (inl (omega arith))) (omega arith), λ _. omega arith)
 
 sub-if3 : tie.Need-sub-if3
 sub-if3 c = search needs
 
 returns-3 : tie.Need-returns-3
-returns-3 c = seals-not (c .before .before .before .args .k) (inr (inl (omega arith))) (omega arith)
+returns-3 c = (seals-not (c .before .before .before .args .k) (inr (inl (omega arith))) (omega arith), λ _. omega arith)
 
 returns-4 : tie.Need-returns-4
-returns-4 c = seals-not (c .before .before .before .before .args .k) (inr (inr (omega arith))) (omega arith)
+returns-4 c = (seals-not (c .before .before .before .before .args .k) (inr (inr (omega arith))) (omega arith), λ _. omega arith)
 
 mul-d : tie.Need-mul-d
 mul-d c = search needs
@@ -87,7 +87,7 @@ same-length : tie.Need-same-length
 same-length c = simp length-set refl
 
 returns-5 : tie.Need-returns-5
-returns-5 c = let a = c .before .before .before .before .args in seals (a .k) (omega arith) (omega arith) (put6 (a .d .now) (a .at) (a .k .tag) (a .k .flag) (a .k .a) (a .k .b) (a .k .c) (a .at - a .lo + 6) (omega arith))
+returns-5 c = let a = c .before .before .before .before .args in (seals (a .k) (omega arith) (omega arith) (put6 (a .d .now) (a .at) (a .k .tag) (a .k .flag) (a .k .a) (a .k .b) (a .k .c) (a .at - a .lo + 6) (omega arith)), λ h. absurd (omega arith))
 
 pub put-spec : {M : Type 1} → statement M
 put-spec =

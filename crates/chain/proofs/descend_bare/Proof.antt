@@ -1,5 +1,6 @@
 use Rattle.chain.proofs.Bare.{bare-at, six-inside, down-bare, several-sources, own-left}
 use Rattle.chain.specs.Chain.{Bare, no-more}
+use Rattle.nodes.proofs.Own.{has-sources}
 use native.Mathlib.Omega.{arith}
 use mathlib.Core.Path.{refl}
 use Rattle.chain.proofs.descend_bare.Statement.{statement}
@@ -25,7 +26,7 @@ returns : tie.Need-returns Inv-loop μ-loop
 returns c = several-sources (c .before .before .loop .inv) (c .before .source-count .ensures) (c .if1 .taken)
 
 own-trees-requires : tie.Need-own-trees-requires Inv-loop μ-loop
-own-trees-requires c κs = bare-at (c .before .before .loop .inv) (c .before .before .before .before .pre)
+own-trees-requires c κs = has-sources (c .before .source-count .ensures) (λ z. absurd (omega (arith, c .if1 .left))) (bare-at (c .before .before .loop .inv) (c .before .before .before .before .pre))
 
 returns-2 : tie.Need-returns-2 Inv-loop μ-loop
 returns-2 c = own-left (c .before .before .before .before .loop .inv) (c .before .before .before .source-count .ensures) (c .before .before .if1 .left) (c .before .own-trees .ensures) (c .if2 .taken)

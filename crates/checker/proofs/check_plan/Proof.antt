@@ -1,6 +1,6 @@
 use Rattle.layout.specs.declared.Found.{Found}
 use Rattle.layout.specs.Layout.{found}
-use Rattle.checker.proofs.Steps.{at-lacking, at-outside, at-within}
+use Rattle.checker.proofs.Steps.{at-lacking, one-plan-at, at-outside, at-within}
 use Prim.Native.Nat.{ℕ, _+_, _-_, _*_, _≤_, _<_}
 use native.Mathlib.Omega.{arith}
 use mathlib.Core.Path.{_≡_, refl, sym, ap, _∙_, subst}
@@ -32,7 +32,7 @@ enum-told : tie.Need-enum-told
 enum-told c = search needs
 
 outside-requires : tie.Need-outside-requires
-outside-requires c κs = search needs
+outside-requires c κs = (c .before .before .before .before .pre .0, one-plan-at (c .before .before .before .before .args .s .now) (c .before .before .before .before .pre .1) (sym (ap found (c .enum-told .given .1)) ∙ c .before .before .lacking .ensures))
 
 enum-known-i-2 : tie.Need-enum-known-i-2
 enum-known-i-2 c = search needs
@@ -44,7 +44,7 @@ enum-known-n : tie.Need-enum-known-n
 enum-known-n c = search needs
 
 check-targets-requires : tie.Need-check-targets-requires
-check-targets-requires c κs = search needs
+check-targets-requires c κs = (c .before .before .before .before .before .before .before .before .pre .0, one-plan-at (c .before .before .before .before .before .before .before .before .args .s .now) (c .before .before .before .before .before .before .before .before .pre .1) (sym (ap found (c .before .before .before .before .enum-told .given .1)) ∙ c .before .before .before .before .before .before .lacking .ensures))
 
 returns-2 : tie.Need-returns-2
 returns-2 c = c .refusal2 .ensures ∙ at-outside (c .before .before .before .before .before .before .before .before .before .args .s .now) (c .before .before .before .before .before .before .before .before .before .pre .1) (sym (ap found (c .before .before .before .before .before .enum-told .given .1)) ∙ c .before .before .before .before .before .before .before .lacking .ensures) (c .before .before .before .before .outside .ensures) (c .before .before .i2 .given .1)

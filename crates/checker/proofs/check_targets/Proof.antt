@@ -28,7 +28,7 @@ refusal-requires : tie.Need-refusal-requires
 refusal-requires c κs = search needs
 
 returns : tie.Need-returns
-returns c = λ node p o k. c .refusal .ensures ∙ at-repeated (c .before .before .before .before .before .before .args .s .now) (c .before .before .before .before .before .before .pre .1) (c .before .before .before .before .target-repeated .result) (c .before .before .before .before .target-repeated .ensures) (ap found (c .before .before .i .given .1)) node p o
+returns c = λ node p o k. c .refusal .ensures ∙ at-repeated (c .before .before .before .before .before .before .args .s .now) (c .before .before .before .before .before .before .pre .1 .cells-ok) (c .before .before .before .before .target-repeated .result) (c .before .before .before .before .target-repeated .ensures) (ap found (c .before .before .i .given .1)) node p o
 
 enum-told : tie.Need-enum-told
 enum-told c = search needs
@@ -37,7 +37,7 @@ parts-of-requires : tie.Need-parts-of-requires
 parts-of-requires c κs = search needs
 
 returns-2 : tie.Need-returns-2
-returns-2 c = λ node p o k. ap₂ (λ (a : ℕ) (b : ℕ). record { number = 0; place = 0; length = 0; cells = a; columns = b }) (ap (λ (x : Parts). x .cells .count) (c .parts-of .ensures .is)) (sym k) ∙ at-success (c .before .before .before .before .before .args .s .now) (c .before .before .before .before .before .pre .1) (c .before .before .before .target-repeated .result) (c .before .before .before .target-repeated .ensures) (ap found (c .before .enum-told .given .1)) node p o
+returns-2 c = λ node p o k. ap₂ (λ (a : ℕ) (b : ℕ). record { number = 0; place = 0; length = 0; cells = a; columns = b }) (ap (λ (x : Parts). x .cells .count) (c .parts-of .ensures .is)) (sym k) ∙ at-success (c .before .before .before .before .before .args .s .now) (c .before .before .before .before .before .pre .1 .cells-ok) (c .before .before .before .target-repeated .result) (c .before .before .before .target-repeated .ensures) (ap found (c .before .enum-told .given .1)) node p o
 
 pub check-targets-spec : {M : Type 1} → statement M
 check-targets-spec =

@@ -133,7 +133,7 @@ distribute-operands-same-length : (t : ℕ) → distribute-operands-lts.Need-sam
 distribute-operands-same-length t c = search needs
 
 distribute-operands-returns : (t : ℕ) → distribute-operands-lts.Need-returns (distribute-operands-claims t) (distribute-operands-at t) distribute-operands.Post
-distribute-operands-returns t c = operands-leaf distribute (c .before .before .before .before .before .before .cell-at .ensures) (omega (arith, ap (λ (x : Cell). x .tag) (c .before .before .before .before .before .before .cell-at .ensures), c .before .before .before .before .if1 .taken)) (c .before .before .put .ensures)
+distribute-operands-returns t c = operands-leaf distribute (c .before .before .before .before .before .before .cell-at .ensures) (omega (arith, ap (λ (x : Cell). x .tag) (c .before .before .before .before .before .before .cell-at .ensures), c .before .before .before .before .if1 .taken)) (c .before .before .put .ensures .0)
 
 distribute-operands-sub-k : (t : ℕ) → distribute-operands-lts.Need-sub-k (distribute-operands-claims t) (distribute-operands-at t) distribute-operands.Post
 distribute-operands-sub-k t c = let (h, k) = at-in (c .before .before .before .before .before .pre .1) in omega arith
@@ -148,7 +148,7 @@ distribute-operands-same-length-2 : (t : ℕ) → distribute-operands-lts.Need-s
 distribute-operands-same-length-2 t c = search needs
 
 distribute-operands-returns-2 : (t : ℕ) → distribute-operands-lts.Need-returns-2 (distribute-operands-claims t) (distribute-operands-at t) distribute-operands.Post
-distribute-operands-returns-2 t c = operands-unary distribute (c .before .before .before .before .before .before .before .before .before .before .before .before .cell-at .ensures) (c .before .before .before .before .before .before .distribute-expression .kept .1 .1 .1 .0) (omega (arith, ap (λ (x : Cell). x .tag) (c .before .before .before .before .before .before .before .before .before .before .before .before .cell-at .ensures), c .before .before .before .before .before .before .before .before .if2 .taken)) (c .before .before .before .before .before .before .distribute-expression .ensures) (c .before .before .put2 .ensures)
+distribute-operands-returns-2 t c = operands-unary distribute (c .before .before .before .before .before .before .before .before .before .before .before .before .cell-at .ensures) (c .before .before .before .before .before .before .distribute-expression .kept .1 .1 .1 .0) (omega (arith, ap (λ (x : Cell). x .tag) (c .before .before .before .before .before .before .before .before .before .before .before .before .cell-at .ensures), c .before .before .before .before .before .before .before .before .if2 .taken)) (c .before .before .before .before .before .before .distribute-expression .ensures) (c .before .before .put2 .ensures .0)
 
 distribute-operands-start-requires : (t : ℕ) → distribute-operands-lts.Need-start-requires (distribute-operands-claims t) (distribute-operands-at t) distribute-operands.Post
 distribute-operands-start-requires t c κs = let e = ap (λ (x : Cell). x .tag) (c .before .before .before .before .cell-at .ensures) in at-last (omega (arith, e, c .before .before .if1 .left)) (omega (arith, e, c .if2 .left)) (c .before .before .before .before .before .before .before .pre .1)
@@ -166,7 +166,7 @@ distribute-operands-same-length-3 : (t : ℕ) → distribute-operands-lts.Need-s
 distribute-operands-same-length-3 t c = search needs
 
 distribute-operands-returns-3 : (t : ℕ) → distribute-operands-lts.Need-returns-3 (distribute-operands-claims t) (distribute-operands-at t) distribute-operands.Post
-distribute-operands-returns-3 t c = let e = ap (λ (x : Cell). x .tag) (c .before .before .before .before .before .before .before .before .before .before .before .before .before .before .before .before .before .cell-at .ensures) in operands-binary distribute (c .before .before .before .before .before .before .before .before .before .before .before .before .before .before .before .before .before .cell-at .ensures) (c .before .before .before .before .before .before .before .before .before .before .distribute-expression2 .kept .1 .1 .1 .0) (c .before .before .before .before .before .before .distribute-expression3 .kept .1 .1 .1 .0) (c .before .before .before .before .before .before .before .before .before .before .before .before .start .ensures) (omega (arith, e, c .before .before .before .before .before .before .before .before .before .before .before .before .before .before .before .if1 .left)) (omega (arith, e, c .before .before .before .before .before .before .before .before .before .before .before .before .before .if2 .left)) (c .before .before .before .before .before .before .before .before .before .before .distribute-expression2 .ensures) (c .before .before .before .before .before .before .distribute-expression3 .ensures) (c .before .before .put3 .ensures)
+distribute-operands-returns-3 t c = let e = ap (λ (x : Cell). x .tag) (c .before .before .before .before .before .before .before .before .before .before .before .before .before .before .before .before .before .cell-at .ensures) in operands-binary distribute (c .before .before .before .before .before .before .before .before .before .before .before .before .before .before .before .before .before .cell-at .ensures) (c .before .before .before .before .before .before .before .before .before .before .distribute-expression2 .kept .1 .1 .1 .0) (c .before .before .before .before .before .before .distribute-expression3 .kept .1 .1 .1 .0) (c .before .before .before .before .before .before .before .before .before .before .before .before .start .ensures) (omega (arith, e, c .before .before .before .before .before .before .before .before .before .before .before .before .before .before .before .if1 .left)) (omega (arith, e, c .before .before .before .before .before .before .before .before .before .before .before .before .before .if2 .left)) (c .before .before .before .before .before .before .before .before .before .before .distribute-expression2 .ensures) (c .before .before .before .before .before .before .distribute-expression3 .ensures) (c .before .before .put3 .ensures .0)
 
 or-both-returns : (t : ℕ) → or-both-lts.Need-returns (or-both-claims t) (or-both-at t) or-both.Post
 or-both-returns t c = full-two spread (c .if1 .taken)
@@ -193,7 +193,7 @@ or-both-same-length : (t : ℕ) → or-both-lts.Need-same-length (or-both-claims
 or-both-same-length t c = search needs
 
 or-both-returns-2 : (t : ℕ) → or-both-lts.Need-returns-2 (or-both-claims t) (or-both-at t) or-both.Post
-or-both-returns-2 t c = both-and (c .before .before .before .before .before .before .before .before .before .before .or-both .kept .1 .1 .1 .1 .1 .0) (c .before .before .before .before .before .before .or-both2 .kept .1 .1 .1 .1 .1 .0) (c .before .before .before .before .before .before .before .before .before .before .before .before .start .ensures) (sym (c .before .before .before .before .before .before .before .before .before .before .before .before .before .before .tag-at .ensures) ∙ c .before .before .before .before .before .before .before .before .before .before .before .before .before .if2 .taken) (c .before .before .before .before .before .before .before .before .before .before .or-both .ensures) (c .before .before .before .before .before .before .or-both2 .ensures) (c .before .before .put .ensures)
+or-both-returns-2 t c = both-and (c .before .before .before .before .before .before .before .before .before .before .or-both .kept .1 .1 .1 .1 .1 .0) (c .before .before .before .before .before .before .or-both2 .kept .1 .1 .1 .1 .1 .0) (c .before .before .before .before .before .before .before .before .before .before .before .before .start .ensures) (sym (c .before .before .before .before .before .before .before .before .before .before .before .before .before .before .tag-at .ensures) ∙ c .before .before .before .before .before .before .before .before .before .before .before .before .before .if2 .taken) (c .before .before .before .before .before .before .before .before .before .before .or-both .ensures) (c .before .before .before .before .before .before .or-both2 .ensures) (c .before .before .put .ensures .0)
 
 or-both-or-right-requires : (t : ℕ) → or-both-lts.Need-or-right-requires (or-both-claims t) (or-both-at t) or-both.Post
 or-both-or-right-requires t c κs = (omega (arith, c .before .before .before .before .before .before .pre .0), c .before .before .before .before .before .before .pre .1)
@@ -229,7 +229,7 @@ or-right-same-length : (t : ℕ) → or-right-lts.Need-same-length (or-right-cla
 or-right-same-length t c = search needs
 
 or-right-returns-2 : (t : ℕ) → or-right-lts.Need-returns-2 (or-right-claims t) (or-right-at t) or-right.Post
-or-right-returns-2 t c = right-and (c .before .before .before .before .before .before .before .before .before .before .or-right .kept .1 .1 .1 .1 .1 .0) (c .before .before .before .before .before .before .or-right2 .kept .1 .1 .1 .1 .1 .0) (c .before .before .before .before .before .before .before .before .before .before .before .before .start .ensures) (sym (c .before .before .before .before .before .before .before .before .before .before .before .before .before .before .tag-at .ensures) ∙ c .before .before .before .before .before .before .before .before .before .before .before .before .before .if2 .taken) (c .before .before .before .before .before .before .before .before .before .before .or-right .ensures) (c .before .before .before .before .before .before .or-right2 .ensures) (c .before .before .put .ensures)
+or-right-returns-2 t c = right-and (c .before .before .before .before .before .before .before .before .before .before .or-right .kept .1 .1 .1 .1 .1 .0) (c .before .before .before .before .before .before .or-right2 .kept .1 .1 .1 .1 .1 .0) (c .before .before .before .before .before .before .before .before .before .before .before .before .start .ensures) (sym (c .before .before .before .before .before .before .before .before .before .before .before .before .before .before .tag-at .ensures) ∙ c .before .before .before .before .before .before .before .before .before .before .before .before .before .if2 .taken) (c .before .before .before .before .before .before .before .before .before .before .or-right .ensures) (c .before .before .before .before .before .before .or-right2 .ensures) (c .before .before .put .ensures .0)
 
 or-right-distribute-expression-requires : (t : ℕ) → or-right-lts.Need-distribute-expression-requires (or-right-claims t) (or-right-at t) or-right.Post
 or-right-distribute-expression-requires t c κs = let (h, k) = at-in (c .before .before .before .before .before .before .pre .1 .1) in (omega (arith, c .before .before .before .before .before .before .pre .0), c .before .before .before .before .before .before .pre .1 .0)
@@ -244,7 +244,7 @@ or-right-same-length-2 : (t : ℕ) → or-right-lts.Need-same-length-2 (or-right
 or-right-same-length-2 t c = search needs
 
 or-right-returns-3 : (t : ℕ) → or-right-lts.Need-returns-3 (or-right-claims t) (or-right-at t) or-right.Post
-or-right-returns-3 t c = right-or (c .before .before .before .before .before .before .before .before .before .before .distribute-expression .kept .1 .1 .1 .0) (c .before .before .before .before .before .before .distribute-expression2 .kept .1 .1 .1 .0) (λ z. c .before .before .before .before .before .before .before .before .before .before .before .before .if2 .left (c .before .before .before .before .before .before .before .before .before .before .before .before .before .tag-at .ensures ∙ z)) (c .before .before .before .before .before .before .before .before .before .before .distribute-expression .ensures) (c .before .before .before .before .before .before .distribute-expression2 .ensures) (c .before .before .put2 .ensures)
+or-right-returns-3 t c = right-or (c .before .before .before .before .before .before .before .before .before .before .distribute-expression .kept .1 .1 .1 .0) (c .before .before .before .before .before .before .distribute-expression2 .kept .1 .1 .1 .0) (λ z. c .before .before .before .before .before .before .before .before .before .before .before .before .if2 .left (c .before .before .before .before .before .before .before .before .before .before .before .before .before .tag-at .ensures ∙ z)) (c .before .before .before .before .before .before .before .before .before .before .distribute-expression .ensures) (c .before .before .before .before .before .before .distribute-expression2 .ensures) (c .before .before .put2 .ensures .0)
 
 pub +distribute-expression+distribute-operands+or-both+or-right-spec : {M : Type 1} → statement M
 +distribute-expression+distribute-operands+or-both+or-right-spec =

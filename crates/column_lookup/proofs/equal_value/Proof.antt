@@ -13,7 +13,7 @@ same-length : tie.Need-same-length
 same-length c = search needs
 
 returns : tie.Need-returns
-returns c = value-written (c .before .before .before .before .before .is-defined .ensures) (c .before .before .before .before .if1 .taken) (c .before .before .put .ensures)
+returns c = value-written (c .before .before .before .before .before .is-defined .ensures) (c .before .before .before .before .if1 .taken) (c .before .before .put .ensures .0)
 
 returns-2 : tie.Need-returns-2
 returns-2 c = no-value-written (c .before .before .before .args .k) (c .before .is-defined .ensures) (c .if1 .left)

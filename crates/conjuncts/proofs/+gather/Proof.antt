@@ -1,5 +1,8 @@
 use Rattle.conjuncts.proofs.Walking.{walk-and, walk-one, chosen-here, not-chosen}
+use Rattle.conjuncts.proofs.Appending.{gathered-each}
 use Rattle.conjuncts.specs.Conjuncts.{chosen}
+use Rattle.sql.specs.Expression.{ands}
+use Rattle.sql.specs.Optimizer.{flat-map}
 use Rattle.cells.specs.Cells.{tag-at}
 use Rattle.words.proofs.Expressions.{at-in, at-last, at-left, at-right}
 use Prim.Native.Nat.{ℕ, _-_, _≤_, _<_}
@@ -32,19 +35,19 @@ abbrev gather-claims : ℕ → gather-lts.Claims
 gather-claims t = (tag-at-reads.Asked, tag-at-reads.Learnt, start-reads.Asked, start-reads.Learnt, gather-below t, gather.Post, refers-reads.Asked, refers-reads.Learnt, goes-reads.Asked, goes-reads.Learnt, append-reads.Asked, append-reads.Learnt)
 
 gather-tag-at-requires : (t : ℕ) → gather-lts.Need-tag-at-requires (gather-claims t) (gather-at t) gather.Post
-gather-tag-at-requires t c κs = let (h, k) = at-in (c .before .before .pre .1) in (omega arith, k)
+gather-tag-at-requires t c κs = let (h, k) = at-in (c .before .before .pre .1 .0) in (omega arith, k)
 
 gather-sub-end : (t : ℕ) → gather-lts.Need-sub-end (gather-claims t) (gather-at t) gather.Post
-gather-sub-end t c = let (h, k) = at-in (c .before .before .before .before .pre .1) in omega arith
+gather-sub-end t c = let (h, k) = at-in (c .before .before .before .before .pre .1 .0) in omega arith
 
 gather-start-requires : (t : ℕ) → gather-lts.Need-start-requires (gather-claims t) (gather-at t) gather.Post
-gather-start-requires t c κs = at-last (omega (arith, c .before .tag-at .ensures, c .if1 .taken)) (omega (arith, c .before .tag-at .ensures, c .if1 .taken)) (c .before .before .before .before .pre .1)
+gather-start-requires t c κs = at-last (omega (arith, c .before .tag-at .ensures, c .if1 .taken)) (omega (arith, c .before .tag-at .ensures, c .if1 .taken)) (c .before .before .before .before .pre .1 .0)
 
 gather-gather-requires : (t : ℕ) → gather-lts.Need-gather-requires (gather-claims t) (gather-at t) gather.Post
-gather-gather-requires t c κs = let e = c .before .before .before .tag-at .ensures in let g : 10 ≤ tag-at (c .before .before .before .before .before .before .args .s .now) (c .before .before .before .before .before .before .args .hi) = omega (arith, e, c .before .before .if1 .taken) in let f : tag-at (c .before .before .before .before .before .before .args .s .now) (c .before .before .before .before .before .before .args .hi) < 30 = omega (arith, e, c .before .before .if1 .taken) in let l = at-left g f (c .before .start .ensures) (c .before .before .before .before .before .before .pre .1) in let r = at-right g f (c .before .start .ensures) (c .before .before .before .before .before .before .pre .1) in let (h, k) = at-in r in let (h′, k′) = at-in l in (omega (arith, c .before .before .before .before .before .before .pre .0), search needs)
+gather-gather-requires t c κs = let e = c .before .before .before .tag-at .ensures in let g : 10 ≤ tag-at (c .before .before .before .before .before .before .args .s .now) (c .before .before .before .before .before .before .args .hi) = omega (arith, e, c .before .before .if1 .taken) in let f : tag-at (c .before .before .before .before .before .before .args .s .now) (c .before .before .before .before .before .before .args .hi) < 30 = omega (arith, e, c .before .before .if1 .taken) in let l = at-left g f (c .before .start .ensures) (c .before .before .before .before .before .before .pre .1 .0) in let r = at-right g f (c .before .start .ensures) (c .before .before .before .before .before .before .pre .1 .0) in let (h, k) = at-in r in let (h′, k′) = at-in l in (omega (arith, c .before .before .before .before .before .before .pre .0), (l, c .before .before .before .before .before .before .pre .1 .1))
 
 gather-gather-requires-2 : (t : ℕ) → gather-lts.Need-gather-requires-2 (gather-claims t) (gather-at t) gather.Post
-gather-gather-requires-2 t c κs = let e = c .before .before .before .before .before .before .before .tag-at .ensures in let g : 10 ≤ tag-at (c .before .before .before .before .before .before .before .before .before .before .args .s .now) (c .before .before .before .before .before .before .before .before .before .before .args .hi) = omega (arith, e, c .before .before .before .before .before .before .if1 .taken) in let f : tag-at (c .before .before .before .before .before .before .before .before .before .before .args .s .now) (c .before .before .before .before .before .before .before .before .before .before .args .hi) < 30 = omega (arith, e, c .before .before .before .before .before .before .if1 .taken) in let l = at-left g f (c .before .before .before .before .before .start .ensures) (c .before .before .before .before .before .before .before .before .before .before .pre .1) in let r = at-right g f (c .before .before .before .before .before .start .ensures) (c .before .before .before .before .before .before .before .before .before .before .pre .1) in let (h, k) = at-in r in let (h′, k′) = at-in l in (omega (arith, c .before .before .before .before .before .before .before .before .before .before .pre .0), search needs)
+gather-gather-requires-2 t c κs = let e = c .before .before .before .before .before .before .before .tag-at .ensures in let g : 10 ≤ tag-at (c .before .before .before .before .before .before .before .before .before .before .args .s .now) (c .before .before .before .before .before .before .before .before .before .before .args .hi) = omega (arith, e, c .before .before .before .before .before .before .if1 .taken) in let f : tag-at (c .before .before .before .before .before .before .before .before .before .before .args .s .now) (c .before .before .before .before .before .before .before .before .before .before .args .hi) < 30 = omega (arith, e, c .before .before .before .before .before .before .if1 .taken) in let l = at-left g f (c .before .before .before .before .before .start .ensures) (c .before .before .before .before .before .before .before .before .before .before .pre .1 .0) in let r = at-right g f (c .before .before .before .before .before .start .ensures) (c .before .before .before .before .before .before .before .before .before .before .pre .1 .0) in let (h, k) = at-in r in let (h′, k′) = at-in l in (omega (arith, c .before .before .before .before .before .before .before .before .before .before .pre .0), (r, gathered-each (c .before .before .before .before .before .before .before .before .before .before .pre .1 .1) (c .before .before .before .gather .kept .1 .1 .1 .0) l (λ e. flat-map (chosen (c .before .before .before .before .before .before .before .before .before .before .args .to) (c .before .before .before .before .before .before .before .before .before .before .args .n) (c .before .before .before .before .before .before .before .before .before .before .args .shift)) (ands e)) (c .before .before .before .gather .ensures)))
 
 gather-same-length : (t : ℕ) → gather-lts.Need-same-length (gather-claims t) (gather-at t) gather.Post
 gather-same-length t c = search needs
@@ -53,7 +56,7 @@ gather-returns : (t : ℕ) → gather-lts.Need-returns (gather-claims t) (gather
 gather-returns t c = walk-and (chosen (c .before .before .before .before .before .before .before .before .before .before .before .before .before .args .to) (c .before .before .before .before .before .before .before .before .before .before .before .before .before .args .n) (c .before .before .before .before .before .before .before .before .before .before .before .before .before .args .shift)) (c .before .before .before .before .before .before .gather .kept .1 .1 .1 .0) (c .before .before .before .before .before .before .before .before .start .ensures) (sym (c .before .before .before .before .before .before .before .before .before .before .tag-at .ensures) ∙ c .before .before .before .before .before .before .before .before .before .if1 .taken) (c .before .before .before .before .before .before .gather .ensures) (c .before .before .gather2 .ensures)
 
 gather-refers-requires : (t : ℕ) → gather-lts.Need-refers-requires (gather-claims t) (gather-at t) gather.Post
-gather-refers-requires t c κs = c .before .before .before .before .pre .1
+gather-refers-requires t c κs = c .before .before .before .before .pre .1 .0
 
 gather-goes-requires : (t : ℕ) → gather-lts.Need-goes-requires (gather-claims t) (gather-at t) gather.Post
 gather-goes-requires t c κs = search needs

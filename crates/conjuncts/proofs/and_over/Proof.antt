@@ -16,7 +16,7 @@ same-length : tie.Need-same-length
 same-length c = search needs
 
 returns-3 : tie.Need-returns-3
-returns-3 c = join-next (c .before .before .before .before .before .if1 .left) (c .before .before .before .before .if2 .left) (c .before .before .put .ensures)
+returns-3 c = join-next (c .before .before .before .before .before .if1 .left) (c .before .before .before .before .if2 .left) (c .before .before .put .ensures .0)
 
 pub and-over-spec : {M : Type 1} → statement M
 and-over-spec = tie.close (tie.spec returns returns-2 put-requires same-length returns-3)

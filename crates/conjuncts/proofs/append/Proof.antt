@@ -1,14 +1,14 @@
-use Rattle.conjuncts.proofs.Appending.{appends-mapped}
+use Rattle.conjuncts.proofs.Appending.{joinable-mapped, appends-mapped}
 use Rattle.sql.specs.Expression.{shift-column-down}
 use borrow.Author.Needs.{needs}
 use Rattle.conjuncts.proofs.append.Statement.{statement}
 use Rattle.conjuncts.proofs.append.Tie as tie
 
 move-down-requires : tie.Need-move-down-requires
-move-down-requires c κs = search needs
+move-down-requires c κs = c .before .before .before .pre .0
 
 and-over-requires : tie.Need-and-over-requires
-and-over-requires c κs = search needs
+and-over-requires c κs = joinable-mapped (c .before .before .before .before .before .before .before .pre .1) (c .before .before .before .move-down .kept .1 .1 .1 .0) (c .before .before .before .before .before .before .before .pre .0) (shift-column-down (c .before .before .before .before .before .before .before .args .shift)) (c .before .before .before .move-down .ensures)
 
 same-length : tie.Need-same-length
 same-length c = search needs

@@ -1,5 +1,6 @@
 use Rattle.copied_lookups.specs.Copies.{conjuncts-of, copies}
 use Rattle.conjuncts.proofs.Walking.{walk-and, walk-one}
+use Rattle.copied_lookups.proofs.Copying.{copies-gathered}
 use Rattle.cells.specs.Cells.{tag-at}
 use Rattle.words.proofs.Expressions.{at-in, at-last, at-left, at-right}
 use Prim.Native.Nat.{ℕ, _-_, _≤_, _<_}
@@ -40,10 +41,10 @@ copy-each-start-requires : (t : ℕ) → copy-each-lts.Need-start-requires (copy
 copy-each-start-requires t c κs = at-last (omega (arith, c .before .tag-at .ensures, c .if1 .taken)) (omega (arith, c .before .tag-at .ensures, c .if1 .taken)) (c .before .before .before .before .before .pre .1 .0)
 
 copy-each-copy-each-requires : (t : ℕ) → copy-each-lts.Need-copy-each-requires (copy-each-claims t) (copy-each-at t) copy-each.Post
-copy-each-copy-each-requires t c κs = let e = c .before .before .before .tag-at .ensures in let g : 10 ≤ tag-at (c .before .before .before .before .before .before .before .args .s .now) (c .before .before .before .before .before .before .before .args .hi) = omega (arith, e, c .before .before .if1 .taken) in let f : tag-at (c .before .before .before .before .before .before .before .args .s .now) (c .before .before .before .before .before .before .before .args .hi) < 30 = omega (arith, e, c .before .before .if1 .taken) in let l = at-left g f (c .before .start .ensures) (c .before .before .before .before .before .before .before .pre .1 .0) in let r = at-right g f (c .before .start .ensures) (c .before .before .before .before .before .before .before .pre .1 .0) in let (h, k) = at-in r in let (h′, k′) = at-in l in (omega (arith, c .before .before .before .before .before .before .before .pre .0), (search needs, c .before .before .before .before .before .before .before .pre .1 .1))
+copy-each-copy-each-requires t c κs = let e = c .before .before .before .tag-at .ensures in let g : 10 ≤ tag-at (c .before .before .before .before .before .before .before .args .s .now) (c .before .before .before .before .before .before .before .args .hi) = omega (arith, e, c .before .before .if1 .taken) in let f : tag-at (c .before .before .before .before .before .before .before .args .s .now) (c .before .before .before .before .before .before .before .args .hi) < 30 = omega (arith, e, c .before .before .if1 .taken) in let l = at-left g f (c .before .start .ensures) (c .before .before .before .before .before .before .before .pre .1 .0) in let r = at-right g f (c .before .start .ensures) (c .before .before .before .before .before .before .before .pre .1 .0) in let (h, k) = at-in r in let (h′, k′) = at-in l in (omega (arith, c .before .before .before .before .before .before .before .pre .0), (l, (c .before .before .before .before .before .before .before .pre .1 .1 .0, c .before .before .before .before .before .before .before .pre .1 .1 .1)))
 
 copy-each-copy-each-requires-2 : (t : ℕ) → copy-each-lts.Need-copy-each-requires-2 (copy-each-claims t) (copy-each-at t) copy-each.Post
-copy-each-copy-each-requires-2 t c κs = let e = c .before .before .before .before .before .before .before .tag-at .ensures in let g : 10 ≤ tag-at (c .before .before .before .before .before .before .before .before .before .before .before .args .s .now) (c .before .before .before .before .before .before .before .before .before .before .before .args .hi) = omega (arith, e, c .before .before .before .before .before .before .if1 .taken) in let f : tag-at (c .before .before .before .before .before .before .before .before .before .before .before .args .s .now) (c .before .before .before .before .before .before .before .before .before .before .before .args .hi) < 30 = omega (arith, e, c .before .before .before .before .before .before .if1 .taken) in let l = at-left g f (c .before .before .before .before .before .start .ensures) (c .before .before .before .before .before .before .before .before .before .before .before .pre .1 .0) in let r = at-right g f (c .before .before .before .before .before .start .ensures) (c .before .before .before .before .before .before .before .before .before .before .before .pre .1 .0) in let (h, k) = at-in r in let (h′, k′) = at-in l in (omega (arith, c .before .before .before .before .before .before .before .before .before .before .before .pre .0), (search needs, c .before .before .before .before .before .before .before .before .before .before .before .pre .1 .1))
+copy-each-copy-each-requires-2 t c κs = let e = c .before .before .before .before .before .before .before .tag-at .ensures in let g : 10 ≤ tag-at (c .before .before .before .before .before .before .before .before .before .before .before .args .s .now) (c .before .before .before .before .before .before .before .before .before .before .before .args .hi) = omega (arith, e, c .before .before .before .before .before .before .if1 .taken) in let f : tag-at (c .before .before .before .before .before .before .before .before .before .before .before .args .s .now) (c .before .before .before .before .before .before .before .before .before .before .before .args .hi) < 30 = omega (arith, e, c .before .before .before .before .before .before .if1 .taken) in let l = at-left g f (c .before .before .before .before .before .start .ensures) (c .before .before .before .before .before .before .before .before .before .before .before .pre .1 .0) in let r = at-right g f (c .before .before .before .before .before .start .ensures) (c .before .before .before .before .before .before .before .before .before .before .before .pre .1 .0) in let (h, k) = at-in r in let (h′, k′) = at-in l in (omega (arith, c .before .before .before .before .before .before .before .before .before .before .before .pre .0), (r, (c .before .before .before .before .before .before .before .before .before .before .before .pre .1 .1 .0, copies-gathered (c .before .before .before .before .before .before .before .before .before .before .before .args .into) (c .before .before .before .before .before .before .before .before .before .before .before .args .n) (c .before .before .before .before .before .before .before .before .before .before .before .args .shift) (c .before .before .before .before .before .before .before .before .before .before .before .pre .1 .1 .1) (c .before .before .before .copy-each .kept .1 .1 .1 .1 .1 .1 .0) l (c .before .before .before .before .before .before .before .before .before .before .before .pre .1 .1 .0) (c .before .before .before .copy-each .ensures))))
 
 copy-each-same-length : (t : ℕ) → copy-each-lts.Need-same-length (copy-each-claims t) (copy-each-at t) copy-each.Post
 copy-each-same-length t c = search needs

@@ -4,7 +4,7 @@ use Rattle.copied_lookups.proofs.copy_conjunct.Statement.{statement}
 use Rattle.copied_lookups.proofs.copy_conjunct.Tie as tie
 
 equijoin-requires : tie.Need-equijoin-requires
-equijoin-requires c κs = (c .before .before .before .pre .0)
+equijoin-requires c κs = c .before .before .before .pre .0
 
 enum-known-pair : tie.Need-enum-known-pair
 enum-known-pair c = search needs
@@ -16,7 +16,7 @@ returns : tie.Need-returns
 returns c = no-pair (c .before .before .before .before .before .before .args .into) (c .before .before .before .before .before .before .args .n) (c .before .before .before .before .before .before .args .shift) (c .before .before .equijoin .ensures) (c .enum-told .given .1)
 
 copy-pair-requires : tie.Need-copy-pair-requires
-copy-pair-requires c κs = (c .before .before .before .before .before .before .before .before .pre .1)
+copy-pair-requires c κs = c .before .before .before .before .before .before .before .before .pre .1
 
 same-length : tie.Need-same-length
 same-length c = search needs

@@ -1,3 +1,5 @@
+use Rattle.conjuncts.proofs.Appending.{joinable-mapped}
+use Rattle.sql.specs.Expression.{replace-column}
 use Rattle.copied_lookups.proofs.Copying.{copies-nothing, some-there, place-there, copies-missing, copies-found}
 use borrow.Author.Needs.{needs}
 use Rattle.copied_lookups.proofs.copy_last.Statement.{statement}
@@ -7,7 +9,7 @@ returns : tie.Need-returns
 returns c = copies-nothing (c .before .before .before .args .column) (c .before .before .before .args .to) (c .if1 .taken)
 
 last-lookup-requires : tie.Need-last-lookup-requires
-last-lookup-requires c κs = some-there (c .if1 .left) (c .before .before .before .pre)
+last-lookup-requires c κs = some-there (c .if1 .left) (c .before .before .before .pre .0)
 
 enum-known-last : tie.Need-enum-known-last
 enum-known-last c = search needs
@@ -19,10 +21,10 @@ returns-2 : tie.Need-returns-2
 returns-2 c = copies-missing (c .before .before .before .if1 .left) (c .before .before .before .before .before .before .args .column) (c .before .before .last-lookup .ensures) (c .enum-told .given .1) (c .before .before .before .before .before .before .args .to)
 
 replace-column-requires : tie.Need-replace-column-requires
-replace-column-requires c κs = place-there (c .before .before .before .before .before .if1 .left) (c .before .before .before .before .before .before .before .before .args .column) (c .before .before .before .before .last-lookup .ensures) (c .before .before .last .given .1) (c .before .before .before .before .before .before .before .before .pre)
+replace-column-requires c κs = place-there (c .before .before .before .before .before .if1 .left) (c .before .before .before .before .before .before .before .before .args .column) (c .before .before .before .before .last-lookup .ensures) (c .before .before .last .given .1) (c .before .before .before .before .before .before .before .before .pre .0)
 
 and-over-requires : tie.Need-and-over-requires
-and-over-requires c κs = search needs
+and-over-requires c κs = joinable-mapped (c .before .before .before .before .before .before .before .before .before .before .before .before .pre .1) (c .before .before .before .replace-column .kept .1 .1 .1 .0) (place-there (c .before .before .before .before .before .before .before .before .before .if1 .left) (c .before .before .before .before .before .before .before .before .before .before .before .before .args .column) (c .before .before .before .before .before .before .before .before .last-lookup .ensures) (c .before .before .before .before .before .before .last .given .1) (c .before .before .before .before .before .before .before .before .before .before .before .before .pre .0)) (replace-column (c .before .before .before .before .before .before .before .before .before .before .before .before .args .column) (c .before .before .before .before .before .before .before .before .before .before .before .before .args .to)) (c .before .before .before .replace-column .ensures)
 
 same-length : tie.Need-same-length
 same-length c = search needs

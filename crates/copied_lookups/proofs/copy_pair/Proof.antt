@@ -20,7 +20,7 @@ enum-told : tie.Need-enum-told
 enum-told c = search needs
 
 copy-last-requires : tie.Need-copy-last-requires
-copy-last-requires c κs = (c .before .before .before .before .before .before .before .before .before .pre)
+copy-last-requires c κs = c .before .before .before .before .before .before .before .before .before .pre
 
 enum-told-2 : tie.Need-enum-told-2
 enum-told-2 c = search needs
@@ -29,7 +29,7 @@ right-requires : tie.Need-right-requires
 right-requires c κs = search needs
 
 copy-last-requires-2 : tie.Need-copy-last-requires-2
-copy-last-requires-2 c κs = (c .before .before .before .before .before .before .before .before .before .before .pre)
+copy-last-requires-2 c κs = c .before .before .before .before .before .before .before .before .before .before .pre
 
 same-length : tie.Need-same-length
 same-length c = search needs

@@ -1,13 +1,16 @@
-use Rattle.copied_lookups.proofs.Copying.{pushes-left}
+use Rattle.copied_lookups.proofs.Copying.{left-expression, left-others, pushes-left}
+use Rattle.conjuncts.proofs.Appending.{gathered-none, gathered-each}
+use Rattle.sql.specs.Expression.{ands}
+use Rattle.sql.specs.Optimizer.{for-left}
 use borrow.Author.Needs.{needs}
 use Rattle.copied_lookups.proofs.push_left.Statement.{statement}
 use Rattle.copied_lookups.proofs.push_left.Tie as tie
 
 for-left-requires : tie.Need-for-left-requires
-for-left-requires c κs = (c .before .before .before .before .pre .0)
+for-left-requires c κs = (left-expression (c .before .before .before .before .pre), gathered-none (c .before .before .before .before .args .d .now) (c .before .before .before .before .args .at))
 
 copy-each-requires : tie.Need-copy-each-requires
-copy-each-requires c κs = (c .before .before .before .before .before .before .before .before .pre)
+copy-each-requires c κs = (left-expression (c .before .before .before .before .before .before .before .before .pre), (left-others (c .before .before .before .before .before .before .before .before .pre), gathered-each (gathered-none (c .before .before .before .before .before .before .before .before .args .d .now) (c .before .before .before .before .before .before .before .before .args .at)) (c .before .before .before .for-left .kept .1 .1 .1 .0) (left-expression (c .before .before .before .before .before .before .before .before .pre)) (λ e. for-left (c .before .before .before .before .before .before .before .before .args .n) (ands e)) (c .before .before .before .for-left .ensures)))
 
 same-length : tie.Need-same-length
 same-length c = search needs

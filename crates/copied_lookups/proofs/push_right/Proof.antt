@@ -1,13 +1,17 @@
-use Rattle.copied_lookups.proofs.Copying.{pushes-right}
+use Rattle.copied_lookups.proofs.Copying.{right-expression, right-others, pushes-right}
+use Rattle.conjuncts.proofs.Appending.{gathered-none, gathered-each}
+use Rattle.sql.specs.Expression.{ands, shift-column-down}
+use Rattle.sql.specs.Optimizer.{for-right}
+use mathlib.Core.List.{map}
 use borrow.Author.Needs.{needs}
 use Rattle.copied_lookups.proofs.push_right.Statement.{statement}
 use Rattle.copied_lookups.proofs.push_right.Tie as tie
 
 for-right-requires : tie.Need-for-right-requires
-for-right-requires c κs = (c .before .before .before .before .pre .0)
+for-right-requires c κs = (right-expression (c .before .before .before .before .pre), gathered-none (c .before .before .before .before .args .d .now) (c .before .before .before .before .args .at))
 
 copy-each-requires : tie.Need-copy-each-requires
-copy-each-requires c κs = (c .before .before .before .before .before .before .before .before .pre)
+copy-each-requires c κs = (right-expression (c .before .before .before .before .before .before .before .before .pre), (right-others (c .before .before .before .before .before .before .before .before .pre), gathered-each (gathered-none (c .before .before .before .before .before .before .before .before .args .d .now) (c .before .before .before .before .before .before .before .before .args .at)) (c .before .before .before .for-right .kept .1 .1 .1 .0) (right-expression (c .before .before .before .before .before .before .before .before .pre)) (λ e. map (shift-column-down (c .before .before .before .before .before .before .before .before .args .shift)) (for-right (c .before .before .before .before .before .before .before .before .args .n) (ands e))) (c .before .before .before .for-right .ensures)))
 
 same-length : tie.Need-same-length
 same-length c = search needs

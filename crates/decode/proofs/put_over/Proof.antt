@@ -27,7 +27,7 @@ same-length c = search needs
 
 returns : tie.Need-returns
 returns c =
-    put-said (c .before .before .before .before .before .before .before .before .before .before .before .args .k) (c .before .before .before .before .before .before .before .before .start-of .ensures) (c .before .before .put .ensures)
+    put-said (c .before .before .before .before .before .before .before .before .before .before .before .args .k) (c .before .before .before .before .before .before .before .before .start-of .ensures) (c .before .before .put .ensures .0)
 
 pub put-over-spec : {M : Type 1} → statement M
 put-over-spec = tie.close (tie.spec

@@ -1,6 +1,6 @@
 -- `evaluate::value_of` meets its contract.
 use Rattle.value.proofs.Laws.{read-back}
-use Rattle.evaluate.proofs.Laws.{said-at, said-else}
+use Rattle.evaluate.proofs.Laws.{said-at, said-else, halves}
 use Rattle.value.specs.Meaning.{integer-of-bits}
 use Rattle.value.specs.Value.{datum, integer, float}
 use lib.Ieee.{binary64}
@@ -12,13 +12,13 @@ use Rattle.evaluate.proofs.value_of.Statement.{statement}
 use Rattle.evaluate.proofs.value_of.Tie as tie
 
 joined-requires : tie.Need-joined-requires
-joined-requires c κs = search needs
+joined-requires c κs = halves (c .before .pre)
 
 integer-of-bits-requires : tie.Need-integer-of-bits-requires
 integer-of-bits-requires c κs = search needs
 
 joined-requires-2 : tie.Need-joined-requires-2
-joined-requires-2 c κs = search needs
+joined-requires-2 c κs = halves (c .before .pre)
 
 float-of-bits-requires : tie.Need-float-of-bits-requires
 float-of-bits-requires c κs = search needs

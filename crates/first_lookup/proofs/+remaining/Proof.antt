@@ -1,4 +1,4 @@
-use Rattle.first_lookup.proofs.Leaving.{leaves-and, leaves-one}
+use Rattle.first_lookup.proofs.Leaving.{left-gathered, leaves-and, leaves-one}
 use Rattle.first_lookup.specs.First.{marks-in}
 use Rattle.cells.specs.Cells.{tag-at}
 use Rattle.words.proofs.Expressions.{at-in, at-last, at-left, at-right}
@@ -31,19 +31,19 @@ abbrev remaining-claims : ℕ → remaining-lts.Claims
 remaining-claims t = (tag-at-reads.Asked, tag-at-reads.Learnt, start-reads.Asked, start-reads.Learnt, remaining-below t, remaining.Post, remaining-one-reads.Asked, remaining-one-reads.Learnt)
 
 remaining-tag-at-requires : (t : ℕ) → remaining-lts.Need-tag-at-requires (remaining-claims t) (remaining-at t) remaining.Post
-remaining-tag-at-requires t c κs = let (h, k) = at-in (c .before .before .before .pre .1) in (omega arith, k)
+remaining-tag-at-requires t c κs = let (h, k) = at-in (c .before .before .before .pre .1 .0) in (omega arith, k)
 
 remaining-sub-end : (t : ℕ) → remaining-lts.Need-sub-end (remaining-claims t) (remaining-at t) remaining.Post
-remaining-sub-end t c = let (h, k) = at-in (c .before .before .before .before .before .pre .1) in omega arith
+remaining-sub-end t c = let (h, k) = at-in (c .before .before .before .before .before .pre .1 .0) in omega arith
 
 remaining-start-requires : (t : ℕ) → remaining-lts.Need-start-requires (remaining-claims t) (remaining-at t) remaining.Post
-remaining-start-requires t c κs = at-last (omega (arith, c .before .tag-at .ensures, c .if1 .taken)) (omega (arith, c .before .tag-at .ensures, c .if1 .taken)) (c .before .before .before .before .before .pre .1)
+remaining-start-requires t c κs = at-last (omega (arith, c .before .tag-at .ensures, c .if1 .taken)) (omega (arith, c .before .tag-at .ensures, c .if1 .taken)) (c .before .before .before .before .before .pre .1 .0)
 
 remaining-remaining-requires : (t : ℕ) → remaining-lts.Need-remaining-requires (remaining-claims t) (remaining-at t) remaining.Post
-remaining-remaining-requires t c κs = let e = c .before .before .before .tag-at .ensures in let g : 10 ≤ tag-at (c .before .before .before .before .before .before .before .args .s .now) (c .before .before .before .before .before .before .before .args .hi) = omega (arith, e, c .before .before .if1 .taken) in let f : tag-at (c .before .before .before .before .before .before .before .args .s .now) (c .before .before .before .before .before .before .before .args .hi) < 30 = omega (arith, e, c .before .before .if1 .taken) in let l = at-left g f (c .before .start .ensures) (c .before .before .before .before .before .before .before .pre .1) in let r = at-right g f (c .before .start .ensures) (c .before .before .before .before .before .before .before .pre .1) in let (h, k) = at-in r in let (h′, k′) = at-in l in (omega (arith, c .before .before .before .before .before .before .before .pre .0), search needs)
+remaining-remaining-requires t c κs = let e = c .before .before .before .tag-at .ensures in let g : 10 ≤ tag-at (c .before .before .before .before .before .before .before .args .s .now) (c .before .before .before .before .before .before .before .args .hi) = omega (arith, e, c .before .before .if1 .taken) in let f : tag-at (c .before .before .before .before .before .before .before .args .s .now) (c .before .before .before .before .before .before .before .args .hi) < 30 = omega (arith, e, c .before .before .if1 .taken) in let l = at-left g f (c .before .start .ensures) (c .before .before .before .before .before .before .before .pre .1 .0) in let r = at-right g f (c .before .start .ensures) (c .before .before .before .before .before .before .before .pre .1 .0) in let (h, k) = at-in r in let (h′, k′) = at-in l in (omega (arith, c .before .before .before .before .before .before .before .pre .0), (l, c .before .before .before .before .before .before .before .pre .1 .1))
 
 remaining-remaining-requires-2 : (t : ℕ) → remaining-lts.Need-remaining-requires-2 (remaining-claims t) (remaining-at t) remaining.Post
-remaining-remaining-requires-2 t c κs = let e = c .before .before .before .before .before .before .before .tag-at .ensures in let g : 10 ≤ tag-at (c .before .before .before .before .before .before .before .before .before .before .before .args .s .now) (c .before .before .before .before .before .before .before .before .before .before .before .args .hi) = omega (arith, e, c .before .before .before .before .before .before .if1 .taken) in let f : tag-at (c .before .before .before .before .before .before .before .before .before .before .before .args .s .now) (c .before .before .before .before .before .before .before .before .before .before .before .args .hi) < 30 = omega (arith, e, c .before .before .before .before .before .before .if1 .taken) in let l = at-left g f (c .before .before .before .before .before .start .ensures) (c .before .before .before .before .before .before .before .before .before .before .before .pre .1) in let r = at-right g f (c .before .before .before .before .before .start .ensures) (c .before .before .before .before .before .before .before .before .before .before .before .pre .1) in let (h, k) = at-in r in let (h′, k′) = at-in l in (omega (arith, c .before .before .before .before .before .before .before .before .before .before .before .pre .0), search needs)
+remaining-remaining-requires-2 t c κs = let e = c .before .before .before .before .before .before .before .tag-at .ensures in let g : 10 ≤ tag-at (c .before .before .before .before .before .before .before .before .before .before .before .args .s .now) (c .before .before .before .before .before .before .before .before .before .before .before .args .hi) = omega (arith, e, c .before .before .before .before .before .before .if1 .taken) in let f : tag-at (c .before .before .before .before .before .before .before .before .before .before .before .args .s .now) (c .before .before .before .before .before .before .before .before .before .before .before .args .hi) < 30 = omega (arith, e, c .before .before .before .before .before .before .if1 .taken) in let l = at-left g f (c .before .before .before .before .before .start .ensures) (c .before .before .before .before .before .before .before .before .before .before .before .pre .1 .0) in let r = at-right g f (c .before .before .before .before .before .start .ensures) (c .before .before .before .before .before .before .before .before .before .before .before .pre .1 .0) in let (h, k) = at-in r in let (h′, k′) = at-in l in (omega (arith, c .before .before .before .before .before .before .before .before .before .before .before .pre .0), (r, left-gathered (marks-in (c .before .before .before .before .before .before .before .before .before .before .before .args .key) (c .before .before .before .before .before .before .before .before .before .before .before .args .columns .now)) (c .before .before .before .before .before .before .before .before .before .before .before .args .met) (c .before .before .before .before .before .before .before .before .before .before .before .pre .1 .1) (c .before .before .before .remaining .kept .1 .1 .1 .0) l (c .before .before .before .remaining .ensures)))
 
 remaining-same-length : (t : ℕ) → remaining-lts.Need-same-length (remaining-claims t) (remaining-at t) remaining.Post
 remaining-same-length t c = search needs

@@ -5,7 +5,7 @@ use Rattle.first_lookup.proofs.remaining_one.Statement.{statement}
 use Rattle.first_lookup.proofs.remaining_one.Tie as tie
 
 append-requires : tie.Need-append-requires
-append-requires c κs = (c .before .before .before .before .before .pre)
+append-requires c κs = c .before .before .before .before .before .pre
 
 same-length : tie.Need-same-length
 same-length c = search needs
@@ -14,7 +14,7 @@ returns : tie.Need-returns
 returns c = met-before (marks-in (c .before .before .before .before .before .before .before .before .args .key) (c .before .before .before .before .before .before .before .before .args .columns .now)) (c .before .before .before .before .before .before .before .before .args .met) (c .before .before .before .before .if1 .taken) (c .before .before .append .ensures)
 
 find-one-requires : tie.Need-find-one-requires
-find-one-requires c κs = (c .before .before .before .before .pre)
+find-one-requires c κs = c .before .before .before .before .pre .0
 
 enum-told : tie.Need-enum-told
 enum-told c = search needs
@@ -26,7 +26,7 @@ returns-2 : tie.Need-returns-2
 returns-2 c = met-here (marks-in (c .before .before .before .before .before .before .before .args .key) (c .before .before .before .before .before .before .before .args .columns .now)) (c .before .before .before .before .before .before .before .args .met) (c .before .before .before .if1 .left) (c .before .before .find-one .ensures) (c .enum-told2 .given .1)
 
 append-requires-2 : tie.Need-append-requires-2
-append-requires-2 c κs = (c .before .before .before .before .before .before .before .before .pre)
+append-requires-2 c κs = c .before .before .before .before .before .before .before .before .pre
 
 same-length-2 : tie.Need-same-length-2
 same-length-2 c = search needs

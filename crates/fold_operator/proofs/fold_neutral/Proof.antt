@@ -1,12 +1,12 @@
 -- `fold_operator::fold_neutral` meets its contract.
-use Rattle.fold_operator.proofs.Steps.{neutral-value, neutral-mismatch, neutral-column}
+use Rattle.fold_operator.proofs.Steps.{cell-in, neutral-value, neutral-mismatch, neutral-column}
 use native.Mathlib.Omega.{arith}
 use borrow.Author.Needs.{needs}
 use Rattle.fold_operator.proofs.fold_neutral.Statement.{statement}
 use Rattle.fold_operator.proofs.fold_neutral.Tie as tie
 
 tag-at-requires : tie.Need-tag-at-requires
-tag-at-requires c κs = (c .before .pre .first, c .before .pre .last)
+tag-at-requires c κs = cell-in (c .before .pre .operand .y) (c .before .pre .operand .here)
 
 returns : tie.Need-returns
 returns c = neutral-value (c .before .before .before .args .place) (omega (arith, c .before .tag-at .ensures, c .if1 .taken))

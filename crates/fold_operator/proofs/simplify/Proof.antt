@@ -1,11 +1,11 @@
 -- `fold_operator::simplify` meets its contract.
-use Rattle.fold_operator.proofs.Steps.{left-stays, right-moved, right-dropped, both-kept}
+use Rattle.fold_operator.proofs.Steps.{cell-in, right-operand, left-stays, right-moved, right-dropped, both-kept}
 use borrow.Author.Needs.{needs}
 use Rattle.fold_operator.proofs.simplify.Statement.{statement}
 use Rattle.fold_operator.proofs.simplify.Tie as tie
 
 cell-at-requires : tie.Need-cell-at-requires
-cell-at-requires c κs = (c .before .before .pre .0 .first, c .before .before .pre .0 .last)
+cell-at-requires c κs = cell-in (c .before .before .pre .x) (c .before .before .pre .left)
 
 is-deciding-requires : tie.Need-is-deciding-requires
 is-deciding-requires c κs = search needs
@@ -17,7 +17,7 @@ returns : tie.Need-returns
 returns c = left-stays (c .before .before .before .before .before .args .o) (c .before .before .cell-at .ensures) (c .before .is-deciding .ensures) (c .if1 .taken)
 
 cell-at-requires-2 : tie.Need-cell-at-requires-2
-cell-at-requires-2 c κs = (c .before .before .before .before .before .before .pre .1 .first, c .before .before .before .before .before .before .pre .1 .last)
+cell-at-requires-2 c κs = cell-in (c .before .before .before .before .before .before .pre .y) (c .before .before .before .before .before .before .pre .right)
 
 is-deciding-requires-2 : tie.Need-is-deciding-requires-2
 is-deciding-requires-2 c κs = search needs
@@ -29,10 +29,10 @@ same-length-2 : tie.Need-same-length-2
 same-length-2 c = search needs
 
 returns-2 : tie.Need-returns-2
-returns-2 c = right-moved (c .before .before .before .before .before .before .before .before .before .before .before .before .before .args .o) (c .before .before .before .before .before .before .before .before .before .before .cell-at .ensures) (c .before .before .before .before .before .before .cell-at2 .ensures) (c .before .before .before .before .before .before .before .before .before .is-deciding .ensures) (c .before .before .before .before .before .before .before .before .if1 .left) (c .before .before .before .before .before .is-deciding2 .ensures) (c .before .before .before .before .if2 .taken) (c .before .before .put .ensures)
+returns-2 c = right-moved (c .before .before .before .before .before .before .before .before .before .before .before .before .before .args .o) (c .before .before .before .before .before .before .before .before .before .before .cell-at .ensures) (c .before .before .before .before .before .before .cell-at2 .ensures) (c .before .before .before .before .before .before .before .before .before .is-deciding .ensures) (c .before .before .before .before .before .before .before .before .if1 .left) (c .before .before .before .before .before .is-deciding2 .ensures) (c .before .before .before .before .if2 .taken) (c .before .before .put .ensures .0)
 
 is-neutral-requires : tie.Need-is-neutral-requires
-is-neutral-requires c κs = search needs
+is-neutral-requires c κs = right-operand (c .before .before .before .before .before .before .before .before .before .pre) (c .before .before .cell-at2 .ensures)
 
 same-length-3 : tie.Need-same-length-3
 same-length-3 c = search needs
@@ -50,7 +50,7 @@ same-length-4 : tie.Need-same-length-4
 same-length-4 c = search needs
 
 returns-4 : tie.Need-returns-4
-returns-4 c = both-kept (c .before .before .before .before .before .before .before .before .before .before .before .before .before .before .before .before .args .o) (c .before .before .before .before .before .before .before .before .before .before .before .before .before .cell-at .ensures) (c .before .before .before .before .before .before .before .before .before .cell-at2 .ensures) (c .before .before .before .before .before .before .before .before .before .before .before .before .is-deciding .ensures) (c .before .before .before .before .before .before .before .before .before .before .before .if1 .left) (c .before .before .before .before .before .before .before .before .is-deciding2 .ensures) (c .before .before .before .before .before .before .before .if2 .left) (c .before .before .before .before .before .before .is-neutral .ensures) (c .before .before .before .before .before .if3 .left) (c .before .before .before .operator .ensures) (c .before .before .put2 .ensures)
+returns-4 c = both-kept (c .before .before .before .before .before .before .before .before .before .before .before .before .before .before .before .before .args .o) (c .before .before .before .before .before .before .before .before .before .before .before .before .before .cell-at .ensures) (c .before .before .before .before .before .before .before .before .before .cell-at2 .ensures) (c .before .before .before .before .before .before .before .before .before .before .before .before .is-deciding .ensures) (c .before .before .before .before .before .before .before .before .before .before .before .if1 .left) (c .before .before .before .before .before .before .before .before .is-deciding2 .ensures) (c .before .before .before .before .before .before .before .if2 .left) (c .before .before .before .before .before .before .is-neutral .ensures) (c .before .before .before .before .before .if3 .left) (c .before .before .before .operator .ensures) (c .before .before .put2 .ensures .0)
 
 pub simplify-spec : {M : Type 1} → statement M
 simplify-spec =

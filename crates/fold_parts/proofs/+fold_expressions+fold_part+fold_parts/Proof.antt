@@ -138,7 +138,7 @@ fold-part-same-length-2 : (t : ℕ) → fold-part-lts.Need-same-length-2 (fold-p
 fold-part-same-length-2 t c = search needs
 
 fold-part-returns-2 : (t : ℕ) → fold-part-lts.Need-returns-2 (fold-part-claims t) (fold-part-at t) fold-part.Post
-fold-part-returns-2 t c = under-done (omega (arith, c .before .before .before .before .before .before .before .before .before .before .before .before .before .tag-at .ensures, c .before .before .before .before .before .before .before .before .before .before .before .before .if1 .left)) (c .before .before .before .before .before .before .before .before .before .before .fold-expressions .ensures) (c .before .before .before .before .before .before .before .before .before .before .before .before .before .before .before .before .before .pre .1 .0) (c .before .before .before .before .before .before .n .given .1) (c .before .before .before .before .before .before .before .before .before .before .before .before .before .before .before .before .before .pre .1 .1) (c .before .before .before .before .before .before .before .before .before .before .fold-expressions .kept .1 .1 .1 .1 .0) (c .before .before .before .cell-at .ensures) (c .before .before .put .ensures)
+fold-part-returns-2 t c = under-done (omega (arith, c .before .before .before .before .before .before .before .before .before .before .before .before .before .tag-at .ensures, c .before .before .before .before .before .before .before .before .before .before .before .before .if1 .left)) (c .before .before .before .before .before .before .before .before .before .before .fold-expressions .ensures) (c .before .before .before .before .before .before .before .before .before .before .before .before .before .before .before .before .before .pre .1 .0) (c .before .before .before .before .before .before .n .given .1) (c .before .before .before .before .before .before .before .before .before .before .before .before .before .before .before .before .before .pre .1 .1) (c .before .before .before .before .before .before .before .before .before .before .fold-expressions .kept .1 .1 .1 .1 .0) (c .before .before .before .cell-at .ensures) (c .before .before .put .ensures .0)
 
 fold-part-same-length-3 : (t : ℕ) → fold-part-lts.Need-same-length-3 (fold-part-claims t) (fold-part-at t) fold-part.Post
 fold-part-same-length-3 t c = search needs

@@ -1,5 +1,5 @@
 -- `folding::fold_expression`, `folding::fold_operand` and `folding::fold_right` meet their contracts. What falls is twice the number of words of the expression, and one more before its left operand is folded, and two more before it is known to be no leaf.
-use Rattle.folding.proofs.Recursion.{at-expression, foldable-in, operand-at, left-at, right-at, operand-count, operands-count, as-answer, result-at, folds-leaf, unary-refused, unary-done, left-refused, right-ready, left-done, right-refused, right-alone, right-done, the-left, the-right, left-in, right-result, both-readable}
+use Rattle.folding.proofs.Recursion.{at-expression, foldable-in, operand-at, left-at, right-at, operand-count, operands-count, as-answer, folds-leaf, unary-refused, unary-ready, unary-done, left-refused, right-ready, left-done, right-refused, right-alone, right-done, the-left, the-right, left-in, left-operand, neutral-ready, binary-ready}
 use Rattle.words.proofs.Expressions.{at-last}
 use Rattle.cells.specs.Cells.{tag-at}
 use Rattle.cells.specs.declared.Cell.{Cell}
@@ -94,7 +94,7 @@ fold-expression-same-length : (t : ℕ) → fold-expression-lts.Need-same-length
 fold-expression-same-length t c = search needs
 
 fold-expression-returns : (t : ℕ) → fold-expression-lts.Need-returns (fold-expression-claims t) (fold-expression-at t) fold-expression.Post
-fold-expression-returns t c = let e = ap (λ (x : Cell). x .tag) (c .before .before .before .before .before .before .cell-at .ensures) in folds-leaf (c .before .before .before .before .before .before .before .before .before .before .args .first) (c .before .before .before .before .before .before .cell-at .ensures) (omega (arith, e, c .before .before .before .before .if1 .taken)) (c .before .before .before .before .before .before .before .before .before .before .pre .1 .1 .0) (c .before .before .before .before .before .before .before .before .before .before .pre .1 .1 .1 .1) (c .before .before .put .ensures)
+fold-expression-returns t c = let e = ap (λ (x : Cell). x .tag) (c .before .before .before .before .before .before .cell-at .ensures) in folds-leaf (c .before .before .before .before .before .before .before .before .before .before .args .first) (c .before .before .before .before .before .before .cell-at .ensures) (omega (arith, e, c .before .before .before .before .if1 .taken)) (c .before .before .before .before .before .before .before .before .before .before .pre .1 .1 .0) (c .before .before .before .before .before .before .before .before .before .before .pre .1 .1 .1 .1) (c .before .before .put .ensures .0)
 
 fold-expression-sub-end : (t : ℕ) → fold-expression-lts.Need-sub-end (fold-expression-claims t) (fold-expression-at t) fold-expression.Post
 fold-expression-sub-end t c = let (h, k) = foldable-in (c .before .before .before .before .before .before .pre .1 .0) in omega arith
@@ -112,7 +112,7 @@ fold-expression-add-fold-unary : (t : ℕ) → fold-expression-lts.Need-add-fold
 fold-expression-add-fold-unary t c = let e = ap (λ (x : Cell). x .tag) (c .before .before .before .before .before .before .before .before .before .before .before .before .before .cell-at .ensures) in let (h, k) = foldable-in (c .before .before .before .before .before .before .before .before .before .before .before .before .before .before .before .before .before .pre .1 .0) in record { fits = omega (arith, c .before .before .before .before .before .before .before .before .before .before .before .before .before .before .before .before .before .fits .hi .fits, c .before .before .before .before .before .before .before .before .before .before .before .before .before .before .before .before .before .pre .1 .1 .1 .0, operand-count (operand-at (omega (arith, e, c .before .before .before .before .before .before .before .before .before .if2 .taken)) (c .before .before .before .before .before .before .before .before .before .before .before .before .before .before .before .before .before .pre .1 .0)) (c .count .ensures)) }
 
 fold-expression-fold-unary-requires : (t : ℕ) → fold-expression-lts.Need-fold-unary-requires (fold-expression-claims t) (fold-expression-at t) fold-expression.Post
-fold-expression-fold-unary-requires t c κs = let e = ap (λ (x : Cell). x .tag) (c .before .before .before .before .before .before .before .before .before .before .before .before .before .cell-at .ensures) in let (h, k) = foldable-in (c .before .before .before .before .before .before .before .before .before .before .before .before .before .before .before .before .before .pre .1 .0) in result-at (c .before .before .before .before .before .before .before .before .before .before .before .before .before .before .before .before .before .args .first) (operand-at (omega (arith, e, c .before .before .before .before .before .before .before .before .before .if2 .taken)) (c .before .before .before .before .before .before .before .before .before .before .before .before .before .before .before .before .before .pre .1 .0)) (as-answer (c .before .before .before .before .before .before .before .before .before .before .before .before .before .before .before .before .before .args .first) (c .before .before .before .n .given .1) (c .before .before .before .before .before .before .before .fold-operand .ensures)) (omega (arith, c .before .before .before .before .before .before .before .before .before .before .before .before .before .before .before .before .before .pre .1 .1 .0)) (c .before .before .before .before .before .before .before .fold-operand .kept .1 .1 .1 .1 .0) .read
+fold-expression-fold-unary-requires t c κs = let e = ap (λ (x : Cell). x .tag) (c .before .before .before .before .before .before .before .before .before .before .before .before .before .cell-at .ensures) in unary-ready (c .before .before .before .before .before .before .before .before .before .before .before .before .before .before .before .before .before .args .first) (omega (arith, e, c .before .before .before .before .before .before .before .before .before .if2 .taken)) e (c .before .before .before .before .before .before .before .before .before .before .before .before .before .before .before .before .before .pre .1 .0) (c .before .before .before .before .before .before .before .before .before .before .before .before .before .before .before .before .before .pre .1 .1 .0) (c .before .before .before .before .before .before .before .before .before .before .before .before .before .before .before .before .before .pre .1 .1 .1 .1) (c .before .before .before .before .before .before .before .fold-operand .kept .1 .1 .1 .1 .0) (as-answer (c .before .before .before .before .before .before .before .before .before .before .before .before .before .before .before .before .before .args .first) (c .before .before .before .n .given .1) (c .before .before .before .before .before .before .before .fold-operand .ensures))
 
 fold-expression-enum-known-number : (t : ℕ) → fold-expression-lts.Need-enum-known-number (fold-expression-claims t) (fold-expression-at t) fold-expression.Post
 fold-expression-enum-known-number t c = search needs
@@ -166,7 +166,7 @@ fold-operand-same-length : (t : ℕ) → fold-operand-lts.Need-same-length (fold
 fold-operand-same-length t c = search needs
 
 fold-operand-returns : (t : ℕ) → fold-operand-lts.Need-returns (fold-operand-claims t) (fold-operand-at t) fold-operand.Post
-fold-operand-returns t c = let e = ap (λ (x : Cell). x .tag) (c .before .before .before .before .before .before .cell-at .ensures) in folds-leaf (c .before .before .before .before .before .before .before .before .before .before .args .first) (c .before .before .before .before .before .before .cell-at .ensures) (omega (arith, e, c .before .before .before .before .if1 .taken)) (c .before .before .before .before .before .before .before .before .before .before .pre .1 .1 .0) (c .before .before .before .before .before .before .before .before .before .before .pre .1 .1 .1 .1) (c .before .before .put .ensures)
+fold-operand-returns t c = let e = ap (λ (x : Cell). x .tag) (c .before .before .before .before .before .before .cell-at .ensures) in folds-leaf (c .before .before .before .before .before .before .before .before .before .before .args .first) (c .before .before .before .before .before .before .cell-at .ensures) (omega (arith, e, c .before .before .before .before .if1 .taken)) (c .before .before .before .before .before .before .before .before .before .before .pre .1 .1 .0) (c .before .before .before .before .before .before .before .before .before .before .pre .1 .1 .1 .1) (c .before .before .put .ensures .0)
 
 fold-operand-fold-expression-requires : (t : ℕ) → fold-operand-lts.Need-fold-expression-requires (fold-operand-claims t) (fold-operand-at t) fold-operand.Post
 fold-operand-fold-expression-requires t c κs = (omega (arith, c .before .before .before .before .before .before .before .pre .0), c .before .before .before .before .before .before .before .pre .1)
@@ -199,7 +199,7 @@ fold-right-cell-at-requires : (t : ℕ) → fold-right-lts.Need-cell-at-requires
 fold-right-cell-at-requires t c κs = let (h, k) = left-in (c .before .before .before .before .before .before .before .pre .1) in (omega arith, k)
 
 fold-right-is-neutral-requires : (t : ℕ) → fold-right-lts.Need-is-neutral-requires (fold-right-claims t) (fold-right-at t) fold-right.Post
-fold-right-is-neutral-requires t c κs = search needs
+fold-right-is-neutral-requires t c κs = left-operand (c .before .before .before .before .before .before .before .before .pre .1) (c .before .before .before .before .tag-at .ensures) (c .cell-at .ensures)
 
 fold-right-fold-operand-requires : (t : ℕ) → fold-right-lts.Need-fold-operand-requires (fold-right-claims t) (fold-right-at t) fold-right.Post
 fold-right-fold-operand-requires t c κs = let (h, k) = foldable-in (the-right (c .before .before .before .before .before .before .before .before .before .before .before .pre .1)) in let (h′, k′) = foldable-in (the-left (c .before .before .before .before .before .before .before .before .before .before .before .pre .1)) in let (i, j) = left-in (c .before .before .before .before .before .before .before .before .before .before .before .pre .1) in (omega (arith, c .before .before .before .before .before .before .before .before .before .before .before .pre .0), (the-right (c .before .before .before .before .before .before .before .before .before .before .before .pre .1), (omega (arith, c .before .before .before .before .before .before .before .before .before .before .before .pre .1 .room), (omega (arith, c .before .before .before .before .before .before .before .before .before .before .before .pre .1 .numbered, operand-count (the-left (c .before .before .before .before .before .before .before .before .before .before .before .pre .1)) (c .before .before .before .before .before .before .count .ensures)), omega (arith, c .before .before .before .before .before .before .before .before .before .before .before .pre .1 .few)))))
@@ -208,7 +208,7 @@ fold-right-enum-known-n : (t : ℕ) → fold-right-lts.Need-enum-known-n (fold-r
 fold-right-enum-known-n t c = search needs
 
 fold-right-fold-neutral-requires : (t : ℕ) → fold-right-lts.Need-fold-neutral-requires (fold-right-claims t) (fold-right-at t) fold-right.Post
-fold-right-fold-neutral-requires t c κs = let (i, j) = left-in (c .before .before .before .before .before .before .before .before .before .before .before .before .before .before .before .before .before .before .pre .1) in right-result (c .before .before .before .before .before .before .before .before .before .before .before .before .before .before .before .before .before .before .pre .1) (c .before .before .before .before .before .before .before .before .before .before .before .before .before .before .before .before .before .before .args .first + c .before .before .before .before .before .before .before .before .before .before .before .before .before .count .result) (omega arith) (c .before .before .before .before .before .before .fold-operand .kept .1 .1 .1 .1 .0) (as-answer (c .before .before .before .before .before .before .before .before .before .before .before .before .before .before .before .before .before .before .args .first + c .before .before .before .before .before .before .before .before .before .before .before .before .before .count .result) (c .before .before .n .given .1) (c .before .before .before .before .before .before .fold-operand .ensures)) .read
+fold-right-fold-neutral-requires t c κs = let (i, j) = left-in (c .before .before .before .before .before .before .before .before .before .before .before .before .before .before .before .before .before .before .pre .1) in neutral-ready (c .before .before .before .before .before .before .before .before .before .before .before .before .before .before .before .before .before .before .pre .1) (c .before .before .before .before .before .before .before .before .before .before .before .before .before .before .before .before .before .before .args .first + c .before .before .before .before .before .before .before .before .before .before .before .before .before .count .result) (omega arith) (c .before .before .before .before .before .before .fold-operand .kept .1 .1 .1 .1 .0) (as-answer (c .before .before .before .before .before .before .before .before .before .before .before .before .before .before .before .before .before .before .args .first + c .before .before .before .before .before .before .before .before .before .before .before .before .before .count .result) (c .before .before .n .given .1) (c .before .before .before .before .before .before .fold-operand .ensures))
 
 fold-right-enum-known-number : (t : ℕ) → fold-right-lts.Need-enum-known-number (fold-right-claims t) (fold-right-at t) fold-right.Post
 fold-right-enum-known-number t c = search needs
@@ -232,7 +232,7 @@ fold-right-enum-known-n-2 : (t : ℕ) → fold-right-lts.Need-enum-known-n-2 (fo
 fold-right-enum-known-n-2 t c = search needs
 
 fold-right-fold-binary-requires : (t : ℕ) → fold-right-lts.Need-fold-binary-requires (fold-right-claims t) (fold-right-at t) fold-right.Post
-fold-right-fold-binary-requires t c κs = both-readable (c .before .before .before .before .before .before .before .before .before .before .before .before .before .before .before .before .before .before .pre .1) (c .before .before .before .before .before .before .before .before .before .before .before .before .before .before .before .before .before .before .args .first + c .before .before .before .before .before .before .before .before .before .before .before .before .before .count .result) (c .before .before .before .before .before .before .fold-operand2 .kept .1 .1 .1 .1 .0) (as-answer (c .before .before .before .before .before .before .before .before .before .before .before .before .before .before .before .before .before .before .args .first + c .before .before .before .before .before .before .before .before .before .before .before .before .before .count .result) (c .before .before .n2 .given .1) (c .before .before .before .before .before .before .fold-operand2 .ensures))
+fold-right-fold-binary-requires t c κs = binary-ready (c .before .before .before .before .before .before .before .before .before .before .before .before .before .before .before .before .before .before .pre .1) (c .before .before .before .before .before .before .before .before .before .before .before .before .before .before .before .before .before .before .args .first + c .before .before .before .before .before .before .before .before .before .before .before .before .before .count .result) (c .before .before .before .before .before .before .before .before .before .before .before .before .before .before .tag-at .ensures) (c .before .before .before .before .before .before .before .before .before .before .cell-at .ensures) (c .before .before .before .before .before .before .before .before .before .is-neutral .ensures) (c .before .before .before .before .before .before .before .before .if1 .left) (c .before .before .before .before .before .before .fold-operand2 .kept .1 .1 .1 .1 .0) (as-answer (c .before .before .before .before .before .before .before .before .before .before .before .before .before .before .before .before .before .before .args .first + c .before .before .before .before .before .before .before .before .before .before .before .before .before .count .result) (c .before .before .n2 .given .1) (c .before .before .before .before .before .before .fold-operand2 .ensures))
 
 fold-right-enum-known-number-2 : (t : ℕ) → fold-right-lts.Need-enum-known-number-2 (fold-right-claims t) (fold-right-at t) fold-right.Post
 fold-right-enum-known-number-2 t c = search needs

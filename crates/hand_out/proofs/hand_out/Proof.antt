@@ -17,7 +17,7 @@ enum-known-r : tie.Need-enum-known-r
 enum-known-r c = search needs
 
 write-requires : tie.Need-write-requires
-write-requires c κs = left-written (subst (AnsweredAt (c .before .before .before .before .before .before .before .args .s .now) (c .before .before .before .before .before .before .before .args .x .now)) (c .before .before .r .given .1) (c .before .before .before .before .before .before .before .pre))
+write-requires c κs = left-written (subst (AnsweredAt (c .before .before .before .before .before .before .before .args .s .now) (c .before .before .before .before .before .before .before .args .x .now)) (c .before .before .r .given .1) (c .before .before .before .before .before .before .before .pre .0))
 
 enum-known-r-2 : tie.Need-enum-known-r-2
 enum-known-r-2 c = search needs

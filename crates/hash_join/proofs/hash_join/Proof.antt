@@ -62,7 +62,7 @@ same-length-3 : tie.Need-same-length-3
 same-length-3 c = search needs
 
 returns-3 : tie.Need-returns-3
-returns-3 c = rewrites-hash (c .before .before .before .before .before .before .before .before .before .before .before .before .before .before .args .n) (c .before .before .before .before .before .before .before .before .before .before .before .if1 .left) (c .before .before .before .before .before .before .before .before .before .before .equijoin .ensures) (pair-told (c .before .before .before .before .before .before .before .left-column .given .1) (c .before .before .before .before .before .before .before .before .before .one-on-each-side .ensures)) (c .before .before .before .before .before .cell-at .ensures) (c .before .before .before .before .hash-join-cell .ensures) (c .before .before .put .ensures)
+returns-3 c = rewrites-hash (c .before .before .before .before .before .before .before .before .before .before .before .before .before .before .args .n) (c .before .before .before .before .before .before .before .before .before .before .before .if1 .left) (c .before .before .before .before .before .before .before .before .before .before .equijoin .ensures) (pair-told (c .before .before .before .before .before .before .before .left-column .given .1) (c .before .before .before .before .before .before .before .before .before .one-on-each-side .ensures)) (c .before .before .before .before .before .cell-at .ensures) (c .before .before .before .before .hash-join-cell .ensures) (c .before .before .put .ensures .0)
 
 pub hash-join-spec : {M : Type 1} → statement M
 hash-join-spec =

@@ -34,7 +34,7 @@ same-length-2 : tie.Need-same-length-2
 same-length-2 c = search needs
 
 returns-2 : tie.Need-returns-2
-returns-2 c = looks (c .before .before .before .before .before .before .before .before .into-column-values .ensures) (omega (arith, c .before .before .before .before .before .if1 .left)) (c .before .before .before .before .before .before .before .before .before .before .before .before .args .scan) (c .before .before .before .before .before .before .before .before .before .before .before .before .args .key) (c .before .before .before .before .before .before .before .before .before .before .before .before .args .c) (c .before .before .before .before .before .before .before .before .into-column-values .kept .1 .1 .1 .0) (c .before .before .before .lookup-cell .ensures) (c .before .before .put .ensures)
+returns-2 c = looks (c .before .before .before .before .before .before .before .before .into-column-values .ensures) (omega (arith, c .before .before .before .before .before .if1 .left)) (c .before .before .before .before .before .before .before .before .before .before .before .before .args .scan) (c .before .before .before .before .before .before .before .before .before .before .before .before .args .key) (c .before .before .before .before .before .before .before .before .before .before .before .before .args .c) (c .before .before .before .before .before .before .before .before .into-column-values .kept .1 .1 .1 .0) (c .before .before .before .lookup-cell .ensures) (c .before .before .put .ensures .0)
 
 pub lookup-spec : {M : Type 1} → statement M
 lookup-spec =

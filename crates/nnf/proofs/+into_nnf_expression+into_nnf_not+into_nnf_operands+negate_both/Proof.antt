@@ -166,7 +166,7 @@ into-nnf-not-same-length-4 : (t : ℕ) → into-nnf-not-lts.Need-same-length-4 (
 into-nnf-not-same-length-4 t c = search needs
 
 into-nnf-not-returns-4 : (t : ℕ) → into-nnf-not-lts.Need-returns-4 (into-nnf-not-claims t) (into-nnf-not-at t) into-nnf-not.Post
-into-nnf-not-returns-4 t c = not-else (c .before .before .before .before .before .before .into-nnf-operands2 .kept .1 .1 .1 .0) (λ z. c .before .before .before .before .before .before .before .before .before .before .if1 .left (c .before .before .before .before .before .before .before .before .before .before .before .tag-at .ensures ∙ z)) (λ z. c .before .before .before .before .before .before .before .before .before .if2 .left (c .before .before .before .before .before .before .before .before .before .before .before .tag-at .ensures ∙ z)) (λ z. c .before .before .before .before .before .before .before .before .if3 .left (c .before .before .before .before .before .before .before .before .before .before .before .tag-at .ensures ∙ z)) (c .before .before .before .before .before .before .into-nnf-operands2 .ensures) (c .before .before .put .ensures)
+into-nnf-not-returns-4 t c = not-else (c .before .before .before .before .before .before .into-nnf-operands2 .kept .1 .1 .1 .0) (λ z. c .before .before .before .before .before .before .before .before .before .before .if1 .left (c .before .before .before .before .before .before .before .before .before .before .before .tag-at .ensures ∙ z)) (λ z. c .before .before .before .before .before .before .before .before .before .if2 .left (c .before .before .before .before .before .before .before .before .before .before .before .tag-at .ensures ∙ z)) (λ z. c .before .before .before .before .before .before .before .before .if3 .left (c .before .before .before .before .before .before .before .before .before .before .before .tag-at .ensures ∙ z)) (c .before .before .before .before .before .before .into-nnf-operands2 .ensures) (c .before .before .put .ensures .0)
 
 into-nnf-operands-cell-at-requires : (t : ℕ) → into-nnf-operands-lts.Need-cell-at-requires (into-nnf-operands-claims t) (into-nnf-operands-at t) into-nnf-operands.Post
 into-nnf-operands-cell-at-requires t c κs = let (h, k) = at-in (c .before .before .pre .1) in (omega arith, k)
@@ -178,7 +178,7 @@ into-nnf-operands-same-length : (t : ℕ) → into-nnf-operands-lts.Need-same-le
 into-nnf-operands-same-length t c = search needs
 
 into-nnf-operands-returns : (t : ℕ) → into-nnf-operands-lts.Need-returns (into-nnf-operands-claims t) (into-nnf-operands-at t) into-nnf-operands.Post
-into-nnf-operands-returns t c = operands-as (operands-leaf into-nnf (c .before .before .before .before .before .before .cell-at .ensures) (omega (arith, ap (λ (x : Cell). x .tag) (c .before .before .before .before .before .before .cell-at .ensures), c .before .before .before .before .if1 .taken)) (c .before .before .put .ensures))
+into-nnf-operands-returns t c = operands-as (operands-leaf into-nnf (c .before .before .before .before .before .before .cell-at .ensures) (omega (arith, ap (λ (x : Cell). x .tag) (c .before .before .before .before .before .before .cell-at .ensures), c .before .before .before .before .if1 .taken)) (c .before .before .put .ensures .0))
 
 into-nnf-operands-sub-k : (t : ℕ) → into-nnf-operands-lts.Need-sub-k (into-nnf-operands-claims t) (into-nnf-operands-at t) into-nnf-operands.Post
 into-nnf-operands-sub-k t c = let (h, k) = at-in (c .before .before .before .before .before .pre .1) in omega arith
@@ -193,7 +193,7 @@ into-nnf-operands-same-length-2 : (t : ℕ) → into-nnf-operands-lts.Need-same-
 into-nnf-operands-same-length-2 t c = search needs
 
 into-nnf-operands-returns-2 : (t : ℕ) → into-nnf-operands-lts.Need-returns-2 (into-nnf-operands-claims t) (into-nnf-operands-at t) into-nnf-operands.Post
-into-nnf-operands-returns-2 t c = operands-as (operands-unary into-nnf (c .before .before .before .before .before .before .before .before .before .before .before .before .cell-at .ensures) (c .before .before .before .before .before .before .into-nnf-expression .kept .1 .1 .1 .0) (omega (arith, ap (λ (x : Cell). x .tag) (c .before .before .before .before .before .before .before .before .before .before .before .before .cell-at .ensures), c .before .before .before .before .before .before .before .before .if2 .taken)) (c .before .before .before .before .before .before .into-nnf-expression .ensures) (c .before .before .put2 .ensures))
+into-nnf-operands-returns-2 t c = operands-as (operands-unary into-nnf (c .before .before .before .before .before .before .before .before .before .before .before .before .cell-at .ensures) (c .before .before .before .before .before .before .into-nnf-expression .kept .1 .1 .1 .0) (omega (arith, ap (λ (x : Cell). x .tag) (c .before .before .before .before .before .before .before .before .before .before .before .before .cell-at .ensures), c .before .before .before .before .before .before .before .before .if2 .taken)) (c .before .before .before .before .before .before .into-nnf-expression .ensures) (c .before .before .put2 .ensures .0))
 
 into-nnf-operands-start-requires : (t : ℕ) → into-nnf-operands-lts.Need-start-requires (into-nnf-operands-claims t) (into-nnf-operands-at t) into-nnf-operands.Post
 into-nnf-operands-start-requires t c κs = let e = ap (λ (x : Cell). x .tag) (c .before .before .before .before .cell-at .ensures) in at-last (omega (arith, e, c .before .before .if1 .left)) (omega (arith, e, c .if2 .left)) (c .before .before .before .before .before .before .before .pre .1)
@@ -211,7 +211,7 @@ into-nnf-operands-same-length-3 : (t : ℕ) → into-nnf-operands-lts.Need-same-
 into-nnf-operands-same-length-3 t c = search needs
 
 into-nnf-operands-returns-3 : (t : ℕ) → into-nnf-operands-lts.Need-returns-3 (into-nnf-operands-claims t) (into-nnf-operands-at t) into-nnf-operands.Post
-into-nnf-operands-returns-3 t c = let e = ap (λ (x : Cell). x .tag) (c .before .before .before .before .before .before .before .before .before .before .before .before .before .before .before .before .before .cell-at .ensures) in operands-as (operands-binary into-nnf (c .before .before .before .before .before .before .before .before .before .before .before .before .before .before .before .before .before .cell-at .ensures) (c .before .before .before .before .before .before .before .before .before .before .into-nnf-expression2 .kept .1 .1 .1 .0) (c .before .before .before .before .before .before .into-nnf-expression3 .kept .1 .1 .1 .0) (c .before .before .before .before .before .before .before .before .before .before .before .before .start .ensures) (omega (arith, e, c .before .before .before .before .before .before .before .before .before .before .before .before .before .before .before .if1 .left)) (omega (arith, e, c .before .before .before .before .before .before .before .before .before .before .before .before .before .if2 .left)) (c .before .before .before .before .before .before .before .before .before .before .into-nnf-expression2 .ensures) (c .before .before .before .before .before .before .into-nnf-expression3 .ensures) (c .before .before .put3 .ensures))
+into-nnf-operands-returns-3 t c = let e = ap (λ (x : Cell). x .tag) (c .before .before .before .before .before .before .before .before .before .before .before .before .before .before .before .before .before .cell-at .ensures) in operands-as (operands-binary into-nnf (c .before .before .before .before .before .before .before .before .before .before .before .before .before .before .before .before .before .cell-at .ensures) (c .before .before .before .before .before .before .before .before .before .before .into-nnf-expression2 .kept .1 .1 .1 .0) (c .before .before .before .before .before .before .into-nnf-expression3 .kept .1 .1 .1 .0) (c .before .before .before .before .before .before .before .before .before .before .before .before .start .ensures) (omega (arith, e, c .before .before .before .before .before .before .before .before .before .before .before .before .before .before .before .if1 .left)) (omega (arith, e, c .before .before .before .before .before .before .before .before .before .before .before .before .before .if2 .left)) (c .before .before .before .before .before .before .before .before .before .before .into-nnf-expression2 .ensures) (c .before .before .before .before .before .before .into-nnf-expression3 .ensures) (c .before .before .put3 .ensures .0))
 
 negate-both-sub-k : (t : ℕ) → negate-both-lts.Need-sub-k (negate-both-claims t) (negate-both-at t) negate-both.Post
 negate-both-sub-k t c = let (h, k) = at-in (c .before .before .pre .1 .0) in omega arith
@@ -232,7 +232,7 @@ negate-both-same-length : (t : ℕ) → negate-both-lts.Need-same-length (negate
 negate-both-same-length t c = search needs
 
 negate-both-returns : (t : ℕ) → negate-both-lts.Need-returns (negate-both-claims t) (negate-both-at t) negate-both.Post
-negate-both-returns t c = negated-both (c .before .before .before .before .before .before .before .before .before .before .into-nnf-not .kept .1 .1 .1 .0) (c .before .before .before .before .before .before .into-nnf-not2 .kept .1 .1 .1 .0) (c .before .before .before .before .before .before .before .before .before .before .before .before .start .ensures) (c .before .before .before .before .before .before .before .before .before .before .before .before .before .before .before .pre .1 .1 .0 .0) (c .before .before .before .before .before .before .before .before .before .before .before .before .before .before .before .pre .1 .1 .0 .1) (c .before .before .before .before .before .before .before .before .before .before .before .before .before .before .before .args .o) (c .before .before .before .before .before .before .before .before .before .before .before .before .before .before .before .pre .1 .1 .1) (c .before .before .before .before .before .before .before .before .before .before .into-nnf-not .ensures) (c .before .before .before .before .before .before .into-nnf-not2 .ensures) (c .before .before .put .ensures)
+negate-both-returns t c = negated-both (c .before .before .before .before .before .before .before .before .before .before .into-nnf-not .kept .1 .1 .1 .0) (c .before .before .before .before .before .before .into-nnf-not2 .kept .1 .1 .1 .0) (c .before .before .before .before .before .before .before .before .before .before .before .before .start .ensures) (c .before .before .before .before .before .before .before .before .before .before .before .before .before .before .before .pre .1 .1 .0 .0) (c .before .before .before .before .before .before .before .before .before .before .before .before .before .before .before .pre .1 .1 .0 .1) (c .before .before .before .before .before .before .before .before .before .before .before .before .before .before .before .args .o) (c .before .before .before .before .before .before .before .before .before .before .before .before .before .before .before .pre .1 .1 .1) (c .before .before .before .before .before .before .before .before .before .before .into-nnf-not .ensures) (c .before .before .before .before .before .before .into-nnf-not2 .ensures) (c .before .before .put .ensures .0)
 
 pub +into-nnf-expression+into-nnf-not+into-nnf-operands+negate-both-spec : {M : Type 1} → statement M
 +into-nnf-expression+into-nnf-not+into-nnf-operands+negate-both-spec =

@@ -1,4 +1,4 @@
-use Rattle.nodes.proofs.Own.{at-in, leaf-start, own-at, own-start-said, targets-fit, remap-start}
+use Rattle.nodes.proofs.Own.{at-in, leaf-start, has-sources, own-at, own-start-said, targets-fit, remap-start}
 use Rattle.nodes.proofs.Trees.{trees-at}
 use native.Mathlib.Omega.{arith}
 use mathlib.Core.Path.{sym, _∙_}
@@ -20,7 +20,7 @@ returns : tie.Need-returns
 returns c = leaf-start (c .before .source-count .ensures) (c .if1 .taken)
 
 own-trees-requires : tie.Need-own-trees-requires
-own-trees-requires c κs = c .before .before .before .pre
+own-trees-requires c κs = has-sources (c .before .source-count .ensures) (c .if1 .left) (c .before .before .before .pre)
 
 tag-at-requires : tie.Need-tag-at-requires
 tag-at-requires c κs = let (h, k) = at-in (c .before .before .before .before .pre) in (omega arith, k)

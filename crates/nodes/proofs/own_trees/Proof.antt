@@ -9,7 +9,7 @@ use Rattle.nodes.proofs.own_trees.Statement.{statement}
 use Rattle.nodes.proofs.own_trees.Tie as tie
 
 cell-at-requires : tie.Need-cell-at-requires
-cell-at-requires c κs = let (h, k) = at-in (c .before .pre) in (omega arith, k)
+cell-at-requires c κs = let (h, k) = at-in (c .before .pre .node) in (omega arith, k)
 
 cast-result : tie.Need-cast-result
 cast-result c = search needs
@@ -18,7 +18,7 @@ cast-result-2 : tie.Need-cast-result-2
 cast-result-2 c = search needs
 
 add-result : tie.Need-add-result
-add-result c = let (h, k) = at-in (c .before .before .before .before .before .before .pre) in omega (arith, aggregate-few (c .before .before .before .before .cell-at .ensures) (c .before .before .if1 .taken) (c .before .before .before .before .before .before .pre))
+add-result c = let (h, k) = at-in (c .before .before .before .before .before .before .pre .node) in omega (arith, aggregate-few (c .before .before .before .before .cell-at .ensures) (c .before .before .if1 .taken) (c .before .before .before .before .before .before .pre .node))
 
 returns : tie.Need-returns
 returns c = aggregate-trees (c .before .before .before .before .cell-at .ensures) (c .before .before .if1 .taken)

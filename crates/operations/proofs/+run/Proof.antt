@@ -31,10 +31,10 @@ abbrev run-claims : ℕ → run-lts.Claims
 run-claims t = (in-24-reads.Asked, in-24-reads.Learnt, run-below t, run.Post, in-96-reads.Asked, in-96-reads.Learnt, in-224-reads.Asked, in-224-reads.Learnt, in-704-reads.Asked, in-704-reads.Learnt, in-2048-reads.Asked, in-2048-reads.Learnt)
 
 run-in-24-requires : (t : ℕ) → run-lts.Need-in-24-requires (run-claims t) (run-at t) run.Post
-run-in-24-requires t c κs = (c .before .before .before .before .pre .1 .0, in-more (c .before .before .before .before .pre .1 .1 .0) (omega (arith, c .before .if1 .taken)))
+run-in-24-requires t c κs = (c .before .before .before .before .pre .1 .0, (in-more (c .before .before .before .before .pre .1 .1 .0 .0) (omega (arith, c .before .if1 .taken)), c .before .before .before .before .pre .1 .1 .1))
 
 run-run-requires : (t : ℕ) → run-lts.Need-run-requires (run-claims t) (run-at t) run.Post
-run-run-requires t c κs = (omega (arith, c .before .before .before .before .before .before .before .before .before .before .pre .0, c .before .before .before .before .before .before .before .if1 .taken), (c .before .before .before .before .before .before .before .before .before .before .pre .1 .0, (in-more (c .before .before .before .before .before .before .before .before .before .before .pre .1 .1 .0) (omega (arith, c .before .before .before .before .before .before .before .if1 .taken)), omega arith)))
+run-run-requires t c κs = (omega (arith, c .before .before .before .before .before .before .before .before .before .before .pre .0, c .before .before .before .before .before .before .before .if1 .taken), (c .before .before .before .before .before .before .before .before .before .before .pre .1 .0, ((in-more (c .before .before .before .before .before .before .before .before .before .before .pre .1 .1 .0 .0) (omega (arith, c .before .before .before .before .before .before .before .if1 .taken)), omega arith), c .before .before .before .before .before .before .before .before .before .before .pre .1 .1 .1)))
 
 run-same-length : (t : ℕ) → run-lts.Need-same-length (run-claims t) (run-at t) run.Post
 run-same-length t c = c .before .before .run .kept .1 .1 .1 .1 .0 ∙ c .before .before .before .before .before .before .before .before .in-24 .kept .1 .1 .1 .0
@@ -49,10 +49,10 @@ run-returns-2 : (t : ℕ) → run-lts.Need-returns-2 (run-claims t) (run-at t) r
 run-returns-2 t c = settles 24 2048 (omega arith) (c .before .before .before .before .before .before .before .before .before .args .s .now) (c .before .before .before .before .before .before .before .before .before .args .c) (c .before .before .before .before .before .before .before .before .before .args .count) (c .before .before .before .before .before .before .before .before .before .args .out .now) _ _ (c .if2 .left) (c .before .before .before .before .in-24 .ensures)
 
 run-in-96-requires : (t : ℕ) → run-lts.Need-in-96-requires (run-claims t) (run-at t) run.Post
-run-in-96-requires t c κs = (c .before .before .before .before .before .pre .1 .0, in-more (c .before .before .before .before .before .pre .1 .1 .0) (omega (arith, c .before .if3 .taken)))
+run-in-96-requires t c κs = (c .before .before .before .before .before .pre .1 .0, (in-more (c .before .before .before .before .before .pre .1 .1 .0 .0) (omega (arith, c .before .if3 .taken)), c .before .before .before .before .before .pre .1 .1 .1))
 
 run-run-requires-2 : (t : ℕ) → run-lts.Need-run-requires-2 (run-claims t) (run-at t) run.Post
-run-run-requires-2 t c κs = (omega (arith, c .before .before .before .before .before .before .before .before .before .before .before .pre .0, c .before .before .before .before .before .before .before .if3 .taken), (c .before .before .before .before .before .before .before .before .before .before .before .pre .1 .0, (in-more (c .before .before .before .before .before .before .before .before .before .before .before .pre .1 .1 .0) (omega (arith, c .before .before .before .before .before .before .before .if3 .taken)), omega arith)))
+run-run-requires-2 t c κs = (omega (arith, c .before .before .before .before .before .before .before .before .before .before .before .pre .0, c .before .before .before .before .before .before .before .if3 .taken), (c .before .before .before .before .before .before .before .before .before .before .before .pre .1 .0, ((in-more (c .before .before .before .before .before .before .before .before .before .before .before .pre .1 .1 .0 .0) (omega (arith, c .before .before .before .before .before .before .before .if3 .taken)), omega arith), c .before .before .before .before .before .before .before .before .before .before .before .pre .1 .1 .1)))
 
 run-same-length-3 : (t : ℕ) → run-lts.Need-same-length-3 (run-claims t) (run-at t) run.Post
 run-same-length-3 t c = c .before .before .run2 .kept .1 .1 .1 .1 .0 ∙ c .before .before .before .before .before .before .before .before .in-96 .kept .1 .1 .1 .0
@@ -67,10 +67,10 @@ run-returns-4 : (t : ℕ) → run-lts.Need-returns-4 (run-claims t) (run-at t) r
 run-returns-4 t c = settles 96 2048 (omega arith) (c .before .before .before .before .before .before .before .before .before .before .args .s .now) (c .before .before .before .before .before .before .before .before .before .before .args .c) (c .before .before .before .before .before .before .before .before .before .before .args .count) (c .before .before .before .before .before .before .before .before .before .before .args .out .now) _ _ (c .if4 .left) (c .before .before .before .before .in-96 .ensures)
 
 run-in-224-requires : (t : ℕ) → run-lts.Need-in-224-requires (run-claims t) (run-at t) run.Post
-run-in-224-requires t c κs = (c .before .before .before .before .before .before .pre .1 .0, in-more (c .before .before .before .before .before .before .pre .1 .1 .0) (omega (arith, c .before .if5 .taken)))
+run-in-224-requires t c κs = (c .before .before .before .before .before .before .pre .1 .0, (in-more (c .before .before .before .before .before .before .pre .1 .1 .0 .0) (omega (arith, c .before .if5 .taken)), c .before .before .before .before .before .before .pre .1 .1 .1))
 
 run-run-requires-3 : (t : ℕ) → run-lts.Need-run-requires-3 (run-claims t) (run-at t) run.Post
-run-run-requires-3 t c κs = (omega (arith, c .before .before .before .before .before .before .before .before .before .before .before .before .pre .0, c .before .before .before .before .before .before .before .if5 .taken), (c .before .before .before .before .before .before .before .before .before .before .before .before .pre .1 .0, (in-more (c .before .before .before .before .before .before .before .before .before .before .before .before .pre .1 .1 .0) (omega (arith, c .before .before .before .before .before .before .before .if5 .taken)), omega arith)))
+run-run-requires-3 t c κs = (omega (arith, c .before .before .before .before .before .before .before .before .before .before .before .before .pre .0, c .before .before .before .before .before .before .before .if5 .taken), (c .before .before .before .before .before .before .before .before .before .before .before .before .pre .1 .0, ((in-more (c .before .before .before .before .before .before .before .before .before .before .before .before .pre .1 .1 .0 .0) (omega (arith, c .before .before .before .before .before .before .before .if5 .taken)), omega arith), c .before .before .before .before .before .before .before .before .before .before .before .before .pre .1 .1 .1)))
 
 run-same-length-5 : (t : ℕ) → run-lts.Need-same-length-5 (run-claims t) (run-at t) run.Post
 run-same-length-5 t c = c .before .before .run3 .kept .1 .1 .1 .1 .0 ∙ c .before .before .before .before .before .before .before .before .in-224 .kept .1 .1 .1 .0
@@ -85,10 +85,10 @@ run-returns-6 : (t : ℕ) → run-lts.Need-returns-6 (run-claims t) (run-at t) r
 run-returns-6 t c = settles 224 2048 (omega arith) (c .before .before .before .before .before .before .before .before .before .before .before .args .s .now) (c .before .before .before .before .before .before .before .before .before .before .before .args .c) (c .before .before .before .before .before .before .before .before .before .before .before .args .count) (c .before .before .before .before .before .before .before .before .before .before .before .args .out .now) _ _ (c .if6 .left) (c .before .before .before .before .in-224 .ensures)
 
 run-in-704-requires : (t : ℕ) → run-lts.Need-in-704-requires (run-claims t) (run-at t) run.Post
-run-in-704-requires t c κs = (c .before .before .before .before .before .before .before .pre .1 .0, in-more (c .before .before .before .before .before .before .before .pre .1 .1 .0) (omega (arith, c .before .if7 .taken)))
+run-in-704-requires t c κs = (c .before .before .before .before .before .before .before .pre .1 .0, (in-more (c .before .before .before .before .before .before .before .pre .1 .1 .0 .0) (omega (arith, c .before .if7 .taken)), c .before .before .before .before .before .before .before .pre .1 .1 .1))
 
 run-run-requires-4 : (t : ℕ) → run-lts.Need-run-requires-4 (run-claims t) (run-at t) run.Post
-run-run-requires-4 t c κs = (omega (arith, c .before .before .before .before .before .before .before .before .before .before .before .before .before .pre .0, c .before .before .before .before .before .before .before .if7 .taken), (c .before .before .before .before .before .before .before .before .before .before .before .before .before .pre .1 .0, (in-more (c .before .before .before .before .before .before .before .before .before .before .before .before .before .pre .1 .1 .0) (omega (arith, c .before .before .before .before .before .before .before .if7 .taken)), omega arith)))
+run-run-requires-4 t c κs = (omega (arith, c .before .before .before .before .before .before .before .before .before .before .before .before .before .pre .0, c .before .before .before .before .before .before .before .if7 .taken), (c .before .before .before .before .before .before .before .before .before .before .before .before .before .pre .1 .0, ((in-more (c .before .before .before .before .before .before .before .before .before .before .before .before .before .pre .1 .1 .0 .0) (omega (arith, c .before .before .before .before .before .before .before .if7 .taken)), omega arith), c .before .before .before .before .before .before .before .before .before .before .before .before .before .pre .1 .1 .1)))
 
 run-same-length-7 : (t : ℕ) → run-lts.Need-same-length-7 (run-claims t) (run-at t) run.Post
 run-same-length-7 t c = c .before .before .run4 .kept .1 .1 .1 .1 .0 ∙ c .before .before .before .before .before .before .before .before .in-704 .kept .1 .1 .1 .0
@@ -103,7 +103,7 @@ run-returns-8 : (t : ℕ) → run-lts.Need-returns-8 (run-claims t) (run-at t) r
 run-returns-8 t c = settles 704 2048 (omega arith) (c .before .before .before .before .before .before .before .before .before .before .before .before .args .s .now) (c .before .before .before .before .before .before .before .before .before .before .before .before .args .c) (c .before .before .before .before .before .before .before .before .before .before .before .before .args .count) (c .before .before .before .before .before .before .before .before .before .before .before .before .args .out .now) _ _ (c .if8 .left) (c .before .before .before .before .in-704 .ensures)
 
 run-in-2048-requires : (t : ℕ) → run-lts.Need-in-2048-requires (run-claims t) (run-at t) run.Post
-run-in-2048-requires t c κs = (c .before .before .before .before .before .before .before .pre .1 .0, in-more (c .before .before .before .before .before .before .before .pre .1 .1 .0) (c .before .before .before .before .before .before .before .pre .1 .1 .1))
+run-in-2048-requires t c κs = (c .before .before .before .before .before .before .before .pre .1 .0, (in-more (c .before .before .before .before .before .before .before .pre .1 .1 .0 .0) (c .before .before .before .before .before .before .before .pre .1 .1 .0 .1), c .before .before .before .before .before .before .before .pre .1 .1 .1))
 
 run-same-length-9 : (t : ℕ) → run-lts.Need-same-length-9 (run-claims t) (run-at t) run.Post
 run-same-length-9 t c = c .before .before .in-2048 .kept .1 .1 .1 .0

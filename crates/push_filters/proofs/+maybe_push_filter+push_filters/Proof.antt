@@ -1,4 +1,4 @@
-use Rattle.push_filters.proofs.Trying.{own-ends, tried-below, tried-in, merges-filter, merges-into, filter-last, filter-stays, no-filter, merged-at, merged-tries, push-full, push-next, push-again}
+use Rattle.push_filters.proofs.Trying.{own-ends, tried-below, tried-in, tried-predicate, merges-filter, merges-into, filter-last, filter-stays, no-filter, merged-at, merged-tries, push-full, push-next, push-again}
 use Rattle.push_filters.proofs.Pushing.{buffers-next}
 use Rattle.push_into.proofs.Taking.{node-at-in, taker}
 use Prim.Native.Nat.{ℕ, _+_, _<_}
@@ -114,7 +114,7 @@ maybe-push-filter-takes-requires : (t : ℕ) → maybe-push-filter-lts.Need-take
 maybe-push-filter-takes-requires t c κs = tried-below (c .before .before .before .before .before .if1 .left) (c .before .before .before .before .before .before .before .before .before .before .before .pre .1 .0)
 
 maybe-push-filter-push-into-requires : (t : ℕ) → maybe-push-filter-lts.Need-push-into-requires (maybe-push-filter-claims t) (maybe-push-filter-at t) maybe-push-filter.Post
-maybe-push-filter-push-into-requires t c κs = (taker (tried-below (c .before .before .before .before .before .before .before .before .before .if1 .left) (c .before .before .before .before .before .before .before .before .before .before .before .before .before .before .before .pre .1 .0)) (c .before .before .before .takes .ensures) (c .before .before .if4 .taken), (tried-in (c .before .before .before .before .before .before .before .before .before .if1 .left) (c .before .before .before .before .before .before .before .before .before .before .before .before .before .before .before .pre .1 .0) .1, c .before .before .before .before .before .before .before .before .before .before .before .before .before .before .before .pre .1 .1 .first))
+maybe-push-filter-push-into-requires t c κs = (taker (tried-below (c .before .before .before .before .before .before .before .before .before .if1 .left) (c .before .before .before .before .before .before .before .before .before .before .before .before .before .before .before .pre .1 .0)) (c .before .before .before .takes .ensures) (c .before .before .if4 .taken), (tried-predicate (c .before .before .before .before .before .before .before .before .before .if1 .left) (c .before .before .before .before .before .before .before .before .before .before .before .before .before .before .before .pre .1 .0), (tried-in (c .before .before .before .before .before .before .before .before .before .if1 .left) (c .before .before .before .before .before .before .before .before .before .before .before .before .before .before .before .pre .1 .0) .1, c .before .before .before .before .before .before .before .before .before .before .before .before .before .before .before .pre .1 .1 .first)))
 
 maybe-push-filter-sub-push-filters-2 : (t : ℕ) → maybe-push-filter-lts.Need-sub-push-filters-2 (maybe-push-filter-claims t) (maybe-push-filter-at t) maybe-push-filter.Post
 maybe-push-filter-sub-push-filters-2 t c = omega (arith, c .before .before .before .before .before .before .before .before .before .before .before .before .before .before .before .before .before .if2 .left)

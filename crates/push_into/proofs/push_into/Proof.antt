@@ -9,10 +9,10 @@ own-start-requires : tie.Need-own-start-requires
 own-start-requires c κs = taker-at (c .before .before .before .pre .0)
 
 with-predicate-requires : tie.Need-with-predicate-requires
-with-predicate-requires c κs = c .before .before .before .before .before .before .pre .0
+with-predicate-requires c κs = (c .before .before .before .before .before .before .pre .0, c .before .before .before .before .before .before .pre .1 .0)
 
 replace-own-requires : tie.Need-replace-own-requires
-replace-own-requires c κs = let (a, b) = own-in (c .before .before .before .before .before .before .before .own-start .ensures) (c .before .before .before .before .before .before .before .before .before .before .before .pre .0) in ((omega (arith, c .before .before .before .before .before .before .before .before .before .before .before .pre .1 .0 .0), c .before .before .before .before .before .before .before .before .before .before .before .pre .1 .0 .1), ((a, λ z. c .before .before .before .before .with-predicate .ensures .long refl (omega (arith, c .before .before .before .before .with-predicate .kept .1 .1 .1 .0))), c .before .before .before .before .with-predicate .kept .1 .1 .1 .0 ∙ c .before .before .before .before .before .before .before .before .before .before .before .pre .1 .1))
+replace-own-requires c κs = let (a, b) = own-in (c .before .before .before .before .before .before .before .own-start .ensures) (c .before .before .before .before .before .before .before .before .before .before .before .pre .0) in ((omega (arith, c .before .before .before .before .before .before .before .before .before .before .before .pre .1 .1 .0 .0), c .before .before .before .before .before .before .before .before .before .before .before .pre .1 .1 .0 .1), ((a, λ z. c .before .before .before .before .with-predicate .ensures .long refl (omega (arith, c .before .before .before .before .with-predicate .kept .1 .1 .1 .0))), c .before .before .before .before .with-predicate .kept .1 .1 .1 .0 ∙ c .before .before .before .before .before .before .before .before .before .before .before .pre .1 .1 .1))
 
 same-length : tie.Need-same-length
 same-length c = search needs

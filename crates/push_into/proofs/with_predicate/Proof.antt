@@ -5,16 +5,16 @@ use Rattle.push_into.proofs.with_predicate.Statement.{statement}
 use Rattle.push_into.proofs.with_predicate.Tie as tie
 
 cell-at-requires : tie.Need-cell-at-requires
-cell-at-requires c κs = let (h, k) = taker-in (c .before .before .pre) in (omega arith, k)
+cell-at-requires c κs = let (h, k) = taker-in (c .before .before .pre .0) in (omega arith, k)
 
 own-start-requires : tie.Need-own-start-requires
-own-start-requires c κs = taker-at (c .before .before .before .pre)
+own-start-requires c κs = taker-at (c .before .before .before .pre .0)
 
 sub-end : tie.Need-sub-end
-sub-end c = let (h, k) = taker-in (c .before .before .before .before .pre) in omega arith
+sub-end c = let (h, k) = taker-in (c .before .before .before .before .pre .0) in omega arith
 
 add-t16 : tie.Need-add-t16
-add-t16 c = omega (arith, flag-small (c .before .before .before .before .before .before .before .pre) (c .before .before .before .before .cell-at .ensures))
+add-t16 c = omega (arith, flag-small (c .before .before .before .before .before .before .before .pre .0) (c .before .before .before .before .cell-at .ensures))
 
 put-requires : tie.Need-put-requires
 put-requires c κs = search needs
@@ -23,10 +23,10 @@ same-length : tie.Need-same-length
 same-length c = search needs
 
 returns : tie.Need-returns
-returns c = pushes-alone (c .before .before .before .before .before .before .before .cell-at .ensures) (c .before .before .before .before .before .before .own-start .ensures) (c .before .before .before .before .before .if1 .taken) (c .before .before .put .ensures)
+returns c = pushes-alone (c .before .before .before .before .before .before .before .cell-at .ensures) (c .before .before .before .before .before .before .own-start .ensures) (c .before .before .before .before .before .if1 .taken) (c .before .before .put .ensures .0)
 
 copy-requires : tie.Need-copy-requires
-copy-requires c κs = copies-own (c .before .before .before .cell-at .ensures) (c .before .before .own-start .ensures) (c .before .before .before .before .before .before .pre)
+copy-requires c κs = copies-own (c .before .before .before .cell-at .ensures) (c .before .before .own-start .ensures) (c .before .before .before .before .before .before .pre .0)
 
 put-requires-2 : tie.Need-put-requires-2
 put-requires-2 c κs = search needs
@@ -38,7 +38,7 @@ same-length-2 : tie.Need-same-length-2
 same-length-2 c = search needs
 
 returns-2 : tie.Need-returns-2
-returns-2 c = pushes-both (c .before .before .before .before .before .before .before .before .before .before .before .before .before .before .cell-at .ensures) (c .before .before .before .before .before .before .before .before .before .before .before .before .before .own-start .ensures) (c .before .before .before .before .before .before .before .before .before .before .before .before .if1 .left) (c .before .before .before .before .before .before .before .before .before .before .copy .kept .1 .1 .1 .0) (c .before .before .before .before .before .before .put2 .kept .0) (c .before .before .before .before .before .before .before .before .before .before .copy .ensures) (c .before .before .before .before .before .before .put2 .ensures) (c .before .before .put3 .ensures)
+returns-2 c = pushes-both (c .before .before .before .before .before .before .before .before .before .before .before .before .before .before .cell-at .ensures) (c .before .before .before .before .before .before .before .before .before .before .before .before .before .own-start .ensures) (c .before .before .before .before .before .before .before .before .before .before .before .before .if1 .left) (c .before .before .before .before .before .before .before .before .before .before .copy .kept .1 .1 .1 .0) (c .before .before .before .before .before .before .put2 .kept .0) (c .before .before .before .before .before .before .before .before .before .before .copy .ensures) (c .before .before .before .before .before .before .put2 .ensures .0) (c .before .before .put3 .ensures .0)
 
 pub with-predicate-spec : {M : Type 1} → statement M
 with-predicate-spec =

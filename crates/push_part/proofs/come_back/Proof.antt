@@ -1,7 +1,6 @@
-use Rattle.push_part.proofs.Parts.{back-taken, back-full, back-nothing, back-long, back-one}
+use Rattle.push_part.proofs.Parts.{back-joinable, back-taken, back-full, back-nothing, back-long, back-one}
 use native.Mathlib.Omega.{arith}
 use mathlib.Core.Path.{_∙_}
-use borrow.Author.Needs.{needs}
 use Rattle.push_part.proofs.come_back.Statement.{statement}
 use Rattle.push_part.proofs.come_back.Tie as tie
 
@@ -15,7 +14,7 @@ returns-2 : tie.Need-returns-2
 returns-2 c = back-full (c .before .before .before .before .before .before .before .args .into) (c .before .before .before .before .before .before .before .args .n) (c .before .before .takes .ensures) (c .before .if1 .left) (c .if2 .taken)
 
 part-requires : tie.Need-part-requires
-part-requires c κs = c .before .before .before .before .before .before .before .before .before .pre .1
+part-requires c κs = (c .before .before .before .before .before .before .before .before .before .pre .1 .0, c .before .before .before .before .before .before .before .before .before .pre .1 .1 .0)
 
 same-length : tie.Need-same-length
 same-length c = c .before .before .before .before .before .part .kept .1 .1 .0
@@ -36,7 +35,7 @@ returns-4 : tie.Need-returns-4
 returns-4 c = back-long (c .before .before .before .before .before .before .before .before .before .before .before .before .before .before .before .before .args .into) (c .before .before .before .before .before .before .before .before .before .before .before .before .before .before .before .before .args .n) (c .before .before .before .before .before .before .before .before .before .before .before .takes .ensures) (c .before .before .before .before .before .before .before .before .before .before .if1 .left) (c .before .before .before .before .before .before .before .before .before .if2 .left) (c .before .before .before .before .before .before .part .kept .1 .1 .1 .0) (c .before .before .before .before .before .before .part .ensures) (omega (arith, c .before .before .before .before .before .before .part .kept .1 .1 .1 .0, c .if4 .taken))
 
 and-over-requires : tie.Need-and-over-requires
-and-over-requires c κs = search needs
+and-over-requires c κs = back-joinable (c .before .before .before .before .before .before .before .before .before .before .before .before .before .before .before .before .before .args .into) (c .before .before .before .before .before .before .before .before .before .before .before .before .before .before .before .before .before .args .n) (c .before .before .before .before .before .before .before .before .before .before .before .before .before .before .before .before .before .pre .1 .0) (c .before .before .before .before .before .before .before .before .before .before .before .before .before .before .before .before .before .pre .1 .1 .1) (c .before .before .before .before .before .before .before .part .kept .1 .1 .1 .0) (c .before .before .before .before .before .before .before .part .ensures) (c .before .before .if3 .left) (omega (arith, c .before .before .before .before .before .before .before .part .kept .1 .1 .1 .0, c .before .if4 .left))
 
 same-length-5 : tie.Need-same-length-5
 same-length-5 c = c .before .before .before .before .before .before .before .before .before .before .part .kept .1 .1 .0

@@ -1,5 +1,5 @@
 use Rattle.push_into.proofs.Taking.{taker}
-use Rattle.push_part.proofs.Parts.{own-nothing, own-taken, own-refused}
+use Rattle.push_part.proofs.Parts.{part-predicate, own-nothing, own-taken, own-refused}
 use mathlib.Core.Path.{_∙_}
 use Rattle.push_part.proofs.own_part.Statement.{statement}
 use Rattle.push_part.proofs.own_part.Tie as tie
@@ -20,7 +20,7 @@ returns : tie.Need-returns
 returns c = own-nothing (c .before .before .before .before .before .before .before .before .before .before .before .before .before .before .args .into) (c .before .before .before .before .before .before .before .before .before .before .before .before .before .before .args .n) (c .before .before .before .before .before .before .before .before .before .before .before .before .before .before .args .shift) (c .before .before .before .before .before .before .before .before .before .takes .ensures) (c .before .before .before .before .before .part .ensures) (c .if2 .taken)
 
 with-predicate-requires : tie.Need-with-predicate-requires
-with-predicate-requires c κs = taker (c .before .before .before .before .before .before .before .before .before .before .before .before .before .before .before .pre .0) (c .before .before .before .before .before .before .before .before .before .before .takes .ensures) (c .before .before .before .before .before .before .before .before .before .if1 .taken)
+with-predicate-requires c κs = (taker (c .before .before .before .before .before .before .before .before .before .before .before .before .before .before .before .pre .0) (c .before .before .before .before .before .before .before .before .before .before .takes .ensures) (c .before .before .before .before .before .before .before .before .before .if1 .taken), part-predicate (c .before .before .before .before .before .before .before .before .before .before .before .before .before .before .before .args .into) (c .before .before .before .before .before .before .before .before .before .before .before .before .before .before .before .args .n) (c .before .before .before .before .before .before .before .before .before .before .before .before .before .before .before .args .shift) (c .before .before .before .before .before .before .before .before .before .before .before .before .before .before .before .pre .1 .0) (c .before .before .before .before .before .before .part .kept .1 .1 .1 .0) (c .before .if2 .left) (c .before .before .before .before .before .before .part .ensures))
 
 same-length-3 : tie.Need-same-length-3
 same-length-3 c = c .before .before .before .before .before .before .before .before .before .part .kept .1 .1 .0

@@ -1,8 +1,7 @@
 use Prim.Native.Nat.{_-_}
 use native.Mathlib.Omega.{arith}
-use Rattle.sql.specs.Optimizer.{for-left, for-right}
-use Rattle.sql.specs.Expression.{ands, and-vec}
-use Rattle.push_part.proofs.Parts.{gathered-at, part-left, part-right-side}
+use Rattle.push_part.proofs.Parts.{left-at, right-at, part-left, part-right-side}
+use Rattle.conjuncts.proofs.Appending.{gathered-none}
 use Rattle.push_part.proofs.Gathering.{left-gathered, right-gathered}
 use borrow.Author.Needs.{needs}
 use Rattle.push_part.proofs.part.Statement.{statement}
@@ -12,19 +11,19 @@ enum-told : tie.Need-enum-told
 enum-told c = search needs
 
 for-right-requires : tie.Need-for-right-requires
-for-right-requires c κs = c .before .before .before .before .before .before .pre .0
+for-right-requires c κs = (c .before .before .before .before .before .before .pre .0, gathered-none (c .before .before .before .before .before .before .args .g .now) 0)
 
 push-left-requires : tie.Need-push-left-requires
-push-left-requires c κs = (c .before .before .before .before .before .before .before .before .before .before .before .pre .0, gathered-at (λ e. and-vec (for-right (c .before .before .before .before .before .before .before .before .before .before .before .args .n) (ands e))) (right-gathered (c .before .before .before .before .before .before .before .before .before .before .before .pre .1) (omega (arith, c .before .before .before .before .before .before .before .before .before .before .shared-slice-known .given (c .before .before .before .before .before .before .before .before .before .before .before .args .end - 1))) (c .before .before .before .before .before .before .before .before .before .before .before .args .n) (c .before .before .before .before .for-right .ensures)) (c .before .before .before .before .before .before .before .before .before .before .before .pre .0))
+push-left-requires c κs = left-at (c .before .before .before .before .before .before .before .before .before .before .before .args .n) (right-gathered (c .before .before .before .before .before .before .before .before .before .before .before .pre .1) (omega (arith, c .before .before .before .before .before .before .before .before .before .before .shared-slice-known .given (c .before .before .before .before .before .before .before .before .before .before .before .args .end - 1))) (c .before .before .before .before .before .before .before .before .before .before .before .args .n) (c .before .before .before .before .for-right .ensures)) (c .before .before .before .before .before .before .before .before .before .before .before .pre .0)
 
 enum-told-2 : tie.Need-enum-told-2
 enum-told-2 c = search needs
 
 for-left-requires : tie.Need-for-left-requires
-for-left-requires c κs = c .before .before .before .before .before .before .pre .0
+for-left-requires c κs = (c .before .before .before .before .before .before .pre .0, gathered-none (c .before .before .before .before .before .before .args .g .now) 0)
 
 push-right-requires : tie.Need-push-right-requires
-push-right-requires c κs = (c .before .before .before .before .before .before .before .before .before .before .before .pre .0, gathered-at (λ e. and-vec (for-left (c .before .before .before .before .before .before .before .before .before .before .before .args .n) (ands e))) (left-gathered (c .before .before .before .before .before .before .before .before .before .before .before .pre .1) (omega (arith, c .before .before .before .before .before .before .before .before .before .before .shared-slice-known .given (c .before .before .before .before .before .before .before .before .before .before .before .args .end - 1))) (c .before .before .before .before .before .before .before .before .before .before .before .args .n) (c .before .before .before .before .for-left .ensures)) (c .before .before .before .before .before .before .before .before .before .before .before .pre .0))
+push-right-requires c κs = right-at (c .before .before .before .before .before .before .before .before .before .before .before .args .n) (left-gathered (c .before .before .before .before .before .before .before .before .before .before .before .pre .1) (omega (arith, c .before .before .before .before .before .before .before .before .before .before .shared-slice-known .given (c .before .before .before .before .before .before .before .before .before .before .before .args .end - 1))) (c .before .before .before .before .before .before .before .before .before .before .before .args .n) (c .before .before .before .before .for-left .ensures)) (c .before .before .before .before .before .before .before .before .before .before .before .pre .0)
 
 same-length : tie.Need-same-length
 same-length c = c .before .before .before .before .before .before .before .for-right .kept .1 .1 .1 .0

@@ -1,6 +1,6 @@
 use Rattle.nodes.proofs.Own.{at-in}
 use Rattle.push_into.proofs.Taking.{taker}
-use Rattle.push_part.proofs.Parts.{own-in, push-taken, push-refused}
+use Rattle.push_part.proofs.Parts.{own-in, part-closeable, push-taken, push-refused}
 use native.Mathlib.Omega.{arith}
 use mathlib.Core.Path.{_∙_}
 use Rattle.push_part.proofs.push_part.Statement.{statement}
@@ -19,7 +19,7 @@ part-requires : tie.Need-part-requires
 part-requires c κs = c .before .before .before .before .before .before .before .before .before .before .before .before .before .pre .1
 
 close-requires : tie.Need-close-requires
-close-requires c κs = (taker (c .before .before .before .before .before .before .before .before .before .before .before .before .before .before .before .before .before .before .before .pre .0) (c .before .before .before .before .before .before .before .before .before .before .before .before .before .before .takes .ensures) (c .before .before .before .before .before .before .before .before .before .before .before .before .before .if1 .taken), c .before .before .before .before .before .before .before .before .before .before .before .before .own-start .ensures)
+close-requires c κs = (taker (c .before .before .before .before .before .before .before .before .before .before .before .before .before .before .before .before .before .before .before .pre .0) (c .before .before .before .before .before .before .before .before .before .before .before .before .before .before .takes .ensures) (c .before .before .before .before .before .before .before .before .before .before .before .before .before .if1 .taken), (c .before .before .before .before .before .before .before .before .before .before .before .before .own-start .ensures, part-closeable (c .before .before .before .before .before .before .before .before .before .before .before .before .before .before .before .before .before .before .before .args .into) (c .before .before .before .before .before .before .before .before .before .before .before .before .before .before .before .before .before .before .before .args .n) (c .before .before .before .before .before .before .before .before .before .before .before .before .before .before .before .before .before .before .before .args .shift) (c .before .before .before .before .before .before .before .before .before .before .before .before .before .before .before .before .before .before .before .pre .0) (c .before .before .before .before .before .before .before .before .before .before .before .before .before .before .before .before .before .before .before .pre .1 .0) (c .before .before .before .before .before .before .before .before .before .before .before .before .own-start .ensures) (c .before .before .before .before .before .before .before .before .before .before .copy .kept .1 .1 .1 .0) (c .before .before .before .before .before .part .kept .1 .1 .1 .0) (c .before .before .before .before .before .before .before .before .before .before .copy .ensures) (c .before .before .before .before .before .part .ensures)))
 
 same-length : tie.Need-same-length
 same-length c = c .before .before .before .before .before .before .before .before .part .kept .1 .1 .0

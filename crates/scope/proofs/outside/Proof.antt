@@ -15,13 +15,13 @@ use Rattle.layout.proofs.parts_of.Reads as parts-of-reads
 use Rattle.scope.proofs.outside_in.Reads as outside-in-reads
 
 parts-of-requires : tie.Need-parts-of-requires
-parts-of-requires c κs = c .before .pre
+parts-of-requires c κs = c .before .pre .0
 
 slice-aggregate-outside-in : tie.Need-slice-aggregate-outside-in
 slice-aggregate-outside-in c = sym (length-replicate {A = ℕ} 64 0)
 
 outside-in-requires : tie.Need-outside-in-requires
-outside-in-requires c κs = (c .before .before .before .before .before .pre, omega (arith, cells-are (c .before .before .before .parts-of .ensures), c .before .if1 .taken, length-replicate {A = ℕ} 64 0))
+outside-in-requires c κs = (c .before .before .before .before .before .pre .0, omega (arith, cells-are (c .before .before .before .parts-of .ensures), c .before .if1 .taken, length-replicate {A = ℕ} 64 0))
 
 returns : tie.Need-returns
 returns c = c .before .outside-in .ensures
@@ -30,7 +30,7 @@ slice-aggregate-outside-in-2 : tie.Need-slice-aggregate-outside-in-2
 slice-aggregate-outside-in-2 c = sym (length-replicate {A = ℕ} 256 0)
 
 outside-in-requires-2 : tie.Need-outside-in-requires-2
-outside-in-requires-2 c κs = (c .before .before .before .before .before .before .before .pre, omega (arith, cells-are (c .before .before .before .before .before .parts-of .ensures), c .before .if2 .taken, length-replicate {A = ℕ} 256 0))
+outside-in-requires-2 c κs = (c .before .before .before .before .before .before .before .pre .0, omega (arith, cells-are (c .before .before .before .before .before .parts-of .ensures), c .before .if2 .taken, length-replicate {A = ℕ} 256 0))
 
 returns-2 : tie.Need-returns-2
 returns-2 c = c .before .outside-in2 .ensures
@@ -39,7 +39,7 @@ slice-aggregate-outside-in-3 : tie.Need-slice-aggregate-outside-in-3
 slice-aggregate-outside-in-3 c = sym (length-replicate {A = ℕ} 2048 0)
 
 outside-in-requires-3 : tie.Need-outside-in-requires-3
-outside-in-requires-3 c κs = (c .before .before .before .before .before .before .before .pre, omega (arith, cells-are (c .before .before .before .before .before .parts-of .ensures), c .before .before .before .before .before .parts-of .ensures .cells-few, length-replicate {A = ℕ} 2048 0))
+outside-in-requires-3 c κs = (c .before .before .before .before .before .before .before .pre .0, omega (arith, cells-are (c .before .before .before .before .before .parts-of .ensures), c .before .before .before .before .before .parts-of .ensures .cells-few, length-replicate {A = ℕ} 2048 0))
 
 returns-3 : tie.Need-returns-3
 returns-3 c = c .before .outside-in3 .ensures

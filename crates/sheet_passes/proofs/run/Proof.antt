@@ -17,22 +17,22 @@ slice-aggregate-widths : tie.Need-slice-aggregate-widths
 slice-aggregate-widths c = search needs
 
 widths-requires : tie.Need-widths-requires
-widths-requires c κs = tables-fit (c .before .before .before .before .before .before .before .args .s .now) (λ i. omega (arith, c .before .before .before .before .before .before .shared-slice-known .given i)) (c .before .before .before .before .before .before .before .pre .1)
+widths-requires c κs = tables-fit (c .before .before .before .before .before .before .before .args .s .now) (λ i. omega (arith, c .before .before .before .before .before .before .shared-slice-known .given i)) (c .before .before .before .before .before .before .before .pre .1 .0)
 
 slice-aggregate-table-names : tie.Need-slice-aggregate-table-names
 slice-aggregate-table-names c = search needs
 
 table-names-requires : tie.Need-table-names-requires
-table-names-requires c κs = tables-fit (c .before .before .before .before .before .before .before .before .before .before .args .s .now) (λ i. omega (arith, c .before .before .before .before .before .before .before .before .before .shared-slice-known .given i)) (c .before .before .before .before .before .before .before .before .before .before .pre .1)
+table-names-requires c κs = tables-fit (c .before .before .before .before .before .before .before .before .before .before .args .s .now) (λ i. omega (arith, c .before .before .before .before .before .before .before .before .before .shared-slice-known .given i)) (c .before .before .before .before .before .before .before .before .before .before .pre .1 .0)
 
 slice-aggregate-primary-keys : tie.Need-slice-aggregate-primary-keys
 slice-aggregate-primary-keys c = search needs
 
 primary-keys-requires : tie.Need-primary-keys-requires
-primary-keys-requires c κs = tables-fit (c .before .before .before .before .before .before .before .before .before .before .before .before .before .args .s .now) (λ i. omega (arith, c .before .before .before .before .before .before .before .before .before .before .before .before .shared-slice-known .given i)) (c .before .before .before .before .before .before .before .before .before .before .before .before .before .pre .1)
+primary-keys-requires c κs = tables-fit (c .before .before .before .before .before .before .before .before .before .before .before .before .before .args .s .now) (λ i. omega (arith, c .before .before .before .before .before .before .before .before .before .before .before .before .shared-slice-known .given i)) (c .before .before .before .before .before .before .before .before .before .before .before .before .before .pre .1 .0)
 
 column-records-requires : tie.Need-column-records-requires
-column-records-requires c κs = all-recorded (c .before .before .before .before .before .before .before .before .before .before .before .before .before .before .before .args .s .now) (λ i. omega (arith, c .before .before .before .before .before .before .before .before .before .before .before .before .before .before .shared-slice-known .given i)) (c .before .before .before .before .before .before .before .before .before .before .before .before .before .before .before .pre .1) .whole
+column-records-requires c κs = all-recorded (c .before .before .before .before .before .before .before .before .before .before .before .before .before .before .before .args .s .now) (λ i. omega (arith, c .before .before .before .before .before .before .before .before .before .before .before .before .before .before .shared-slice-known .given i)) (c .before .before .before .before .before .before .before .before .before .before .before .before .before .before .before .pre .1 .0) .whole
 
 array-share-prefix-widths : tie.Need-array-share-prefix-widths
 array-share-prefix-widths c = c .before .before .before .before .before .before .before .before .before .before .before .before .before .widths2 .ensures .inside
@@ -53,7 +53,7 @@ slice-aggregate-run-with-3 : tie.Need-slice-aggregate-run-with-3
 slice-aggregate-run-with-3 c = sym (length-take-le _ _ (c .before .before .before .before .before .before .before .before .before .before .primary-keys .ensures .inside))
 
 run-with-requires : tie.Need-run-with-requires
-run-with-requires c κs = (c .before .before .before .before .before .before .before .before .before .before .before .before .before .before .before .before .before .before .before .before .before .before .before .before .pre .0, (c .before .before .before .before .before .before .before .before .before .before .before .before .before .before .before .before .before .before .before .before .before .before .before .before .pre .1, record { widths-are = c .before .before .before .before .before .before .before .before .before .before .before .before .before .before .before .before .widths2 .ensures .is; names-are = c .before .before .before .before .before .before .before .before .before .before .before .before .before .table-names .ensures .is; columns-are = c .before .before .before .before .before .before .before .before .column-records .ensures; keys-are = c .before .before .before .before .before .before .before .before .before .before .primary-keys .ensures .is }))
+run-with-requires c κs = (c .before .before .before .before .before .before .before .before .before .before .before .before .before .before .before .before .before .before .before .before .before .before .before .before .pre .0, (c .before .before .before .before .before .before .before .before .before .before .before .before .before .before .before .before .before .before .before .before .before .before .before .before .pre .1 .0, (record { widths-are = c .before .before .before .before .before .before .before .before .before .before .before .before .before .before .before .before .widths2 .ensures .is; names-are = c .before .before .before .before .before .before .before .before .before .before .before .before .before .table-names .ensures .is; columns-are = c .before .before .before .before .before .before .before .before .column-records .ensures; keys-are = c .before .before .before .before .before .before .before .before .before .before .primary-keys .ensures .is }, c .before .before .before .before .before .before .before .before .before .before .before .before .before .before .before .before .before .before .before .before .before .before .before .before .pre .1 .1)))
 
 same-length : tie.Need-same-length
 same-length c = c .before .before .before .before .before .before .before .before .before .before .run-with .kept .1 .1 .1 .0

@@ -20,7 +20,7 @@ same-length : tie.Need-same-length
 same-length c = c .before .before .put .kept .0
 
 returns-2 : tie.Need-returns-2
-returns-2 c = rejoin-none (c .before .before .before .before .before .before .before .if1 .left) (c .before .before .before .before .before .before .cell-at .ensures) (c .before .before .before .before .before .if2 .taken) (c .before .before .put .ensures)
+returns-2 c = rejoin-none (c .before .before .before .before .before .before .before .if1 .left) (c .before .before .before .before .before .before .cell-at .ensures) (c .before .before .before .before .before .if2 .taken) (c .before .before .put .ensures .0)
 
 put-requires-2 : tie.Need-put-requires-2
 put-requires-2 c κs = search needs
@@ -29,7 +29,7 @@ same-length-2 : tie.Need-same-length-2
 same-length-2 c = c .before .before .put2 .kept .0
 
 returns-3 : tie.Need-returns-3
-returns-3 c = rejoin-some (c .before .before .before .before .before .before .if1 .left) (c .before .before .before .before .before .cell-at .ensures) (c .before .before .before .before .if2 .left) (c .before .before .put2 .ensures)
+returns-3 c = rejoin-some (c .before .before .before .before .before .before .if1 .left) (c .before .before .before .before .before .cell-at .ensures) (c .before .before .before .before .if2 .left) (c .before .before .put2 .ensures .0)
 
 pub rejoin-spec : {M : Type 1} → statement M
 rejoin-spec =

@@ -26,7 +26,7 @@ abbrev μ-loop : tie.MeasureT-loop
 μ-loop s count i₀ i = count - i
 
 parts-of-requires : tie.Need-parts-of-requires Inv-loop μ-loop
-parts-of-requires c κs = c .before .pre
+parts-of-requires c κs = c .before .pre .0
 
 loop-holds : tie.Need-loop-holds Inv-loop μ-loop
 loop-holds c = (ap (λ (p : Parts). p .cells .count) (c .parts-of .ensures .is), none-yet (c .before .before .args .s .now))
@@ -38,7 +38,7 @@ target-number-requires : tie.Need-target-number-requires Inv-loop μ-loop
 target-number-requires c κs = search needs
 
 repeated-from-requires : tie.Need-repeated-from-requires Inv-loop μ-loop
-repeated-from-requires c κs = (c .before .before .before .before .before .before .before .pre, c .before .before .before .before .loop .inv .1)
+repeated-from-requires c κs = (c .before .before .before .before .before .before .before .pre .0, c .before .before .before .before .loop .inv .1)
 
 returns : tie.Need-returns Inv-loop μ-loop
 returns c = c .repeated-from .ensures
