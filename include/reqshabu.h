@@ -1,4 +1,8 @@
-/* Reqshabu: plan sheets, checked and optimized. Link target/staticlib/libreqshabu.a, which `rt staticlib reqshabu` makes. */
+/* Reqshabu: query plans as sheets of bytes, checked and optimized. FORMAT.md describes the sheet and lists the refusals (docs/FORMAT.md in the source tree,
+ * share/doc/reqshabu/FORMAT.md where it is installed).
+ *
+ * Link libreqshabu.a: `make install PREFIX=...` installs it with a pkg-config file (`cc use.c $(pkg-config --cflags --libs reqshabu)`); in the source tree
+ * `make` writes it to target/install. */
 #ifndef REQSHABU_H
 #define REQSHABU_H
 
@@ -9,8 +13,21 @@
 extern "C" {
 #endif
 
-/* What an operation returns. number is 0, or the number of a refusal of document 01's table; place is where (0 on success). On a refusal
- * length, cells and columns are 0. */
+/* The version, said here and taken from here for the archive, the command, its manual page and the pkg-config file. The first number rises when a caller has
+ * to change, the second when something is added. (Before 1.0.0, see "What will change" below.) */
+#define REQSHABU_VERSION "0.2.0"
+
+/* Rises by one whenever the prototypes or the answer below change, and with nothing else: `#if REQSHABU_INTERFACE >= 2`. */
+#define REQSHABU_INTERFACE 1
+
+/* The version of the archive that is linked, to be compared with the header's. Archives made by `make` have it; the bare one of `rt staticlib` hasn't. */
+extern const char reqshabu_version[];
+
+/* The bytes of the largest sheet: an output of so many is always enough. */
+#define REQSHABU_LARGEST_SHEET 45332
+
+/* What an operation returns. number is 0, or the number of a refusal (FORMAT.md, Refusals); place is where (0 on success). On a refusal length, cells
+ * and columns are 0. */
 typedef struct reqshabu_answer {
     uint64_t number;
     uint64_t place;
@@ -30,6 +47,39 @@ reqshabu_answer plan_pass(const uint8_t *sheet, size_t length, size_t pass, uint
 
 /* All five passes in turn, likewise. */
 reqshabu_answer plan_optimize(const uint8_t *sheet, size_t length, uint8_t *output, size_t capacity);
+
+/* The three keep no state and allocate nothing, so they may be called from several threads at once. 1 MiB of stack is enough for every sheet. */
+
+/* What will change
+ *
+ * Requests to come add a mode, a mark and a summary to these operations, and operations beside them. What they will look like is settled now, so that a caller
+ * changes once, from interface 1 to interface 2. Version 1.0.0 is the first with interface 2; until then the versions 0.x keep interface 1, and add to it at
+ * most. Between the two there is no third: a tree in which only some of these requests have landed isn't released. A caller may write both calls today, the
+ * second behind `#if REQSHABU_INTERFACE >= 2`.
+ *
+ * Interface 2:
+ *
+ *   typedef struct reqshabu_answer { uint64_t number, place, length, cells, columns, mark; } reqshabu_answer;
+ *
+ *   reqshabu_answer plan_check   (const uint8_t *sheet, size_t length,                                                             uint64_t *summary, size_t entries);
+ *   reqshabu_answer plan_pass    (const uint8_t *sheet, size_t length, size_t mode, size_t pass, uint8_t *output, size_t capacity, uint64_t *summary, size_t entries);
+ *   reqshabu_answer plan_optimize(const uint8_t *sheet, size_t length, size_t mode,              uint8_t *output, size_t capacity, uint64_t *summary, size_t entries);
+ *   reqshabu_answer plan_profile (const uint8_t *sheet, size_t length);
+ *   reqshabu_answer plan_convert (const uint8_t *sheet, size_t length, size_t edition,           uint8_t *output, size_t capacity);
+ *   reqshabu_answer plan_compact (const uint8_t *sheet, size_t length,                           uint8_t *output, size_t capacity);
+ *   reqshabu_answer plan_condition(const uint8_t *text, size_t length,                           uint8_t *output, size_t capacity);
+ *   reqshabu_answer plan_read    (const uint8_t *sheet, size_t length, const uint8_t *tables, size_t tables_length, uint8_t *output, size_t capacity);
+ *
+ * - Order of arguments: what is read, then the numbers that choose, in the order in which they are judged (a mode that isn't there is refused before a pass
+ *   that isn't there), then what is written, the sheet before the summary. Each pointer is followed by its length: bytes, or entries of the summary.
+ * - mode (W-204): 0 plain, as toyDB does and as interface 1 does; 1 house. With mode 0 and a summary of 256 entries the answers and the sheets are those of
+ *   interface 1, but for the mark.
+ * - mark and summary (W-213): the mark is 0 on a refusal and from operations that have none. summary gets an entry for each column record; it needs as many
+ *   entries as there are column records, at most 256, and may be NULL where there are none.
+ * - plan_profile (W-202) answers as plan_check. plan_convert (W-209), plan_compact (W-212) and plan_condition (W-211) write as plan_pass does.
+ * - plan_read (W-206) is in an archive of its own, libreqshabu_read.a, with a header of its own, reqshabu_read.h: a gateway that only optimizes doesn't link it.
+ * - The answer is the same struct everywhere. New refusal numbers may be added in any version: treat a number that you don't know as a refusal.
+ */
 
 #ifdef __cplusplus
 }

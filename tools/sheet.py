@@ -1,26 +1,64 @@
 #!/usr/bin/env python3
-"""Builds and lists plan sheets (document 01, "The sheet").
+"""Builds plan sheets, and lists their cells. docs/FORMAT.md describes the sheet.
 
-A plan is built from functions named as in toyDB and document 01:
+A plan is built from functions named as toyDB names its nodes and operators:
 
     from sheet import *
     modems = Table("modems", key=0, columns=[Column("id", INTEGER), Column("tier", STRING, index=True)])
     plan = Filter(Scan(modems), Equal(column(1), string("gold")))
     open("gold.sheet", "wb").write(sheet(plan, tables=[modems]))
 
-`sheet` collects the text of all names and strings, writes the records and the plan's cells in postfix order, and
-adds the trailer. It checks nothing: a plan that is out of scope gives a sheet that the checker refuses, which is how
-the examples of refusals are made. For sheets that no plan gives, `pack` writes any cells and parts.
+`sheet` collects the text of all names and strings, writes the records and the plan's cells, children before their parent,
+and adds the trailer. Text is str, which becomes UTF-8, or bytes, which stay as they are.
+
+What the functions take, in toyDB's order:
+
+    constants    null()  boolean(b)  integer(i)  float64(x)  float_bits(bits)  string(s)
+    columns      column(i), counted from 0 in the row that the expression is about
+    operators    And Or Equal GreaterThan LessThan Add Divide (l, r); Not IsNull IsNaN Identity Negate (x)
+    nodes        Scan(table, predicate=None, alias=None)             KeyLookup(table, constants, alias=None)
+                 IndexLookup(table, column_number, constants, alias=None)
+                 Filter(source, predicate)                           Projection(source, Item(..), ..)
+                 NestedLoopJoin(left, right, predicate=None, outer=False)
+                 HashJoin(left, left_column, right, right_column, outer=False)
+                 Aggregate(source, group_by, aggregates)             Order(source, Key(..), ..)
+                 Limit(source, limit)                                Offset(source, offset)
+                 Remap(source, Target(..), ..)                       Values(Row(..), ..)
+                 Nothing(Label(..), ..)
+    their parts  Item(expression, label=None)  Key(expression, descending=False)  Target(to=None)  Row(expression, ..)
+                 Agg(function, expression), the function one of "avg", "count", "max", "min", "sum", or its number from 0
+                 Label(label=None)
+    a label      None, a name, or a pair of a qualifier and a name
+
+Numbers that a cell can't hold are a ValueError or a struct.error. Otherwise nothing is checked: a plan that is out of scope
+gives a sheet that the checker refuses, which is how the examples of refusals are made. For sheets that no plan gives, `pack`
+writes any cells and parts. `lines` gives a sheet's cells as text.
 
 On the command line:
 
     python3 tools/sheet.py list FILE      prints the cells of a sheet, one line each: number tag flag a b c
+
+examples/make.py builds the examples with it; tests/builder tries every function.
 """
 import struct
 import sys
 
+# A column's kind.
 BOOLEAN, INTEGER, FLOAT, STRING = range(4)
+# An Agg's functions, in toyDB's order.
+FUNCTIONS = ("avg", "count", "max", "min", "sum")
+# The one NaN that a sheet may hold.
 NAN = 0x7FF8000000000000
+
+# The tag of each sort of cell.
+TAGS = {
+    "Null": 1, "Boolean": 2, "Integer": 3, "Float": 4, "String": 5, "Column": 6,
+    "And": 10, "Or": 11, "Equal": 12, "GreaterThan": 13, "LessThan": 14, "Add": 15, "Divide": 16,
+    "Not": 30, "IsNull": 31, "IsNaN": 32, "Identity": 33, "Negate": 34,
+    "Label": 40, "Item": 41, "Key": 42, "Target": 43, "Agg": 44, "Row": 45,
+    "Aggregate": 50, "Filter": 51, "HashJoin": 52, "IndexLookup": 53, "KeyLookup": 54, "Limit": 55, "NestedLoopJoin": 56,
+    "Nothing": 57, "Offset": 58, "Order": 59, "Projection": 60, "Remap": 61, "Scan": 62, "Values": 63,
+}
 
 # ---- bytes
 
@@ -31,10 +69,12 @@ def cell(tag, flag=0, a=0, b=0, c=0, zeros=0):
 
 
 def table_record(name, first, count, key):
+    """The 16 bytes of a table: its name's text reference, its first column record, how many it has, and which is the key."""
     return struct.pack("<4I", name, first, count, key)
 
 
 def column_record(name, kind, index):
+    """The 16 bytes of a column: its name's text reference, its kind, and whether it has an index."""
     return struct.pack("<IBB10x", name, kind, index)
 
 
@@ -50,18 +90,23 @@ def pack(cells, text=b"", tables=b"", columns=b"", edition=1, length=None):
 
 
 class Tree:
-    """A cell and its children. Fields may be numbers, or text (bytes or str), which becomes a reference."""
+    """A cell and its children. The tag is a number or a name of TAGS; the fields may be numbers, text (bytes or str), which becomes a reference,
+    or a Table, which becomes its number."""
 
     def __init__(self, tag, children=(), flag=0, a=0, b=0, c=0):
-        self.tag, self.children, self.flag, self.a, self.b, self.c = tag, list(children), flag, a, b, c
+        self.tag, self.children, self.flag, self.a, self.b, self.c = TAGS.get(tag, tag), list(children), flag, a, b, c
 
 
 class Column:
+    """A table's column: its name, its kind (BOOLEAN, INTEGER, FLOAT or STRING), and whether it has an index."""
+
     def __init__(self, name, kind, index=False):
         self.name, self.kind, self.index = name, kind, index
 
 
 class Table:
+    """A table: its name, the number of its key column, and its columns."""
+
     def __init__(self, name, key, columns):
         self.name, self.key, self.columns = name, key, columns
 
@@ -73,16 +118,19 @@ class Texts:
         self.bytes = b""
 
     def reference(self, text):
+        """A text's reference, offset + 65,536 × length; the text is added unless it stands there."""
         text = text.encode() if isinstance(text, str) else text
         at = self.bytes.find(text)
         if at < 0:
             at = len(self.bytes)
             self.bytes += text
+        if at > 0xFFFF or len(text) > 0xFFFF:
+            raise ValueError("a text that no reference reaches: a sheet has at most 8,192 bytes of text")
         return at + 65536 * len(text)
 
 
 def sheet(plan, tables=()):
-    """The sheet of a plan over these tables."""
+    """The sheet of a plan over these tables. Each table that the plan names must be among them."""
     texts, cells = Texts(), []
     tables = list(tables)
 
@@ -111,85 +159,92 @@ def sheet(plan, tables=()):
 
 
 def halves(n):
+    """A 64-bit number, signed or not, as its low and its high half."""
+    if not -(2**63) <= n < 2**64:
+        raise ValueError(f"{n} has over 64 bits")
     return {"a": n & 0xFFFFFFFF, "b": n >> 32 & 0xFFFFFFFF}
 
 
 # Constants and columns.
 def null():
-    return Tree(1)
+    return Tree("Null")
 
 
 def boolean(b):
-    return Tree(2, a=int(b))
+    return Tree("Boolean", a=int(b))
 
 
 def integer(i):
-    return Tree(3, **halves(i))
+    if not -(2**63) <= i < 2**63:
+        raise ValueError(f"{i} is no 64-bit Integer")
+    return Tree("Integer", **halves(i))
 
 
 def float_bits(bits):
-    return Tree(4, **halves(bits))
+    """A Float by its 64 bits."""
+    return Tree("Float", **halves(bits))
 
 
 def float64(x):
+    """A Float; every NaN is written as the one that a sheet may hold."""
     return float_bits(NAN if x != x else struct.unpack("<Q", struct.pack("<d", x))[0])
 
 
 def string(s):
-    return Tree(5, a=s)
+    return Tree("String", a=s)
 
 
 def column(i):
-    return Tree(6, a=i)
+    return Tree("Column", a=i)
 
 
 # Operators.
 def And(l, r):
-    return Tree(10, [l, r])
+    return Tree("And", [l, r])
 
 
 def Or(l, r):
-    return Tree(11, [l, r])
+    return Tree("Or", [l, r])
 
 
 def Equal(l, r):
-    return Tree(12, [l, r])
+    return Tree("Equal", [l, r])
 
 
 def GreaterThan(l, r):
-    return Tree(13, [l, r])
+    return Tree("GreaterThan", [l, r])
 
 
 def LessThan(l, r):
-    return Tree(14, [l, r])
+    return Tree("LessThan", [l, r])
 
 
 def Add(l, r):
-    return Tree(15, [l, r])
+    return Tree("Add", [l, r])
 
 
 def Divide(l, r):
-    return Tree(16, [l, r])
+    return Tree("Divide", [l, r])
 
 
 def Not(x):
-    return Tree(30, [x])
+    return Tree("Not", [x])
 
 
 def IsNull(x):
-    return Tree(31, [x])
+    return Tree("IsNull", [x])
 
 
 def IsNaN(x):
-    return Tree(32, [x])
+    return Tree("IsNaN", [x])
 
 
 def Identity(x):
-    return Tree(33, [x])
+    return Tree("Identity", [x])
 
 
 def Negate(x):
-    return Tree(34, [x])
+    return Tree("Negate", [x])
 
 
 # Parts. A label is None, a name, or a pair of a qualifier and a name.
@@ -202,87 +257,88 @@ def labelled(tag, children, label):
 
 
 def Label(label=None):
-    return labelled(40, [], label)
+    return labelled("Label", [], label)
 
 
 def Item(expression, label=None):
-    return labelled(41, [expression], label)
+    return labelled("Item", [expression], label)
 
 
 def Key(expression, descending=False):
-    return Tree(42, [expression], int(descending))
+    return Tree("Key", [expression], int(descending))
 
 
 def Target(to=None):
-    return Tree(43) if to is None else Tree(43, flag=1, a=to)
+    """Where a source column goes: to this column, or nowhere."""
+    return Tree("Target") if to is None else Tree("Target", flag=1, a=to)
 
 
 def Agg(function, expression):
-    return Tree(44, [expression], function)
+    return Tree("Agg", [expression], function if isinstance(function, int) else FUNCTIONS.index(function))
 
 
 def Row(*expressions):
-    return Tree(45, expressions, a=len(expressions))
+    return Tree("Row", expressions, a=len(expressions))
 
 
 # Nodes.
 def Aggregate(source, group_by, aggregates):
-    return Tree(50, [source, *group_by, *aggregates], a=len(group_by), b=len(aggregates))
+    return Tree("Aggregate", [source, *group_by, *aggregates], a=len(group_by), b=len(aggregates))
 
 
 def Filter(source, predicate):
-    return Tree(51, [source, predicate])
+    return Tree("Filter", [source, predicate])
 
 
 def HashJoin(left, left_column, right, right_column, outer=False):
-    return Tree(52, [left, right], int(outer), a=left_column, b=right_column)
+    return Tree("HashJoin", [left, right], int(outer), a=left_column, b=right_column)
 
 
 def IndexLookup(table, column_number, constants, alias=None):
     c = column_number + 65536 * len(constants)
-    return Tree(53, constants, int(alias is not None), a=table, b=0 if alias is None else alias, c=c)
+    return Tree("IndexLookup", constants, int(alias is not None), a=table, b=0 if alias is None else alias, c=c)
 
 
 def KeyLookup(table, constants, alias=None):
-    return Tree(54, constants, int(alias is not None), a=table, b=0 if alias is None else alias, c=len(constants))
+    return Tree("KeyLookup", constants, int(alias is not None), a=table, b=0 if alias is None else alias, c=len(constants))
 
 
 def Limit(source, limit):
-    return Tree(55, [source], **halves(limit))
+    return Tree("Limit", [source], **halves(limit))
 
 
 def NestedLoopJoin(left, right, predicate=None, outer=False):
     children = [left, right] if predicate is None else [left, right, predicate]
-    return Tree(56, children, int(predicate is not None) + 2 * int(outer))
+    return Tree("NestedLoopJoin", children, int(predicate is not None) + 2 * int(outer))
 
 
 def Nothing(*labels):
-    return Tree(57, labels, a=len(labels))
+    return Tree("Nothing", labels, a=len(labels))
 
 
 def Offset(source, offset):
-    return Tree(58, [source], **halves(offset))
+    return Tree("Offset", [source], **halves(offset))
 
 
 def Order(source, *keys):
-    return Tree(59, [source, *keys], a=len(keys))
+    return Tree("Order", [source, *keys], a=len(keys))
 
 
 def Projection(source, *items):
-    return Tree(60, [source, *items], a=len(items))
+    return Tree("Projection", [source, *items], a=len(items))
 
 
 def Remap(source, *targets):
-    return Tree(61, [source, *targets], a=len(targets))
+    return Tree("Remap", [source, *targets], a=len(targets))
 
 
 def Scan(table, predicate=None, alias=None):
     flag = int(predicate is not None) + 2 * int(alias is not None)
-    return Tree(62, [] if predicate is None else [predicate], flag, a=table, b=0 if alias is None else alias)
+    return Tree("Scan", [] if predicate is None else [predicate], flag, a=table, b=0 if alias is None else alias)
 
 
 def Values(*rows):
-    return Tree(63, rows, a=len(rows))
+    return Tree("Values", rows, a=len(rows))
 
 
 # ---- listing

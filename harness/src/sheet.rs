@@ -22,6 +22,10 @@ pub enum Texts {
     Tagged,
     /// With the reference behind them, but bare where folding compares them.
     TaggedForFolding,
+    /// As they are, but names on one line: what can't be seen is escaped in
+    /// them as `escape_debug` does it in a string, which is how the command
+    /// prints names.
+    OnOneLine,
 }
 
 /// An open tree on the decoder's stack.
@@ -74,6 +78,19 @@ pub fn decode(bytes: &[u8], texts: Texts) -> Option<Node> {
     Some(decoder.node())
 }
 
+/// A name without characters that `escape_debug` would escape behind a letter,
+/// quotes and backslashes aside.
+fn on_one_line(name: &str) -> String {
+    let mut line = String::new();
+    for c in name.chars() {
+        match c {
+            '"' | '\'' | '\\' => line.push(c),
+            _ => line.push_str(&String::from_iter(['a', c]).escape_debug().to_string()[1..]),
+        }
+    }
+    line
+}
+
 struct Decoder<'a> {
     text: &'a [u8],
     texts: Texts,
@@ -87,7 +104,16 @@ impl Decoder<'_> {
         Some(match self.texts {
             Texts::Bare => text.to_string(),
             Texts::Tagged | Texts::TaggedForFolding => format!("{text}\0{reference}"),
+            Texts::OnOneLine => on_one_line(text),
         })
+    }
+
+    /// A String's text, which toyDB escapes itself when it prints it.
+    fn constant(&self, reference: u32) -> Option<String> {
+        if self.texts != Texts::OnOneLine {
+            return self.string(reference);
+        }
+        Some(std::str::from_utf8(text_of(self.text, reference)).ok()?.to_string())
     }
 
     fn expr(&mut self) -> Expression {
@@ -144,7 +170,7 @@ impl Decoder<'_> {
             tag::BOOLEAN => Open::Expr(Value::Boolean(a == 1).into()),
             tag::INTEGER => Open::Expr(Value::Integer(amount as u64 as i64).into()),
             tag::FLOAT => Open::Expr(Value::Float(f64::from_bits(amount as u64)).into()),
-            tag::STRING => Open::Expr(Value::String(self.string(a)?).into()),
+            tag::STRING => Open::Expr(Value::String(self.constant(a)?).into()),
             tag::COLUMN => Open::Expr(Expression::Column(a as usize)),
             tag::AND..=tag::DIVIDE => {
                 let rhs = Box::new(self.expr());

@@ -8,7 +8,7 @@ use harness::compare::{self, Settled};
 use harness::original;
 use harness::promise::{self, Case};
 use harness::rng::Rng;
-use harness::{check, damage, extremes, generate, model, tree, vectors, worked};
+use harness::{check, damage, extremes, generate, model, sheet, tree, vectors, worked};
 
 fn main() {
     original::silence_panics();
@@ -20,6 +20,7 @@ fn main() {
         Some("self") => compare_many(number(1), number(2)),
         Some("answer") => answer(),
         Some("listing") => listing(),
+        Some("explain") => explain(),
         Some("sheets") => sheets(number(1), number(2), false),
         Some("damaged") => sheets(number(1), number(2), true),
         Some("extremes") if args.len() == 1 => write_extremes(),
@@ -34,7 +35,7 @@ fn main() {
 
 fn usage() -> ! {
     eprintln!(
-        "usage: oracle worked | self N SEED | answer | listing | sheets N SEED | damaged N SEED | \
+        "usage: oracle worked | self N SEED | answer | listing | explain | sheets N SEED | damaged N SEED | \
          extremes | extremes show | counts N SEED | values SEED N | rows N SEED"
     );
     exit(2);
@@ -95,6 +96,29 @@ fn listing() -> bool {
         }
         number => println!("refused {number} place {}", answer.place),
     }
+    true
+}
+
+/// `explain`: how toyDB prints the plan of a sheet on standard input, as it is
+/// and as all five passes leave it; names are on one line (sheet.rs).
+fn explain() -> bool {
+    let mut bytes = Vec::new();
+    if std::io::stdin().lock().take(45_333).read_to_end(&mut bytes).is_err() {
+        return false;
+    }
+    let show = |title: &str, answer: check::Answer, bytes: &[u8]| {
+        println!("{title}");
+        match answer.number {
+            0 => match sheet::decode(bytes, sheet::Texts::OnOneLine) {
+                Some(node) => println!("{node}"),
+                None => println!("no UTF-8"),
+            },
+            number => println!("refused {number} place {}", answer.place),
+        }
+    };
+    show("handed in", check::check(&bytes), &bytes);
+    let (answer, out) = model::all_five(&bytes, 45_332);
+    show("optimized", answer, &out);
     true
 }
 

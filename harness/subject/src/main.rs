@@ -12,10 +12,12 @@
 //!     subject rubbish N SEED           damaged sheets through all three operations
 //!     subject limits [KIB]             sheets at the limits, on a thread with so much stack (1024)
 //!     subject rows N SEED              the six plans that the library hands out, read over random tables
+//!     subject explain N SEED           the trees that `reqshabu explain` prints beside toyDB's own
 //!     subject bench-all                all five passes beside the compiled Rust's `optimize`
 //!     subject bench-random N SEED      the same on N random accepted sheets: how the ratios are spread
 //!     subject bench-least              plans on which a copy of the sheet alone takes longer than the Rust's `optimize`
 mod bench;
+mod explain;
 mod operations;
 
 use std::collections::BTreeMap;
@@ -118,6 +120,10 @@ fn main() {
         Some("rubbish") => operations::damaged(number(1), number(2)),
         Some("limits") => operations::at_limits(words.get(1).map_or(1024, |_| number(1))),
         Some("rows") => operations::rows(number(1), number(2)),
+        Some("explain") => {
+            let (n, seed) = (number(1), number(2));
+            original::on_deep_stack(move || explain::explain(n, seed))
+        }
         Some("bench-all") => original::on_deep_stack(bench::bench),
         Some("bench-least") => original::on_deep_stack(bench::least),
         Some("bench-random") => {
@@ -125,7 +131,7 @@ fn main() {
             original::on_deep_stack(move || bench::random(n, seed))
         }
         _ => {
-            eprintln!("subject damaged | accepted | operations | capacities | rubbish | rows | bench-random N SEED, or bench | bench-all | bench-least | limits");
+            eprintln!("subject damaged | accepted | operations | capacities | rubbish | rows | explain | bench-random N SEED, or bench | bench-all | bench-least | limits");
             false
         }
     };

@@ -1,5 +1,44 @@
-//! Plan sheets, checked and optimized by a proved library. The functions here are safe: nothing is required of the caller.
+//! Plan sheets, checked and optimized by a proved library.
+//!
+//! A *sheet* is a query plan as bytes (docs/FORMAT.md in the source tree describes it byte by byte). Three operations work on it: [`check`] says whether the
+//! bytes are a sheet, [`pass`] applies one pass of toyDB's optimizer, and [`optimize`] applies all five. They are safe and require nothing of the caller: any
+//! bytes get their answer, which is a sheet or a [`Refusal`], a number and a place that it prints in words.
+//!
+//! ```no_run
+//! # fn main() -> Result<(), Box<dyn std::error::Error>> {
+//! let sheet = std::fs::read("boot-file.sheet")?;
+//! let optimized = reqshabu::optimize_to_vec(&sheet)?;
+//! print!("{}", reqshabu::Plan::read(&optimized)?);
+//! # Ok(())
+//! # }
+//! ```
+//!
+//! `cargo run --example optimize -- FILE` in rust/reqshabu is that as a program. [`Plan`] reads a sheet for people: a tree as toyDB's EXPLAIN prints it, a
+//! graph, or a list of cells. It is tested, not proved.
+//!
+//! # What will be added
+//!
+//! The functions here keep their arguments. A mode (house or plain) and a summary of lookups, which requests to come bring, get functions of
+//! their own beside them, with the further arguments where include/reqshabu.h puts them; [`check`], [`pass`] and [`optimize`] then mean plain
+//! mode without a summary. [`Accepted`] and [`Written`] gain the mark: name the fields that you read, and end patterns by `..`.
 #![deny(missing_docs)]
+
+mod explain;
+mod plan;
+mod refusal;
+
+pub use explain::{Line, changed_lines};
+pub use plan::Plan;
+pub use refusal::Refusal;
+
+/// The version of the wrapper, the header and the command, which is said in include/reqshabu.h.
+pub const VERSION: &str = env!("REQSHABU_VERSION");
+
+/// The bytes of the largest sheet, and so of the largest output that an operation can need.
+pub const LARGEST_SHEET: usize = 45_332;
+
+/// The passes in the order in which [`optimize`] applies them, by toyDB's names: pass 1 is the first.
+pub const PASSES: [&str; 5] = ["ConstantFolding", "FilterPushdown", "IndexLookup", "HashJoin", "ShortCircuit"];
 
 mod raw {
     #[repr(C)]
@@ -17,15 +56,6 @@ mod raw {
         pub fn plan_pass(sheet: *const u8, length: usize, pass: usize, output: *mut u8, capacity: usize) -> Answer;
         pub fn plan_optimize(sheet: *const u8, length: usize, output: *mut u8, capacity: usize) -> Answer;
     }
-}
-
-/// Why a sheet is not accepted: a number of document 01's table, and a place.
-#[derive(Clone, Copy, Debug, PartialEq, Eq)]
-pub struct Refusal {
-    /// The refusal's number.
-    pub number: u64,
-    /// The record, the cell, or 0, as document 01's table says for the number.
-    pub place: u64,
 }
 
 /// What is known of an accepted sheet.
@@ -49,6 +79,12 @@ pub struct Written {
 }
 
 /// Checks a sheet.
+///
+/// ```
+/// let refusal = reqshabu::check(b"no sheet").unwrap_err();
+/// assert_eq!((refusal.number, refusal.place), (2, 0));
+/// assert!(refusal.to_string().starts_with("refused 2 place 0: "));
+/// ```
 pub fn check(sheet: &[u8]) -> Result<Accepted, Refusal> {
     // SAFETY: the pointer and the length are those of a live slice, and plan_check, whose proof requires nothing, reads within it.
     let answer = unsafe { raw::plan_check(sheet.as_ptr(), sheet.len()) };
@@ -65,8 +101,9 @@ fn written(answer: raw::Answer) -> Result<Written, Refusal> {
     }
 }
 
-/// One pass of the optimizer, 1 to 5: 1 folds constants, 2 pushes filters down, 3 looks up by key or index, 4 makes hash joins, 5 short-circuits. The sheet
-/// that it gives is written to the output's first bytes; the others stay. On a refusal no byte of the output changes.
+/// One pass of the optimizer, 1 to 5, by its number in [`PASSES`]: 1 folds constants, 2 pushes filters down, 3 looks up by key or index, 4 makes hash joins,
+/// 5 short-circuits. The sheet that it gives is written to the output's first bytes; the others stay. On a refusal no byte of the output changes.
+/// [`LARGEST_SHEET`] bytes are enough for every sheet; refusal 15 says in its place how many this one needs.
 pub fn pass(sheet: &[u8], pass: usize, output: &mut [u8]) -> Result<Written, Refusal> {
     // SAFETY: both slices are live and don't overlap, and plan_pass, whose proof requires nothing, stays within them.
     written(unsafe { raw::plan_pass(sheet.as_ptr(), sheet.len(), pass, output.as_mut_ptr(), output.len()) })
@@ -76,4 +113,23 @@ pub fn pass(sheet: &[u8], pass: usize, output: &mut [u8]) -> Result<Written, Ref
 pub fn optimize(sheet: &[u8], output: &mut [u8]) -> Result<Written, Refusal> {
     // SAFETY: both slices are live and don't overlap, and plan_optimize, whose proof requires nothing, stays within them.
     written(unsafe { raw::plan_optimize(sheet.as_ptr(), sheet.len(), output.as_mut_ptr(), output.len()) })
+}
+
+/// The sheet that an operation writes, in a vector of its length. Refusal 15 is never given: there is room for every sheet.
+fn to_vec(operation: impl FnOnce(&mut [u8]) -> Result<Written, Refusal>) -> Result<Vec<u8>, Refusal> {
+    let mut output = vec![0; LARGEST_SHEET];
+    let length = operation(&mut output)?.length as usize;
+    output.truncate(length);
+    output.shrink_to_fit();
+    Ok(output)
+}
+
+/// One pass, as [`pass`], with the sheet in a vector.
+pub fn pass_to_vec(sheet: &[u8], number: usize) -> Result<Vec<u8>, Refusal> {
+    to_vec(|output| pass(sheet, number, output))
+}
+
+/// All five passes, as [`optimize`], with the sheet in a vector.
+pub fn optimize_to_vec(sheet: &[u8]) -> Result<Vec<u8>, Refusal> {
+    to_vec(|output| optimize(sheet, output))
 }
