@@ -74,6 +74,39 @@ open_tiers = Projection(
 # .. WHERE m.mac = NULL, true for no row: Nothing, with the labels.
 no_modem = Projection(Filter(joined(), Equal(column(0), null())), Item(column(0)), Item(column(5), "boot"))
 
+# Edition 2, a number for each condition of a plan, as a gateway may number its rules: 1 and 2 are the tables, 100 the join with its
+# conditions 101 to 103, 300 and 400 two Filters, each with its condition. The Filters are merged, by an And from 400; the join is
+# split: on the left 102 and a half of 103 stand under an And from 100, the other half goes to the right.
+rules = marked_throughout(
+    400,
+    Filter(
+        marked_throughout(
+            300,
+            Filter(
+                marked_throughout(
+                    200,
+                    Limit(
+                        marked_throughout(
+                            100,
+                            NestedLoopJoin(
+                                marked(1, Scan(one)),
+                                marked(2, Scan(other)),
+                                And(
+                                    And(marked_throughout(101, Equal(A, B)), marked_throughout(102, GreaterThan(A, integer(1)))),
+                                    marked_throughout(103, Not(Or(LessThan(integer(9), A), Equal(B, integer(7))))),
+                                ),
+                            ),
+                        ),
+                        10,
+                    ),
+                ),
+                marked_throughout(301, LessThan(A, integer(8))),
+            ),
+        ),
+        marked_throughout(401, Equal(B, integer(6))),
+    ),
+)
+
 # Every tag that is carried over, once at least.
 every_tag = NestedLoopJoin(
     Remap(
@@ -161,6 +194,9 @@ examples = {
         "accepted cells 12 columns 4",
     ),
     "boot-file": (sheet(boot_file, [modems, tiers]), "accepted cells 19 columns 2"),
+    # The same in edition 2: the origin of each cell is its number.
+    "boot-file-2": (sheet(boot_file, [modems, tiers], edition=2), "accepted cells 19 columns 2"),
+    "rules-2": (sheet(rules, [one, other], edition=2), "accepted cells 28 columns 2"),
     "two-tiers": (sheet(two_tiers, [modems, tiers]), "accepted cells 23 columns 2"),
     "open-tiers": (sheet(open_tiers, [modems, tiers]), "accepted cells 20 columns 2"),
     "no-modem": (sheet(no_modem, [modems, tiers]), "accepted cells 15 columns 2"),
@@ -173,13 +209,15 @@ examples = {
     "room-cnf": (sheet(Scan(one, ors(8)), [one]), "accepted cells 32 columns 1"),
     # Refusals. The last word says 69 bytes, and there are 68.
     "refused-2": (pack([cell(3), cell(45, a=1), cell(63, a=1)], length=69), "refused 2 place 0"),
-    "refused-3": (pack([cell(3), cell(45, a=1), cell(63, a=1)], edition=2), "refused 3 place 0"),
+    "refused-3": (pack([cell(3), cell(45, a=1), cell(63, a=1)], edition=3), "refused 3 place 0"),
     # A part of 4 bytes where records of 16 stand.
     "refused-4": (pack([cell(57)], tables=b"\0\0\0\0"), "refused 4 place 0"),
     # The second record, the one column, has kind 4.
     "refused-5": (pack([cell(57)], b"", table_record(0, 0, 1, 0), column_record(0, 4, 0)), "refused 5 place 1"),
     # An unused field that is not 0.
     "refused-6": (pack([cell(57), cell(51, c=1)]), "refused 6 place 1"),
+    # An origin in edition 1.
+    "refused-6-origin": (pack([cell(57), cell(55, a=1, origin=7)]), "refused 6 place 1"),
     # Tag 18, Multiply, is known and not carried over.
     "refused-7": (pack([cell(3), cell(3), cell(18)]), "refused 7 place 2"),
     # The Row asks for two expressions, and one stands there.

@@ -26,6 +26,10 @@ extern const char reqshabu_version[];
 /* The bytes of the largest sheet: an output of so many is always enough. */
 #define REQSHABU_LARGEST_SHEET 45332
 
+/* A sheet is of edition 1 or 2 (FORMAT.md, Editions), and the sheet that an operation writes is of the same. The editions differ in bytes 2 and 3 of each cell:
+ * zeros in edition 1, in edition 2 the cell's origin, any number of 16 bits. A cell that is written has the origin of the cell of the sheet handed in that it came
+ * from (FORMAT.md, Origins); nothing else in an answer or a sheet depends on origins. */
+
 /* What an operation returns. number is 0, or the number of a refusal (FORMAT.md, Refusals); place is where (0 on success). On a refusal length, cells
  * and columns are 0. */
 typedef struct reqshabu_answer {

@@ -30,6 +30,14 @@ What the functions take, in toyDB's order:
                  Label(label=None)
     a label      None, a name, or a pair of a qualifier and a name
 
+`sheet(plan, tables, edition=2)` gives a sheet of edition 2, whose cells have origins, 16-bit numbers by which the cells of the
+optimized plan tell where they came from. A cell's origin is its own number, unless `marked` says another:
+
+    origins      marked(origin, tree): the same tree, its top cell with this origin
+                 marked_throughout(origin, tree): the same tree, each of its cells that has none yet with this origin
+
+`in_edition` turns a finished sheet into one of the other edition, and `origins` gives those of a sheet's cells.
+
 Numbers that a cell can't hold are a ValueError or a struct.error. Otherwise nothing is checked: a plan that is out of scope
 gives a sheet that the checker refuses, which is how the examples of refusals are made. For sheets that no plan gives, `pack`
 writes any cells and parts. `lines` gives a sheet's cells as text.
@@ -37,6 +45,7 @@ writes any cells and parts. `lines` gives a sheet's cells as text.
 On the command line:
 
     python3 tools/sheet.py list FILE      prints the cells of a sheet, one line each: number tag flag a b c
+    python3 tools/sheet.py origins FILE   prints the origins of its cells, one line each: number origin
 
 examples/make.py builds the examples with it; tests/builder tries every function.
 """
@@ -63,9 +72,9 @@ TAGS = {
 # ---- bytes
 
 
-def cell(tag, flag=0, a=0, b=0, c=0, zeros=0):
-    """The 16 bytes of one cell."""
-    return struct.pack("<BBHIII", tag, flag, zeros, a, b, c)
+def cell(tag, flag=0, a=0, b=0, c=0, origin=0):
+    """The 16 bytes of one cell. The origin is edition 2's; in edition 1 it has to be 0."""
+    return struct.pack("<BBHIII", tag, flag, origin, a, b, c)
 
 
 def table_record(name, first, count, key):
@@ -91,10 +100,11 @@ def pack(cells, text=b"", tables=b"", columns=b"", edition=1, length=None):
 
 class Tree:
     """A cell and its children. The tag is a number or a name of TAGS; the fields may be numbers, text (bytes or str), which becomes a reference,
-    or a Table, which becomes its number."""
+    or a Table, which becomes its number. The origin is a number, or None for the cell's own."""
 
-    def __init__(self, tag, children=(), flag=0, a=0, b=0, c=0):
+    def __init__(self, tag, children=(), flag=0, a=0, b=0, c=0, origin=None):
         self.tag, self.children, self.flag, self.a, self.b, self.c = TAGS.get(tag, tag), list(children), flag, a, b, c
+        self.origin = origin
 
 
 class Column:
@@ -129,8 +139,8 @@ class Texts:
         return at + 65536 * len(text)
 
 
-def sheet(plan, tables=()):
-    """The sheet of a plan over these tables. Each table that the plan names must be among them."""
+def sheet(plan, tables=(), edition=1):
+    """The sheet of a plan over these tables. Each table that the plan names must be among them. In edition 2 each cell has its origin."""
     texts, cells = Texts(), []
     tables = list(tables)
 
@@ -151,11 +161,32 @@ def sheet(plan, tables=()):
     while todo:
         tree, ready = todo.pop()
         if ready:
-            cells.append(cell(tree.tag, tree.flag, field(tree.a), field(tree.b), field(tree.c)))
+            origin = 0 if edition == 1 else len(cells) if tree.origin is None else tree.origin
+            if edition == 1 and tree.origin is not None:
+                raise ValueError("a tree that is marked: edition 1 has no origins")
+            cells.append(cell(tree.tag, tree.flag, field(tree.a), field(tree.b), field(tree.c), origin))
         else:
             todo.append((tree, True))
             todo += [(child, False) for child in reversed(tree.children)]
-    return pack(cells, texts.bytes, table_bytes, column_bytes)
+    return pack(cells, texts.bytes, table_bytes, column_bytes, edition)
+
+
+def marked(origin, tree):
+    """The tree, its top cell with this origin. The tree handed in stays as it is."""
+    if not 0 <= origin < 65536:
+        raise ValueError(f"{origin} is no 16-bit origin")
+    return Tree(tree.tag, tree.children, tree.flag, tree.a, tree.b, tree.c, origin)
+
+
+def marked_throughout(origin, tree):
+    """The tree, each of its cells that has no origin yet with this one."""
+    top = marked(origin, tree) if tree.origin is None else marked(tree.origin, tree)
+    todo = [top]
+    while todo:
+        here = todo.pop()
+        here.children = [marked(origin if child.origin is None else child.origin, child) for child in here.children]
+        todo += here.children
+    return top
 
 
 def halves(n):
@@ -341,19 +372,43 @@ def Values(*rows):
     return Tree("Values", rows, a=len(rows))
 
 
-# ---- listing
+# ---- finished sheets
+
+
+def cells_at(data):
+    """Where the cells of a sheet stand."""
+    return range(struct.unpack("<I", data[-12:-8])[0], len(data) - 20, 16)
 
 
 def lines(data):
     """The cells of a sheet: number tag flag a b c."""
-    start = struct.unpack("<I", data[-12:-8])[0]
-    for i, at in enumerate(range(start, len(data) - 20, 16)):
+    for i, at in enumerate(cells_at(data)):
         tag, flag, _, a, b, c = struct.unpack("<BBHIII", data[at:at + 16])
         yield f"{i} {tag} {flag} {a} {b} {c}"
 
 
+def edition_of(data):
+    """A sheet's edition."""
+    return struct.unpack("<I", data[-8:-4])[0]
+
+
+def origins(data):
+    """The origins of a sheet's cells; in edition 1 they are 0."""
+    return [struct.unpack("<H", data[at + 2:at + 4])[0] for at in cells_at(data)]
+
+
+def in_edition(data, edition, origin=lambda number: number):
+    """The sheet in this edition. In edition 2 each cell has the origin that the function gives for its number; in edition 1 none has one."""
+    out = bytearray(data)
+    for i, at in enumerate(cells_at(data)):
+        out[at + 2:at + 4] = struct.pack("<H", 0 if edition == 1 else origin(i))
+    out[-8:-4] = struct.pack("<I", edition)
+    return bytes(out)
+
+
 if __name__ == "__main__":
-    if len(sys.argv) != 3 or sys.argv[1] != "list":
+    if len(sys.argv) != 3 or sys.argv[1] not in ("list", "origins"):
         sys.exit(__doc__)
     with open(sys.argv[2], "rb") as f:
-        print("\n".join(lines(f.read())))
+        content = f.read()
+    print("\n".join(lines(content) if sys.argv[1] == "list" else [f"{i} {n}" for i, n in enumerate(origins(content))]))

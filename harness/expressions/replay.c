@@ -7,7 +7,7 @@
 #include <stdlib.h>
 #include <string.h>
 
-enum { CELLS = 2048, ROOM = 6 * CELLS };
+enum { CELLS = 2048, CELL_WORDS = 7, ROOM = CELL_WORDS * CELLS };
 
 struct folded {
     bool refused;
@@ -57,9 +57,9 @@ static size_t cells(size_t n, uint32_t *w) {
         open -= operands;
         if (operands == 0)
             start[open] = at;
-        w[at] = (uint32_t)tag, w[at + 1] = 0, w[at + 2] = (uint32_t)number(4), w[at + 3] = (uint32_t)number(4), w[at + 4] = 0;
-        w[at + 5] = (uint32_t)(at + 6 - start[open]);
-        at += 6;
+        w[at] = 0, w[at + 1] = (uint32_t)tag, w[at + 2] = 0, w[at + 3] = (uint32_t)number(4), w[at + 4] = (uint32_t)number(4), w[at + 5] = 0;
+        w[at + 6] = (uint32_t)(at + CELL_WORDS - start[open]);
+        at += CELL_WORDS;
         open++;
     }
     return at;

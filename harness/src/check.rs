@@ -47,12 +47,12 @@ enum Sort {
     Node,
 }
 
-/// A cell with its two bytes that must be zero.
+/// A cell with its origin, two bytes that must be zero in edition 1.
 #[derive(Clone, Copy)]
 struct Cell {
     tag: u8,
     flag: u8,
-    zeros: u16,
+    origin: u16,
     a: u32,
     b: u32,
     c: u32,
@@ -82,7 +82,8 @@ fn examine(bytes: &[u8]) -> Result<(u64, u64), (u64, usize)> {
         return Err((2, 0));
     }
     // 3: edition.
-    if word(bytes, length - 8) != 1 {
+    let edition = word(bytes, length - 8);
+    if edition != 1 && edition != 2 {
         return Err((3, 0));
     }
     // 4: parts.
@@ -141,7 +142,7 @@ fn examine(bytes: &[u8]) -> Result<(u64, u64), (u64, usize)> {
             Cell {
                 tag: r[0],
                 flag: r[1],
-                zeros: u16::from_le_bytes([r[2], r[3]]),
+                origin: u16::from_le_bytes([r[2], r[3]]),
                 a: word(r, 4),
                 b: word(r, 8),
                 c: word(r, 12),
@@ -152,7 +153,7 @@ fn examine(bytes: &[u8]) -> Result<(u64, u64), (u64, usize)> {
         if matches!(cell.tag, 17..=21 | 35 | 36) {
             return Err((7, i));
         }
-        if !whole(cell, text, tables) {
+        if (edition == 1 && cell.origin != 0) || !whole(cell, text, tables) {
             return Err((6, i));
         }
     }
@@ -209,10 +210,7 @@ fn examine(bytes: &[u8]) -> Result<(u64, u64), (u64, usize)> {
 /// range, references inside the text, tables that exist. Tags not carried are
 /// handled before.
 fn whole(cell: &Cell, text: usize, tables: usize) -> bool {
-    let Cell { tag, flag, zeros, a, b, c } = *cell;
-    if zeros != 0 {
-        return false;
-    }
+    let Cell { tag, flag, a, b, c, .. } = *cell;
     let none = flag == 0;
     let table = (a as usize) < tables;
     // A label's flag says which fields it uses.
@@ -447,8 +445,18 @@ mod tests {
         assert_eq!(said(&[0; 19]), (2, 0));
         let mut s = sheet(b"", &[], &[], &[[57, 0, 0, 0, 0]]);
         assert_eq!(said(&s), (0, 0));
-        s[28] = 2; // edition
-        assert_eq!(said(&s), (3, 0));
+        // Edition 2 has an origin in each cell, edition 1 zeros, and there is no edition 3 or 0.
+        s[28] = 2;
+        assert_eq!(said(&s), (0, 0));
+        s[3] = 7;
+        assert_eq!(said(&s), (0, 0));
+        s[28] = 1;
+        assert_eq!(said(&s), (6, 0));
+        s[3] = 0;
+        for edition in [0, 3] {
+            s[28] = edition;
+            assert_eq!(said(&s), (3, 0));
+        }
         assert_eq!(said(&sheet(b"", &[], &[], &[])), (4, 0));
         assert_eq!(said(&sheet(&[0; 8_193], &[], &[], &[[57, 0, 0, 0, 0]])), (4, 0));
         assert_eq!(said(&sheet(&[0; 8_192], &[], &[], &[[57, 0, 0, 0, 0]])), (0, 0));

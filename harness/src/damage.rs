@@ -12,6 +12,7 @@ struct Parts {
     tables: Vec<[u8; RECORD]>,
     columns: Vec<[u8; RECORD]>,
     cells: Vec<[u8; RECORD]>,
+    edition: usize,
 }
 
 impl Parts {
@@ -28,6 +29,7 @@ impl Parts {
             tables: records(&bytes[t..c]),
             columns: records(&bytes[c..l]),
             cells: records(&bytes[l..end]),
+            edition: word(bytes, end + 12) as usize,
         }
     }
 
@@ -40,7 +42,7 @@ impl Parts {
         let l = out.len();
         self.cells.iter().for_each(|r| out.extend(r));
         let total = out.len() + TRAILER;
-        [t, c, l, 1, total].iter().for_each(|&w| out.extend((w as u32).to_le_bytes()));
+        [t, c, l, self.edition, total].iter().for_each(|&w| out.extend((w as u32).to_le_bytes()));
         out
     }
 }

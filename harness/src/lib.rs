@@ -9,6 +9,7 @@ pub mod error;
 pub mod extremes;
 pub mod generate;
 pub mod model;
+pub mod origins;
 pub mod original;
 pub mod promise;
 pub mod rng;

@@ -18,6 +18,7 @@
 use std::rc::Rc;
 
 use crate::check::{self, Answer};
+use crate::origins;
 use crate::tree::{self, Expr, Label, Node, Op, Sheet, Table, Val, tag};
 use crate::value::{self, Fault};
 
@@ -101,10 +102,14 @@ pub fn all_five(bytes: &[u8], capacity: usize) -> (Answer, Vec<u8>) {
     operation(bytes, ALL, capacity)
 }
 
-fn operation(bytes: &[u8], pass: u32, capacity: usize) -> (Answer, Vec<u8>) {
+/// One pass or all five, whatever the bytes are.
+pub(crate) fn operation(bytes: &[u8], pass: u32, capacity: usize) -> (Answer, Vec<u8>) {
     let answer = check::check(bytes);
     if answer.number != 0 {
         return (answer, Vec::new());
+    }
+    if origins::edition(bytes) == 2 {
+        return origins::operation(bytes, pass, capacity);
     }
     let mut sheet = tree::decode(bytes);
     match optimize(&sheet, pass, DOCUMENT_01) {

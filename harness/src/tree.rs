@@ -259,7 +259,7 @@ pub struct Cell {
 }
 
 impl Cell {
-    /// Reads a cell. Its two zero bytes are the checker's business.
+    /// Reads a cell. Its origin, two zero bytes in edition 1, is for the checker and origins.rs.
     pub fn read(bytes: &[u8]) -> Cell {
         Cell {
             tag: bytes[0],
@@ -443,7 +443,7 @@ impl Reader {
 }
 
 /// The constant that a cell of tag 1 to 5 holds.
-fn constant(cell: &Cell) -> Val {
+pub fn constant(cell: &Cell) -> Val {
     let both = cell.a as u64 | (cell.b as u64) << 32;
     match cell.tag {
         tag::NULL => Val::Null,
@@ -462,6 +462,13 @@ fn label(cell: &Cell) -> Label {
         1 => Label::Unqualified(cell.a),
         _ => Label::Qualified(cell.a, cell.b),
     }
+}
+
+/// The cell of a constant.
+pub fn constant_cell(value: &Val) -> Cell {
+    let mut out = Vec::new();
+    put_value(&mut out, value);
+    out[0]
 }
 
 /// Writes a plan's cells, children first.

@@ -91,6 +91,7 @@ static void promises_of(long pass) {
     /* Bytes after the sheet stay, and what is written is accepted with the counts that were answered. */
     hold(a.place == 0 && a.length <= LARGEST && untouched(output + a.length, sizeof output - a.length), pass, "bytes after the sheet changed");
     hold(same(plan_check(output, a.length), (reqshabu_answer){0, 0, 0, a.cells, a.columns}), pass, "a sheet that is not accepted");
+    hold(word(output + a.length - 8) == word(sheet + length - 8), pass, "a sheet of another edition");
     /* The sheet's length is enough for the output. */
     fill(other);
     hold(same(run(pass, sheet, length, other, a.length), a), pass, "another answer in an output of just the sheet's length");

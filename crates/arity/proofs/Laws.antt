@@ -51,8 +51,8 @@ module _ {tag : ℕ} where
 
 -- ---- children
 
-abbrev it : (tag flag a b c zeros : ℕ) → Cell
-it tag flag a b c zeros = record { tag = tag; flag = flag; zeros = zeros; a = a; b = b; c = c }
+abbrev it : (tag flag a b c origin : ℕ) → Cell
+it tag flag a b c origin = record { tag = tag; flag = flag; origin = origin; a = a; b = b; c = c }
 
 -- what the reader for a tag says that a cell asks for
 abbrev asked-at : List ℕ → Cell → ℕ → Children
@@ -60,12 +60,12 @@ asked-at text x t = children-of (getD readers t no-cell text x)
 
 module _ {tag flag a b c : ℕ} where
   -- Cells with the tags from one on ask for the same children.
-  pub asked-by : (v : Children) (from n : ℕ) → ((text : List ℕ) (zeros : ℕ) → map (asked-at text (it tag flag a b c zeros)) (up-to from n) ≡ map (λ t. v) (up-to from n))
+  pub asked-by : (v : Children) (from n : ℕ) → ((text : List ℕ) (origin : ℕ) → map (asked-at text (it tag flag a b c origin)) (up-to from n) ≡ map (λ t. v) (up-to from n))
       → from ≤ tag → tag < from + n → v .nodes < 3 → {r : Children} → r ≡ v → Asked tag flag a b c r
   unfolding content-of
   asked-by v from n e h j k q =
       record {
-        is = λ text zeros. q ∙ sym (same-in (asked-at text (it tag flag a b c zeros)) (λ t. v) from n (e text zeros) tag h j);
+        is = λ text origin. q ∙ sym (same-in (asked-at text (it tag flag a b c origin)) (λ t. v) from n (e text origin) tag h j);
         few = rw q k;
       }
 
@@ -74,16 +74,16 @@ module _ {tag flag a b c : ℕ} where
   unfolding content-of
   unasked h q =
       record {
-        is = λ text zeros. q ∙ sym (ap (λ (r : Reader). children-of (r text (it tag flag a b c zeros))) (List·getD-eq-default readers no-cell {n = tag} h));
+        is = λ text origin. q ∙ sym (ap (λ (r : Reader). children-of (r text (it tag flag a b c origin))) (List·getD-eq-default readers no-cell {n = tag} h));
         few = rw q (omega arith);
       }
 
   -- a cell of one tag
-  pub asked-as : (t : ℕ) (v : Children) → ((text : List ℕ) (zeros : ℕ) → asked-at text (it tag flag a b c zeros) t ≡ v) → tag ≡ t → v .nodes < 3 → {r : Children} → r ≡ v → Asked tag flag a b c r
+  pub asked-as : (t : ℕ) (v : Children) → ((text : List ℕ) (origin : ℕ) → asked-at text (it tag flag a b c origin) t ≡ v) → tag ≡ t → v .nodes < 3 → {r : Children} → r ≡ v → Asked tag flag a b c r
   unfolding content-of
   asked-as t v e h k q =
       record {
-        is = λ text zeros. q ∙ sym (ap (asked-at text (it tag flag a b c zeros)) h ∙ e text zeros);
+        is = λ text origin. q ∙ sym (ap (asked-at text (it tag flag a b c origin)) h ∙ e text origin);
         few = rw q k;
       }
 
@@ -114,11 +114,11 @@ carried-rule : (text : List ℕ) (x : Cell) → is-carried (tag-of (x .tag)) ≡
 unfolding tag-of content-of
 carried-rule text x = same-at is-carried (λ (r : Reader). has-content (r text x)) tags readers unknown (λ t c. none) refl refl (x .tag)
 
-pub content-known : (text : List ℕ) (bytes tables : ℕ) (x : Cell) → cell-ok bytes tables x ≡ true → Known text x
+pub content-known : (text : List ℕ) (origins bytes tables : ℕ) (x : Cell) → cell-ok origins bytes tables x ≡ true → Known text x
 unfolding cell-ok
-content-known text bytes tables x e = some-content (content-of text x) refl (sym (carried-rule text x) ∙ tag-carried (tag-of (x .tag)) e)
+content-known text origins bytes tables x e = some-content (content-of text x) refl (sym (carried-rule text x) ∙ tag-carried (tag-of (x .tag)) e)
   where
-    tag-carried : (t : Tag) → (fields-ok bytes tables x t && float-ok x) ≡ true → is-carried t ≡ true
+    tag-carried : (t : Tag) → (fields-ok origins bytes tables x t && float-ok x) ≡ true → is-carried t ≡ true
     tag-carried unknown h = h
     tag-carried not-carried h = h
     tag-carried (carried flags a b c) h = refl

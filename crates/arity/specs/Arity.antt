@@ -92,5 +92,5 @@ pub record Sorted (tag r : ℕ) : Type 0 where
 
 -- r is what a cell with these fields asks for.
 pub record Asked (tag flag a b c : ℕ) (r : Children) : Type 0 where
-  pub is : (text : List ℕ) (zeros : ℕ) → r ≡ children-of (content-of text (record { tag = tag; flag = flag; zeros = zeros; a = a; b = b; c = c }))
+  pub is : (text : List ℕ) (origin : ℕ) → r ≡ children-of (content-of text (record { tag = tag; flag = flag; origin = origin; a = a; b = b; c = c }))
   pub few : r .nodes < 3

@@ -9,7 +9,7 @@ use mathlib.Core.List.{List, [], _∷_, _++_, append-assoc, append-nil}
 use lib.ListN.{length, take, drop, getD, set, length-append, length-set}
 use lib.Seq.{getD-append-add, take-suc, take-suc-set, take-at, drop-at}
 use Rattle.cells.specs.declared.Cell.{Cell}
-use Rattle.cells.specs.Cells.{words, sized, cell-at, tag-at, start-at, Part, Sized}
+use Rattle.cells.specs.Cells.{cell-words, words, sized, cell-at, tag-at, start-at, Part, Sized}
 use Rattle.cells.specs.Room.{Short, Wrote, Seals, Copies}
 
 -- parts
@@ -38,28 +38,28 @@ module _ {s : List ℕ} {lo hi : ℕ} {w : List ℕ} (p : Part s lo hi w) where
 
 -- a cell over the words of its children
 module _ {s : List ℕ} {lo hi : ℕ} (b : List ℕ) (k : Cell) (p : Part s lo hi (sized b k)) where
-  pub seam : lo + length b + 6 ≡ hi
-  seam = omega (arith, p .high, length-append b (words k (length b + 6)))
+  pub seam : lo + length b + cell-words ≡ hi
+  seam = omega (arith, p .high, length-append b (words k (length b + cell-words)))
 
-  pub body-part : Part s lo (hi - 6) b
-  body-part = let e : lo + length b ≡ hi - 6 = omega (arith, seam) in rw (← e) (part-left b (words k (length b + 6)) p)
+  pub body-part : Part s lo (hi - cell-words) b
+  body-part = let e : lo + length b ≡ hi - cell-words = omega (arith, seam) in rw (← e) (part-left b (words k (length b + cell-words)) p)
 
-  own : Part s (hi - 6) hi (words k (length b + 6))
-  own = let e : lo + length b ≡ hi - 6 = omega (arith, seam) in subst (λ (n : ℕ). Part s n hi (words k (length b + 6))) e (part-right b (words k (length b + 6)) p)
+  own : Part s (hi - cell-words) hi (words k (length b + cell-words))
+  own = let e : lo + length b ≡ hi - cell-words = omega (arith, seam) in subst (λ (n : ℕ). Part s n hi (words k (length b + cell-words))) e (part-right b (words k (length b + cell-words)) p)
 
-  pub cell-in : (lo + 6 ≤ hi) × (hi ≤ length s)
+  pub cell-in : (lo + cell-words ≤ hi) × (hi ≤ length s)
   cell-in = (omega (arith, seam), part-in p .1)
 
   pub cell-is : cell-at s hi ≡ k
   cell-is =
-      let h : 6 ≤ hi = omega (arith, seam) in
-      rw (part-word own (hi - 6) 0 (omega arith), part-word own (hi - 5) 1 (omega arith), part-word own (hi - 4) 2 (omega arith), part-word own (hi - 3) 3 (omega arith), part-word own (hi - 2) 4 (omega arith))
+      let h : cell-words ≤ hi = omega (arith, seam) in
+      rw (part-word own (hi - cell-words) 0 (omega arith), part-word own (hi - 6) 1 (omega arith), part-word own (hi - 5) 2 (omega arith), part-word own (hi - 4) 3 (omega arith), part-word own (hi - 3) 4 (omega arith), part-word own (hi - 2) 5 (omega arith))
 
   pub tag-is : tag-at s hi ≡ k .tag
   tag-is = ap (λ (x : Cell). x .tag) cell-is
 
-  long-is : getD s (hi - 1) 0 ≡ length b + 6
-  long-is = let h : 6 ≤ hi = omega (arith, seam) in part-word own (hi - 1) 5 (omega arith)
+  long-is : getD s (hi - 1) 0 ≡ length b + cell-words
+  long-is = let h : cell-words ≤ hi = omega (arith, seam) in part-word own (hi - 1) 6 (omega arith)
 
   pub start-is : start-at s hi ≡ lo
   start-is = omega (arith, seam, long-is)
@@ -122,39 +122,42 @@ wrote-up a h = a .is h .0
 one-more : (l : List ℕ) (i j a : ℕ) → j ≡ i + 1 → i < length l → take j (set l i a) ≡ take i l ++ (a ∷ [])
 one-more l i j a e h = ap (λ (n : ℕ). take n (set l i a)) (e ∙ add-one i) ∙ take-suc-set l i a h
 
-pub put6 : (d : List ℕ) (at t f a b c n : ℕ) → at + 6 ≤ length d
-    → take (at + 6) (set (set (set (set (set (set d at t) (at + 1) f) (at + 2) a) (at + 3) b) (at + 4) c) (at + 5) n) ≡ take at d ++ (t ∷ f ∷ a ∷ b ∷ c ∷ n ∷ [])
-put6 d at t f a b c n g =
-    let l₁ = set d at t in
-    let l₂ = set l₁ (at + 1) f in
-    let l₃ = set l₂ (at + 2) a in
-    let l₄ = set l₃ (at + 3) b in
-    let l₅ = set l₄ (at + 4) c in
-    one-more l₅ (at + 5) (at + 6) n (omega arith) (simp length-set (omega arith))
-    ∙ ap (λ (l : List ℕ). l ++ (n ∷ [])) (one-more l₄ (at + 4) (at + 5) c (omega arith) (simp length-set (omega arith)))
-    ∙ ap (λ (l : List ℕ). (l ++ (c ∷ [])) ++ (n ∷ [])) (one-more l₃ (at + 3) (at + 4) b (omega arith) (simp length-set (omega arith)))
-    ∙ ap (λ (l : List ℕ). ((l ++ (b ∷ [])) ++ (c ∷ [])) ++ (n ∷ [])) (one-more l₂ (at + 2) (at + 3) a (omega arith) (simp length-set (omega arith)))
-    ∙ ap (λ (l : List ℕ). (((l ++ (a ∷ [])) ++ (b ∷ [])) ++ (c ∷ [])) ++ (n ∷ [])) (one-more l₁ (at + 1) (at + 2) f (omega arith) (simp length-set (omega arith)))
-    ∙ ap (λ (l : List ℕ). ((((l ++ (f ∷ [])) ++ (a ∷ [])) ++ (b ∷ [])) ++ (c ∷ [])) ++ (n ∷ [])) (one-more d at (at + 1) t refl (omega arith))
+pub put7 : (d : List ℕ) (at o t f a b c n : ℕ) → at + cell-words ≤ length d
+    → take (at + cell-words) (set (set (set (set (set (set (set d at o) (at + 1) t) (at + 2) f) (at + 3) a) (at + 4) b) (at + 5) c) (at + 6) n)
+    ≡ take at d ++ (o ∷ t ∷ f ∷ a ∷ b ∷ c ∷ n ∷ [])
+put7 d at o t f a b c n g =
+    let l₁ = set d at o in
+    let l₂ = set l₁ (at + 1) t in
+    let l₃ = set l₂ (at + 2) f in
+    let l₄ = set l₃ (at + 3) a in
+    let l₅ = set l₄ (at + 4) b in
+    let l₆ = set l₅ (at + 5) c in
+    one-more l₆ (at + 6) (at + 7) n (omega arith) (simp length-set (omega arith))
+    ∙ ap (λ (l : List ℕ). l ++ (n ∷ [])) (one-more l₅ (at + 5) (at + 6) c (omega arith) (simp length-set (omega arith)))
+    ∙ ap (λ (l : List ℕ). (l ++ (c ∷ [])) ++ (n ∷ [])) (one-more l₄ (at + 4) (at + 5) b (omega arith) (simp length-set (omega arith)))
+    ∙ ap (λ (l : List ℕ). ((l ++ (b ∷ [])) ++ (c ∷ [])) ++ (n ∷ [])) (one-more l₃ (at + 3) (at + 4) a (omega arith) (simp length-set (omega arith)))
+    ∙ ap (λ (l : List ℕ). (((l ++ (a ∷ [])) ++ (b ∷ [])) ++ (c ∷ [])) ++ (n ∷ [])) (one-more l₂ (at + 2) (at + 3) f (omega arith) (simp length-set (omega arith)))
+    ∙ ap (λ (l : List ℕ). ((((l ++ (f ∷ [])) ++ (a ∷ [])) ++ (b ∷ [])) ++ (c ∷ [])) ++ (n ∷ [])) (one-more l₁ (at + 1) (at + 2) t (omega arith) (simp length-set (omega arith)))
+    ∙ ap (λ (l : List ℕ). (((((l ++ (t ∷ [])) ++ (f ∷ [])) ++ (a ∷ [])) ++ (b ∷ [])) ++ (c ∷ [])) ++ (n ∷ [])) (one-more d at (at + 1) o refl (omega arith))
     ∙ simp append-assoc
 
 -- the ways out of put
 module _ (k : Cell) {d : List ℕ} {lo at : ℕ} where
   -- past the end, since the words below are less than at, the cell doesn't fit, or its size doesn't
-  pub seals-not : {n : ℕ} {d′ : List ℕ} → (at < lo) ⊎ ((length d < at + 6) ⊎ (4294967289 < at - lo)) → length d < n → Seals d lo at k n d′
+  pub seals-not : {n : ℕ} {d′ : List ℕ} → (at < lo) ⊎ ((length d < at + cell-words) ⊎ (4294967288 < at - lo)) → length d < n → Seals d lo at k n d′
   seals-not {n} h j d₀ b q w = record {
     is = λ f. absurd (omega arith);
     room = λ s f.
-        let l = length-append b (words k (length b + 6)) in
+        let l = length-append b (words k (length b + cell-words)) in
         let (e, _) = fits-to w (omega arith) (omega arith) in
-        absurd (⊎-elim (λ (z : at < lo). omega arith) (⊎-elim (λ (z : length d < at + 6). omega arith) (λ (z : 4294967289 < at - lo). omega arith)) h);
+        absurd (⊎-elim (λ (z : at < lo). omega arith) (⊎-elim (λ (z : length d < at + cell-words). omega arith) (λ (z : 4294967288 < at - lo). omega arith)) h);
   }
 
-  pub seals : {d′ : List ℕ} → lo ≤ at → at + 6 ≤ length d → take (at + 6) d′ ≡ take at d ++ words k (at - lo + 6) → Seals d lo at k (at + 6) d′
+  pub seals : {d′ : List ℕ} → lo ≤ at → at + cell-words ≤ length d → take (at + cell-words) d′ ≡ take at d ++ words k (at - lo + cell-words) → Seals d lo at k (at + cell-words) d′
   seals {d′} h j e d₀ b q w =
       let y = wrote-up w (omega arith) in
       let z : at - lo ≡ length b = omega arith in
-      then q w (done (omega arith) refl (subst (λ (n : ℕ). take (at + 6) d′ ≡ take at d ++ words k (n + 6)) z e))
+      then q w (done (omega arith) refl (subst (λ (n : ℕ). take (at + cell-words) d′ ≡ take at d ++ words k (n + cell-words)) z e))
 
 -- a turn of the copy
 pub copied : (s d₀ d : List ℕ) (at i : ℕ) → i < length s → at + i < length d → take (at + i) d ≡ take at d₀ ++ take i s

@@ -1,4 +1,4 @@
--- The working form of a plan: postfix cells of six words, tag, flag, a, b, c, and the number of words of the subtree that ends with the cell. So the
+-- The working form of a plan: postfix cells of seven words, origin, tag, flag, a, b, c, and the number of words of the subtree that ends with the cell. So the
 -- start of a subtree is known from its end, and the words of a subtree don't change when it moves.
 use Prim.Native.Nat.{ℕ, _+_, _-_, _≤_}
 use mathlib.Core.Path.{_≡_}
@@ -8,22 +8,32 @@ use Rattle.cells.specs.declared.Cell.{Cell}
 
 -- the words of one cell
 abbrev pub cell-words : ℕ
-cell-words = 6
+cell-words = 7
 
 abbrev pub words : Cell → ℕ → List ℕ
-words k n = k .tag ∷ k .flag ∷ k .a ∷ k .b ∷ k .c ∷ n ∷ []
+words k n = k .origin ∷ k .tag ∷ k .flag ∷ k .a ∷ k .b ∷ k .c ∷ n ∷ []
 
 -- the words of the children, and the cell over them
 abbrev pub sized : List ℕ → Cell → List ℕ
 sized children k = children ++ words k (length children + cell-words)
 
--- the cell whose words end before word hi, its tag, and where its subtree starts
+-- the cell whose words end before word hi, its tag, its origin, and where its subtree starts
 abbrev pub cell-at : List ℕ → ℕ → Cell
 cell-at s hi =
-    record { tag = getD s (hi - cell-words) 0; flag = getD s (hi - 5) 0; a = getD s (hi - 4) 0; b = getD s (hi - 3) 0; c = getD s (hi - 2) 0 }
+    record {
+      origin = getD s (hi - cell-words) 0;
+      tag = getD s (hi - 6) 0;
+      flag = getD s (hi - 5) 0;
+      a = getD s (hi - 4) 0;
+      b = getD s (hi - 3) 0;
+      c = getD s (hi - 2) 0;
+    }
 
 abbrev pub tag-at : List ℕ → ℕ → ℕ
-tag-at s hi = getD s (hi - cell-words) 0
+tag-at s hi = getD s (hi - 6) 0
+
+abbrev pub origin-at : List ℕ → ℕ → ℕ
+origin-at s hi = getD s (hi - cell-words) 0
 
 abbrev pub start-at : List ℕ → ℕ → ℕ
 start-at s hi = hi - getD s (hi - 1) 0

@@ -1,12 +1,13 @@
-// The working form of a plan: postfix cells of six words in lent slices. A position is a number of words.
+// The working form of a plan: postfix cells of seven words in lent slices. A position is a number of words.
 ghost use mathlib.Core.Path.{_≡_};
 ghost use mathlib.Core.List.{List, [], _∷_, _++_};
 ghost use Prim.Native.Nat.{ℕ, _+_, _-_, _≤_, _<_};
 ghost use lib.ListN.{length, take, drop};
-ghost use Rattle.cells.specs.Cells.{cell-words, cell-at, start-at, tag-at, Part, Sized};
+ghost use Rattle.cells.specs.Cells.{cell-words, cell-at, start-at, tag-at, origin-at, Part, Sized};
 ghost use Rattle.cells.specs.Room.{Wrote, Puts, Copies};
 
 pub struct Cell {
+    pub origin: u32,
     pub tag: u32,
     pub flag: u32,
     pub a: u32,
@@ -14,21 +15,25 @@ pub struct Cell {
     pub c: u32,
 }
 
-// The words of a cell, and which of them is what: the tag stands first, then its flag, its numbers a, b and c, and its size, which is the number of words
-// of the whole subtree that it ends.
-pub const CELL_WORDS: usize = 6;
+// The words of a cell, and which of them is what: its origin stands first, then its tag, its flag, its numbers a, b and c, and its size, which is the number of
+// words of the whole subtree that it ends.
+pub const CELL_WORDS: usize = 7;
 
-pub const FLAG: usize = 1;
+pub const TAG: usize = 1;
 
-pub const A: usize = 2;
+pub const FLAG: usize = 2;
 
-pub const B: usize = 3;
+pub const A: usize = 3;
 
-pub const C: usize = 4;
+pub const B: usize = 4;
 
-pub const SIZE: usize = 5;
+pub const C: usize = 5;
+
+pub const SIZE: usize = 6;
 
 // The same, counted back from the cell's end.
+const TAG_BACK: usize = CELL_WORDS - TAG;
+
 const FLAG_BACK: usize = CELL_WORDS - FLAG;
 
 const A_BACK: usize = CELL_WORDS - A;
@@ -41,7 +46,7 @@ const C_BACK: usize = CELL_WORDS - C;
 pub const FULL: usize = 18446744073709551615;
 
 // The most words that a cell can stand over, so that their number with its own fits a word.
-const LONGEST: usize = 4294967289;
+const LONGEST: usize = 4294967288;
 
 // The cell whose words end before hi, without the size.
 pub fn cell_at(s: &[u32], hi: usize) -> Cell
@@ -49,7 +54,8 @@ pub fn cell_at(s: &[u32], hi: usize) -> Cell
     ensures { λ r. ⌜ r ≡ cell-at (now (s .entry)) hi ⌝ }
 {
     Cell {
-        tag: s[hi - CELL_WORDS],
+        origin: s[hi - CELL_WORDS],
+        tag: s[hi - TAG_BACK],
         flag: s[hi - FLAG_BACK],
         a: s[hi - A_BACK],
         b: s[hi - B_BACK],
@@ -60,6 +66,14 @@ pub fn cell_at(s: &[u32], hi: usize) -> Cell
 pub fn tag_at(s: &[u32], hi: usize) -> u32
     requires { ⌜ (cell-words ≤ hi) × (hi ≤ length (now s)) ⌝ }
     ensures { λ r. ⌜ r ≡ tag-at (now (s .entry)) hi ⌝ }
+{
+    s[hi - TAG_BACK]
+}
+
+// The origin of that cell.
+pub fn origin_at(s: &[u32], hi: usize) -> u32
+    requires { ⌜ (cell-words ≤ hi) × (hi ≤ length (now s)) ⌝ }
+    ensures { λ r. ⌜ r ≡ origin-at (now (s .entry)) hi ⌝ }
 {
     s[hi - CELL_WORDS]
 }
@@ -95,7 +109,8 @@ pub fn put(d: &mut [u32], lo: usize, at: usize, k: Cell) -> usize
     if LONGEST < at - lo {
         return FULL;
     }
-    d[at] = k.tag;
+    d[at] = k.origin;
+    d[at + TAG] = k.tag;
     d[at + FLAG] = k.flag;
     d[at + A] = k.a;
     d[at + B] = k.b;

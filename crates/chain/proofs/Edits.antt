@@ -5,6 +5,7 @@ use mathlib.Core.Path.{_≡_, refl, sym, ap, _∙_, subst}
 use mathlib.Core.List.{List, [], _∷_, _++_, append-assoc}
 use lib.ListN.{length, take, drop, length-append, take-append-drop}
 use lib.Seq.{take-at, length-take-le}
+use Rattle.sql.specs.Expression.{Marked}
 use Rattle.sql.specs.Plan.{Other, other, Node, over, node-size}
 use Rattle.sql.specs.Answer.{Answer, done, _>>=_}
 use Rattle.words.specs.Words.{node-words}
@@ -19,30 +20,30 @@ use Rattle.chain.proofs.Chains.{chain-words, behind-long, chain-long, b
 -- F of a chain is the chain over what G gives of the node below it, where there is room for the plan as it stands.
 abbrev pub Descends : (F G : ℕ → ℕ → Node → Answer Node) → ℕ → ℕ → Type 0
 Descends F G n left =
-    (room rest : ℕ) (os : List Other) (p : Node) → n ≡ left + length os → rest + node-size (chain os p) ≤ room
+    (room rest : ℕ) (os : List (Marked Other)) (p : Node) → n ≡ left + length os → rest + node-size (chain os p) ≤ room
     → F room rest (chain os p) ≡ G room (rest + sizes os) p >>= (λ q. done (chain os q))
 
 -- ---- what is fit
 module _ {Kept : Node → Node → Type 0} (fit : Inherited Kept) where
-  pub chain-source : (os : List Other) (p : Node) → Kept (chain os p) (chain os p) → Kept p p
+  pub chain-source : (os : List (Marked Other)) (p : Node) → Kept (chain os p) (chain os p) → Kept p p
   chain-source [] p k = k
-  chain-source (o ∷ os) p k = fit .source (other o) p (chain-source os (over (other o) p) k)
+  chain-source (o ∷ os) p k = fit .source (o .1) (other (o .0)) p (chain-source os (over (o .1) (other (o .0)) p) k)
 
-  pub chain-with : (os : List Other) (p q : Node) → Kept (chain os p) (chain os p) → Kept p q → Kept (chain os p) (chain os q)
+  pub chain-with : (os : List (Marked Other)) (p q : Node) → Kept (chain os p) (chain os p) → Kept p q → Kept (chain os p) (chain os q)
   chain-with [] p q k h = h
   chain-with (o ∷ os) p q k h =
-      chain-with os (over (other o) p) (over (other o) q) k (fit .with-source (other o) p q (chain-source os (over (other o) p) k) h)
+      chain-with os (over (o .1) (other (o .0)) p) (over (o .1) (other (o .0)) q) k (fit .with-source (o .1) (other (o .0)) p q (chain-source os (over (o .1) (other (o .0)) p) k) h)
 
   module _ {x : List ℕ} {n t lo tail left end : ℕ} (d : GoesDown x n lo (t - tail) left end) where
     when-chain : {pre post : List ℕ} (P : Node → Type 0)
-        → ((os : List Other) (p : Node) → n ≡ left + length os → NodeHere x lo end p → Kept (chain os p) (chain os p) → Holds x t lo tail pre post (chain os p) → P (chain os p))
+        → ((os : List (Marked Other)) (p : Node) → n ≡ left + length os → NodeHere x lo end p → Kept (chain os p) (chain os p) → Holds x t lo tail pre post (chain os p) → P (chain os p))
         → (p : Node) → Kept p p → Holds x t lo tail pre post p → P p
     when-chain {pre} {post} P f p k h =
         let r = d p (holds-here h) in
         subst (λ (q : Node). Kept q q → Holds x t lo tail pre post q → P q) (sym (r .is)) (f (r .above) (r .q) (r .count) (r .here)) k h
 
     -- ---- the node below
-    module _ (os : List Other) (p : Node) (u : NodeHere x lo end p) {pre post : List ℕ} (h : Holds x t lo tail pre post (chain os p)) where
+    module _ (os : List (Marked Other)) (p : Node) (u : NodeHere x lo end p) {pre post : List ℕ} (h : Holds x t lo tail pre post (chain os p)) where
       back-is : t - end ≡ length (behind os p) + tail
       back-is = omega (arith, total h, ap length (chain-words os p), length-append (node-words p) (behind os p), u .part .high)
 
@@ -91,7 +92,7 @@ module _ {Kept : Node → Node → Type 0} (fit : Inherited Kept) where
           (λ os p c u k h. e room rest os p c (has-room os p u h s) ∙ ap (λ (a : Answer Node). a >>= (λ q. done (chain os q))) (same room (rest + sizes os) p)) p k h)
 
       module _ {r : ℕ} {x₁ : List ℕ} (a : Edit Kept G x t lo (t - end) r x₁) where
-        went : {room rest : ℕ} → Shares x lo tail room rest → (os : List Other) (p : Node) → NodeHere x lo end p → {pre post : List ℕ} → Kept (chain os p) (chain os p)
+        went : {room rest : ℕ} → Shares x lo tail room rest → (os : List (Marked Other)) (p : Node) → NodeHere x lo end p → {pre post : List ℕ} → Kept (chain os p) (chain os p)
             → Holds x t lo tail pre post (chain os p) → Left (Kept p) x₁ r pre (behind os p ++ post) (G room (rest + sizes os) p)
         went {room} {rest} s os p u {pre} {post} k h =
             a room (rest + sizes os) (below-shares os p u h s) pre (behind os p ++ post) p (chain-source os p k) (below-holds os p u h)
@@ -104,7 +105,7 @@ module _ {Kept : Node → Node → Type 0} (fit : Inherited Kept) where
             p k h
 
         -- the words of the chain behind what the node below became
-        module _ (z : r ≤ length x₁) (os : List Other) (p : Node) (u : NodeHere x lo end p) {pre post : List ℕ} (h : Holds x t lo tail pre post (chain os p)) (q : Node)
+        module _ (z : r ≤ length x₁) (os : List (Marked Other)) (p : Node) (u : NodeHere x lo end p) {pre post : List ℕ} (h : Holds x t lo tail pre post (chain os p)) (q : Node)
             (w : take r x₁ ≡ pre ++ (node-words q ++ (behind os p ++ post))) where
           all-long : lo + length (node-words q) + length (behind os p) + tail ≡ r
           all-long =
@@ -151,7 +152,7 @@ module _ {Kept : Node → Node → Type 0} (fit : Inherited Kept) where
 
         -- the chain stands over what the node below became
         over-new : r ≤ length x₁ → {x₂ : List ℕ} → length x₂ ≡ length x₁
-            → ((os : List Other) (p : Node) → NodeHere x lo end p → (pre post : List ℕ) → Holds x t lo tail pre post (chain os p) → (q : Node)
+            → ((os : List (Marked Other)) (p : Node) → NodeHere x lo end p → (pre post : List ℕ) → Holds x t lo tail pre post (chain os p) → (q : Node)
             → take r x₁ ≡ pre ++ (node-words q ++ (behind os p ++ post)) → take r x₂ ≡ pre ++ (node-words (chain os q) ++ post))
             → Edit Kept F x t lo tail r x₂
         over-new z {x₂} j f room rest s pre post p k h =

@@ -7,7 +7,7 @@ use lib.ListN.{length, getD, set, length-append}
 use lib.Seq.{set-at}
 use borrow.Author.Tests.{le-leb, lt-leb}
 use Rattle.cells.specs.declared.Cell.{Cell}
-use Rattle.cells.specs.Cells.{words, sized, Part}
+use Rattle.cells.specs.Cells.{cell-words, words, sized, Part}
 use Rattle.cells.proofs.Laws.{part-word}
 use Rattle.chain.specs.Resized.{new-size, resized, Reseals}
 
@@ -37,66 +37,68 @@ Doing x₀ lo from to at x =
 pub none-done : (x : List ℕ) (lo from to : ℕ) → Doing x lo from to from x
 none-done x lo from to a c post e i j = record { d = []; e = c; is = e; long = omega arith; left = j; same = refl }
 
-six-of : (P : List ℕ → Type 0) → ((t f g b h n : ℕ) (ws : List ℕ) → P (t ∷ f ∷ g ∷ b ∷ h ∷ n ∷ ws)) → (e : List ℕ) → 6 ≤ length e → P e
-six-of P k [] h = absurd (omega arith)
-six-of P k (t ∷ []) h = absurd (omega arith)
-six-of P k (t ∷ f ∷ []) h = absurd (omega arith)
-six-of P k (t ∷ f ∷ a ∷ []) h = absurd (omega arith)
-six-of P k (t ∷ f ∷ a ∷ b ∷ []) h = absurd (omega arith)
-six-of P k (t ∷ f ∷ a ∷ b ∷ c ∷ []) h = absurd (omega arith)
-six-of P k (t ∷ f ∷ a ∷ b ∷ c ∷ n ∷ ws) h = k t f a b c n ws
+seven-of : (P : List ℕ → Type 0) → ((o t f g b h n : ℕ) (ws : List ℕ) → P (o ∷ t ∷ f ∷ g ∷ b ∷ h ∷ n ∷ ws)) → (e : List ℕ) → cell-words ≤ length e → P e
+seven-of P k [] h = absurd (omega arith)
+seven-of P k (o ∷ []) h = absurd (omega arith)
+seven-of P k (o ∷ t ∷ []) h = absurd (omega arith)
+seven-of P k (o ∷ t ∷ f ∷ []) h = absurd (omega arith)
+seven-of P k (o ∷ t ∷ f ∷ a ∷ []) h = absurd (omega arith)
+seven-of P k (o ∷ t ∷ f ∷ a ∷ b ∷ []) h = absurd (omega arith)
+seven-of P k (o ∷ t ∷ f ∷ a ∷ b ∷ c ∷ []) h = absurd (omega arith)
+seven-of P k (o ∷ t ∷ f ∷ a ∷ b ∷ c ∷ n ∷ ws) h = k o t f a b c n ws
 
 module _ (lo from to at : ℕ) (x a c post : List ℕ) (l : lo ≤ at) (i : length a ≡ from) (d : List ℕ) (long : from + length d ≡ at) where
-  one-done : (v t f g b h n : ℕ) (ws : List ℕ) → v ≡ new-size (getD x at 0) (at + 6 - lo) (getD x (at + 5) 0)
-      → x ≡ a ++ (d ++ ((t ∷ f ∷ g ∷ b ∷ h ∷ n ∷ ws) ++ post)) → at + length (t ∷ f ∷ g ∷ b ∷ h ∷ n ∷ ws) ≡ to
-      → d ++ resized (at - lo) (t ∷ f ∷ g ∷ b ∷ h ∷ n ∷ ws) ≡ resized (from - lo) c → Rest a c post lo from to (at + 6) (set x (at + 5) v)
+  one-done : (v o t f g b h n : ℕ) (ws : List ℕ) → v ≡ new-size (getD x (at + 1) 0) (at + cell-words - lo) (getD x (at + 6) 0)
+      → x ≡ a ++ (d ++ ((o ∷ t ∷ f ∷ g ∷ b ∷ h ∷ n ∷ ws) ++ post)) → at + length (o ∷ t ∷ f ∷ g ∷ b ∷ h ∷ n ∷ ws) ≡ to
+      → d ++ resized (at - lo) (o ∷ t ∷ f ∷ g ∷ b ∷ h ∷ n ∷ ws) ≡ resized (from - lo) c → Rest a c post lo from to (at + cell-words) (set x (at + 6) v)
   unfolding resized
-  one-done v t f g b h n ws w is left same =
-      let cells = t ∷ f ∷ g ∷ b ∷ h ∷ n ∷ ws in
-      let five = t ∷ f ∷ g ∷ b ∷ h ∷ [] in
-      let front = a ++ (d ++ five) in
+  one-done v o t f g b h n ws w is left same =
+      let cells = o ∷ t ∷ f ∷ g ∷ b ∷ h ∷ n ∷ ws in
+      let six = o ∷ t ∷ f ∷ g ∷ b ∷ h ∷ [] in
+      let front = a ++ (d ++ six) in
       let all : x ≡ front ++ (n ∷ (ws ++ post)) = is ∙ simp append-assoc in
       let here : Part x at (at + length cells) cells =
       record { before = a ++ d; after = post; whole = is ∙ simp append-assoc; low = omega (arith, length-append a d); high = refl } in
-      let tag : getD x at 0 ≡ t = part-word here at 0 (omega arith) in
-      let old : getD x (at + 5) 0 ≡ n = part-word here (at + 5) 5 (omega arith) in
-      let six : v ≡ new-size t (at + 6 - lo) n = w ∙ ap (λ (k : ℕ). new-size k (at + 6 - lo) (getD x (at + 5) 0)) tag ∙ ap (new-size t (at + 6 - lo)) old in
-      let q : length front ≡ at + 5 = omega (arith, length-append a (d ++ five), length-append d five) in
-      let j : at + 6 - lo ≡ at - lo + 6 = omega arith in
+      let tag : getD x (at + 1) 0 ≡ t = part-word here (at + 1) 1 (omega arith) in
+      let old : getD x (at + 6) 0 ≡ n = part-word here (at + 6) 6 (omega arith) in
+      let size : v ≡ new-size t (at + cell-words - lo) n = w ∙ ap (λ (k : ℕ). new-size k (at + cell-words - lo) (getD x (at + 6) 0)) tag ∙ ap (new-size t (at + cell-words - lo)) old in
+      let q : length front ≡ at + 6 = omega (arith, length-append a (d ++ six), length-append d six) in
+      let j : at + cell-words - lo ≡ at - lo + cell-words = omega arith in
       record {
-        d = d ++ (t ∷ f ∷ g ∷ b ∷ h ∷ v ∷ []);
+        d = d ++ (o ∷ t ∷ f ∷ g ∷ b ∷ h ∷ v ∷ []);
         e = ws;
-        is = ap (λ (y : List ℕ). set y (at + 5) v) all ∙ set-at front n (ws ++ post) v (at + 5) q ∙ simp append-assoc;
-        long = omega (arith, length-append d (t ∷ f ∷ g ∷ b ∷ h ∷ v ∷ []));
+        is = ap (λ (y : List ℕ). set y (at + 6) v) all ∙ set-at front n (ws ++ post) v (at + 6) q ∙ simp append-assoc;
+        long = omega (arith, length-append d (o ∷ t ∷ f ∷ g ∷ b ∷ h ∷ v ∷ []));
         left = omega arith;
         same =
-            append-assoc d (t ∷ f ∷ g ∷ b ∷ h ∷ v ∷ []) (resized (at + 6 - lo) ws)
-            ∙ ap (λ (k : ℕ). d ++ (t ∷ f ∷ g ∷ b ∷ h ∷ k ∷ resized (at + 6 - lo) ws)) six
-            ∙ ap (λ (k : ℕ). d ++ (t ∷ f ∷ g ∷ b ∷ h ∷ new-size t k n ∷ resized k ws)) j
+            append-assoc d (o ∷ t ∷ f ∷ g ∷ b ∷ h ∷ v ∷ []) (resized (at + cell-words - lo) ws)
+            ∙ ap (λ (k : ℕ). d ++ (o ∷ t ∷ f ∷ g ∷ b ∷ h ∷ k ∷ resized (at + cell-words - lo) ws)) size
+            ∙ ap (λ (k : ℕ). d ++ (o ∷ t ∷ f ∷ g ∷ b ∷ h ∷ new-size t k n ∷ resized k ws)) j
             ∙ same;
       }
 
-pub next-done : (x₀ x : List ℕ) (lo from to at v : ℕ) → lo ≤ at → 6 ≤ to - at → v ≡ new-size (getD x at 0) (at + 6 - lo) (getD x (at + 5) 0)
-    → Doing x₀ lo from to at x → Doing x₀ lo from to (at + 6) (set x (at + 5) v)
+pub next-done : (x₀ x : List ℕ) (lo from to at v : ℕ) → lo ≤ at → cell-words ≤ to - at → v ≡ new-size (getD x (at + 1) 0) (at + cell-words - lo) (getD x (at + 6) 0)
+    → Doing x₀ lo from to at x → Doing x₀ lo from to (at + cell-words) (set x (at + 6) v)
 next-done x₀ x lo from to at v l h w f a c post e i j =
     let r = f a c post e i j in
-    six-of
+    seven-of
     (λ (k : List ℕ). x ≡ a ++ (r .d ++ (k ++ post)) → at + length k ≡ to → r .d ++ resized (at - lo) k ≡ resized (from - lo) c
-    → Rest a c post lo from to (at + 6) (set x (at + 5) v))
-    (λ t f g b h n ws. one-done lo from to at x a c post l i (r .d) (r .long) v t f g b h n ws w)
+    → Rest a c post lo from to (at + cell-words) (set x (at + 6) v))
+    (λ o t f g b h n ws. one-done lo from to at x a c post l i (r .d) (r .long) v o t f g b h n ws w)
     (r .e) (omega (arith, r .left)) (r .is) (r .left) (r .same)
 
-short : (n : ℕ) (c : List ℕ) → length c < 6 → resized n c ≡ c
+short : (n : ℕ) (c : List ℕ) → length c < cell-words → resized n c ≡ c
 unfolding resized
 short n [] h = refl
-short n (t ∷ []) h = refl
-short n (t ∷ f ∷ []) h = refl
-short n (t ∷ f ∷ a ∷ []) h = refl
-short n (t ∷ f ∷ a ∷ b ∷ []) h = refl
-short n (t ∷ f ∷ a ∷ b ∷ c ∷ []) h = refl
-short n (t ∷ f ∷ a ∷ b ∷ c ∷ size ∷ ws) h = absurd (omega arith)
+short n (o ∷ []) h = refl
+short n (o ∷ t ∷ []) h = refl
+short n (o ∷ t ∷ f ∷ []) h = refl
+short n (o ∷ t ∷ f ∷ a ∷ []) h = refl
+short n (o ∷ t ∷ f ∷ a ∷ b ∷ []) h = refl
+short n (o ∷ t ∷ f ∷ a ∷ b ∷ c ∷ []) h = refl
+short n (o ∷ t ∷ f ∷ a ∷ b ∷ c ∷ size ∷ ws) h = absurd (omega arith)
 
-pub all-done : (x₀ x : List ℕ) (t lo from tail at : ℕ) → t - tail - at < 6 → Doing x₀ lo from (t - tail) at x → Reseals x₀ t lo from tail t x
+pub all-done : (x₀ x : List ℕ) (t lo from tail at : ℕ) → t - tail - at < cell-words → Doing x₀ lo from (t - tail) at x → Reseals x₀ t lo from tail t x
 all-done x₀ x t lo from tail at h f =
     record {
       same = refl;
@@ -127,13 +129,13 @@ plain-both u v f g n ws =
 plain-words : (k : Cell) (size : ℕ) → k .tag < 50 → Plain (words k size)
 unfolding resized
 plain-words k size h n ws =
-    ap (λ (m : ℕ). k .tag ∷ k .flag ∷ k .a ∷ k .b ∷ k .c ∷ m ∷ resized (n + 6) ws) (sym (size-old (k .tag) (n + 6) size h))
+    ap (λ (m : ℕ). k .origin ∷ k .tag ∷ k .flag ∷ k .a ∷ k .b ∷ k .c ∷ m ∷ resized (n + cell-words) ws) (sym (size-old (k .tag) (n + cell-words) size h))
 
 pub plain-sized : (b : List ℕ) (k : Cell) → Plain b → k .tag < 50 → Plain (sized b k)
-plain-sized b k f h = plain-both b (words k (length b + 6)) f (plain-words k (length b + 6) h)
+plain-sized b k f h = plain-both b (words k (length b + cell-words)) f (plain-words k (length b + cell-words) h)
 
 -- a node's cell
-pub node-resized : (k : Cell) (size n : ℕ) (ws : List ℕ) → 50 ≤ k .tag → resized n (words k size ++ ws) ≡ words k (n + 6) ++ resized (n + 6) ws
+pub node-resized : (k : Cell) (size n : ℕ) (ws : List ℕ) → 50 ≤ k .tag → resized n (words k size ++ ws) ≡ words k (n + cell-words) ++ resized (n + cell-words) ws
 unfolding resized
 node-resized k size n ws h =
-    ap (λ (m : ℕ). k .tag ∷ k .flag ∷ k .a ∷ k .b ∷ k .c ∷ m ∷ resized (n + 6) ws) (sym (size-new (k .tag) (n + 6) size h))
+    ap (λ (m : ℕ). k .origin ∷ k .tag ∷ k .flag ∷ k .a ∷ k .b ∷ k .c ∷ m ∷ resized (n + cell-words) ws) (sym (size-new (k .tag) (n + cell-words) size h))

@@ -6,6 +6,7 @@ use mathlib.Core.Path.{_≡_, sym, ap, _∙_, subst}
 use mathlib.Core.List.{List, [], _++_, append-assoc, append-nil}
 use lib.ListN.{length, getD, take, drop, length-append, take-append-drop}
 use lib.Seq.{take-at, length-take-le}
+use Rattle.sql.specs.Expression.{Marked}
 use Rattle.sql.specs.Plan.{Other, Node}
 use Rattle.cells.specs.Cells.{Part}
 use Rattle.cells.specs.Room.{Wrote, Copies}
@@ -50,7 +51,7 @@ pub written-in : {y : List ℕ} {lo at : ℕ} → (at ≤ length y → NodeAt y 
 written-in f h = let t = f h in omega (arith, node-in (t .p) (t .here) .0)
 
 -- the chain's words in the slice that is read
-behind-part : {x : List ℕ} {low end hi : ℕ} (os : List Other) (p : Node) → NodeHere x low hi (chain os p) → NodeHere x low end p → Part x end hi (behind os p)
+behind-part : {x : List ℕ} {low end hi : ℕ} (os : List (Marked Other)) (p : Node) → NodeHere x low hi (chain os p) → NodeHere x low end p → Part x end hi (behind os p)
 behind-part {x} {low} {end} {hi} os p u v =
     record {
       before = u .part .before ++ node-words p;
@@ -63,7 +64,7 @@ behind-part {x} {low} {end} {hi} os p u v =
 -- what Follows says of every chain
 abbrev OverNode : List ℕ → ℕ → ℕ → List ℕ → ℕ → ℕ → ℕ → List ℕ → Type 0
 OverNode x end hi y lo at n y′ =
-    (low : ℕ) (os : List Other) (p q : Node) → NodeHere x low hi (chain os p) → NodeHere x low end p → (y₀ : List ℕ) → length y ≡ length y₀
+    (low : ℕ) (os : List (Marked Other)) (p q : Node) → NodeHere x low hi (chain os p) → NodeHere x low end p → (y₀ : List ℕ) → length y ≡ length y₀
     → Wrote y₀ lo (node-words q) at y → Wrote y₀ lo (node-words (chain os q)) n y′
 
 -- no chain

@@ -15,12 +15,13 @@ new-size tag new old = cond (leb Tags.nodes tag) new old
 -- The words of cells with new sizes, where n words of their node stand before the first.
 unfoldable pub resized : ℕ → List ℕ → List ℕ
 resized n [] = []
-resized n (t ∷ []) = t ∷ []
-resized n (t ∷ f ∷ []) = t ∷ f ∷ []
-resized n (t ∷ f ∷ a ∷ []) = t ∷ f ∷ a ∷ []
-resized n (t ∷ f ∷ a ∷ b ∷ []) = t ∷ f ∷ a ∷ b ∷ []
-resized n (t ∷ f ∷ a ∷ b ∷ c ∷ []) = t ∷ f ∷ a ∷ b ∷ c ∷ []
-resized n (t ∷ f ∷ a ∷ b ∷ c ∷ size ∷ ws) = t ∷ f ∷ a ∷ b ∷ c ∷ new-size t (n + cell-words) size ∷ resized (n + cell-words) ws
+resized n (o ∷ []) = o ∷ []
+resized n (o ∷ t ∷ []) = o ∷ t ∷ []
+resized n (o ∷ t ∷ f ∷ []) = o ∷ t ∷ f ∷ []
+resized n (o ∷ t ∷ f ∷ a ∷ []) = o ∷ t ∷ f ∷ a ∷ []
+resized n (o ∷ t ∷ f ∷ a ∷ b ∷ []) = o ∷ t ∷ f ∷ a ∷ b ∷ []
+resized n (o ∷ t ∷ f ∷ a ∷ b ∷ c ∷ []) = o ∷ t ∷ f ∷ a ∷ b ∷ c ∷ []
+resized n (o ∷ t ∷ f ∷ a ∷ b ∷ c ∷ size ∷ ws) = o ∷ t ∷ f ∷ a ∷ b ∷ c ∷ new-size t (n + cell-words) size ∷ resized (n + cell-words) ws
 
 -- The words of x from `from` up to `to` have new sizes in x′.
 abbrev pub Resizes : List ℕ → ℕ → ℕ → ℕ → List ℕ → Type 0

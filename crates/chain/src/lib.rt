@@ -83,7 +83,7 @@ pub fn reseal(x: &mut [u32], t: usize, lo: usize, from: usize, tail: usize) -> u
     let mut at = from;
     while cells::CELL_WORDS <= to - at {
         x[at + cells::SIZE] = size(
-            x[at],
+            x[at + cells::TAG],
             (at + cells::CELL_WORDS - lo) as u32,
             x[at + cells::SIZE],
         );

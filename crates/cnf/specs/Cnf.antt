@@ -11,8 +11,8 @@ abbrev pub MapsTwo : (Expression → Expression → Expression) → List ℕ →
 MapsTwo f s a x b z d at n d′ = (e g : Expression) → ExpressionHere s a x e → ExpressionHere s b z g → Wrote d at (expression-words (f e g)) n d′
 
 -- Or(x, z) spread over the Ands of both, and over those of z alone
-abbrev pub spread : Expression → Expression → Expression
-spread x z = or-both (conjuncts x) (conjuncts z)
+abbrev pub spread : ℕ → Expression → Expression → Expression
+spread new x z = or-both new (conjuncts x) (conjuncts z)
 
-abbrev pub spread-right : Expression → Expression → Expression
-spread-right x z = or-right (distribute x) (conjuncts z)
+abbrev pub spread-right : ℕ → Expression → Expression → Expression
+spread-right new x z = or-right new (distribute x) (conjuncts z)

@@ -31,7 +31,7 @@ fn distribute_expression(s: &[u32], lo: usize, hi: usize, d: &mut [u32], at: usi
     if cells::tag_at(s, hi) == tags::OR {
         let k = hi - cells::CELL_WORDS;
         let mid = cells::start(s, k);
-        return or_both(s, lo, mid, mid, k, d, at);
+        return or_both(s, lo, mid, mid, k, d, at, cells::origin_at(s, hi));
     }
     distribute_operands(s, lo, hi, d, at)
 }
@@ -56,11 +56,20 @@ fn distribute_operands(s: &[u32], lo: usize, hi: usize, d: &mut [u32], at: usize
     cells::put(d, at, j, c)
 }
 
-// Or of the expressions from a to x and from b to z, spread over the Ands at the top of both.
-fn or_both(s: &[u32], a: usize, x: usize, b: usize, z: usize, d: &mut [u32], at: usize) -> usize
+// Or, with that origin, of the expressions from a to x and from b to z, spread over the Ands at the top of both. What it puts together has the Or's origin.
+fn or_both(
+    s: &[u32],
+    a: usize,
+    x: usize,
+    b: usize,
+    z: usize,
+    d: &mut [u32],
+    at: usize,
+    origin: u32,
+) -> usize
     requires { ⌜ ExpressionAt (now s) a x ⌝ }
     requires { ⌜ ExpressionAt (now s) b z ⌝ }
-    ensures { λ r. ⌜ MapsTwo spread (now (s .entry)) a x b z (now (d .entry)) at r (now (d .exit)) ⌝ }
+    ensures { λ r. ⌜ MapsTwo (spread origin) (now (s .entry)) a x b z (now (d .entry)) at r (now (d .exit)) ⌝ }
 {
     if d.len() < at {
         return at;
@@ -68,13 +77,14 @@ fn or_both(s: &[u32], a: usize, x: usize, b: usize, z: usize, d: &mut [u32], at:
     if cells::tag_at(s, x) == tags::AND {
         let k = x - cells::CELL_WORDS;
         let mid = cells::start(s, k);
-        let m = or_both(s, a, mid, b, z, d, at);
-        let j = or_both(s, mid, k, b, z, d, m);
+        let m = or_both(s, a, mid, b, z, d, at, origin);
+        let j = or_both(s, mid, k, b, z, d, m, origin);
         return cells::put(
             d,
             at,
             j,
             cells::Cell {
+                origin: origin,
                 tag: tags::AND,
                 flag: 0,
                 a: 0,
@@ -83,14 +93,23 @@ fn or_both(s: &[u32], a: usize, x: usize, b: usize, z: usize, d: &mut [u32], at:
             },
         );
     }
-    or_right(s, a, x, b, z, d, at)
+    or_right(s, a, x, b, z, d, at, origin)
 }
 
 // The same where the left one is no And.
-fn or_right(s: &[u32], a: usize, x: usize, b: usize, z: usize, d: &mut [u32], at: usize) -> usize
+fn or_right(
+    s: &[u32],
+    a: usize,
+    x: usize,
+    b: usize,
+    z: usize,
+    d: &mut [u32],
+    at: usize,
+    origin: u32,
+) -> usize
     requires { ⌜ ExpressionAt (now s) a x ⌝ }
     requires { ⌜ ExpressionAt (now s) b z ⌝ }
-    ensures { λ r. ⌜ MapsTwo spread-right (now (s .entry)) a x b z (now (d .entry)) at r (now (d .exit)) ⌝ }
+    ensures { λ r. ⌜ MapsTwo (spread-right origin) (now (s .entry)) a x b z (now (d .entry)) at r (now (d .exit)) ⌝ }
 {
     if d.len() < at {
         return at;
@@ -98,13 +117,14 @@ fn or_right(s: &[u32], a: usize, x: usize, b: usize, z: usize, d: &mut [u32], at
     if cells::tag_at(s, z) == tags::AND {
         let k = z - cells::CELL_WORDS;
         let mid = cells::start(s, k);
-        let m = or_right(s, a, x, b, mid, d, at);
-        let j = or_right(s, a, x, mid, k, d, m);
+        let m = or_right(s, a, x, b, mid, d, at, origin);
+        let j = or_right(s, a, x, mid, k, d, m, origin);
         return cells::put(
             d,
             at,
             j,
             cells::Cell {
+                origin: origin,
                 tag: tags::AND,
                 flag: 0,
                 a: 0,
@@ -120,6 +140,7 @@ fn or_right(s: &[u32], a: usize, x: usize, b: usize, z: usize, d: &mut [u32], at
         at,
         j,
         cells::Cell {
+            origin: origin,
             tag: tags::OR,
             flag: 0,
             a: 0,

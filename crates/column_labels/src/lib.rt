@@ -1,5 +1,6 @@
 // optimizer.rs, the `collect` in short_circuit that asks plan.rs's column_label for each column of a node: all its labels, written as Label cells.
 ghost use mathlib.Core.Path.{_≡_};
+ghost use Prim.Native.Nat.{ℕ};
 ghost use Rattle.sheet.specs.Content.{label-cell};
 ghost use Rattle.cells.specs.Room.{Wrote};
 ghost use Rattle.words.specs.Words.{cell, label-words};
@@ -7,14 +8,15 @@ ghost use Rattle.nodes.specs.Own.{SourceCount};
 ghost use Rattle.nodes.specs.Columns.{ColumnsAt};
 ghost use Rattle.labels.specs.Labels.{label};
 ghost use Rattle.labels.specs.Names.{NamesAt};
-ghost use Rattle.column_labels.specs.ColumnLabels.{WritesLabels};
+ghost use Rattle.column_labels.specs.ColumnLabels.{LabelsUp, Marks, WritesLabels};
 
-// The cell of a Label.
-fn label_cell(l: labels::Label) -> cells::Cell
-    ensures { λ r. ⌜ r ≡ cell (label-cell (label l)) ⌝ }
+// The cell of a Label with an origin.
+fn label_cell(l: labels::Label, origin: u32) -> cells::Cell
+    ensures { λ r. ⌜ r ≡ cell origin (label-cell (label l)) ⌝ }
 {
     match l {
         labels::Label::Unlabelled => cells::Cell {
+            origin: origin,
             tag: tags::LABEL,
             flag: 0,
             a: 0,
@@ -22,6 +24,7 @@ fn label_cell(l: labels::Label) -> cells::Cell
             c: 0,
         },
         labels::Label::Unqualified(name) => cells::Cell {
+            origin: origin,
             tag: tags::LABEL,
             flag: 1,
             a: name,
@@ -29,6 +32,7 @@ fn label_cell(l: labels::Label) -> cells::Cell
             c: 0,
         },
         labels::Label::Qualified(table, name) => cells::Cell {
+            origin: origin,
             tag: tags::LABEL,
             flag: 2,
             a: table,
@@ -39,15 +43,15 @@ fn label_cell(l: labels::Label) -> cells::Cell
 }
 
 // A Label after the first `at` words of d.
-fn put_label(d: &mut [u32], at: usize, l: labels::Label) -> usize
-    ensures { λ r. ⌜ Wrote (now (d .entry)) at (label-words (label l)) r (now (d .exit)) ⌝ }
+fn put_label(d: &mut [u32], at: usize, l: labels::Label, origin: u32) -> usize
+    ensures { λ r. ⌜ Wrote (now (d .entry)) at (label-words (label l, origin)) r (now (d .exit)) ⌝ }
 {
-    let k = label_cell(l);
+    let k = label_cell(l, origin);
     cells::put(d, at, at, k)
 }
 
-// The labels of the node from lo to hi, column by column. An Aggregate, a Projection or a Remap says no more labels than it has parts (a Remap at most
-// 256), and looking for one passes the parts and the nodes below: no more than n² short steps in a plan of n cells.
+// The labels of the node from lo to hi, column by column, each with the given origin. An Aggregate, a Projection or a Remap says no more labels than it has
+// parts (a Remap at most 256), and looking for one passes the parts and the nodes below: no more than n² short steps in a plan of n cells.
 fn each_label(
     s: &[u32],
     lo: usize,
@@ -57,23 +61,41 @@ fn each_label(
     widths: &[usize],
     names: &[u32],
     columns: &[u8],
+    origin: u32,
 ) -> usize
     requires { ⌜ ColumnsAt (now widths) (now s) lo hi ⌝ }
     requires { ⌜ NamesAt (now widths) (now names) (now columns) ⌝ }
-    ensures { λ r. ⌜ WritesLabels (now (widths .entry)) (now (names .entry)) (now (columns .entry)) (now (s .entry)) lo hi (now (d .entry)) at r (now (d .exit)) ⌝ }
+    ensures { λ r. ⌜ WritesLabels origin (now (widths .entry)) (now (names .entry)) (now (columns .entry)) (now (s .entry)) lo hi (now (d .entry)) at r (now (d .exit)) ⌝ }
 {
     let n = nodes::columns(s, lo, hi, widths);
     let mut end = at;
     let mut i: usize = 0;
     while i < n {
         let l = labels::column_label(s, lo, hi, i, n, widths, names, columns);
-        end = put_label(d, end, l);
+        end = put_label(d, end, l, origin);
         i += 1;
     }
     end
 }
 
-// The labels of a node without sources. Those of a Nothing stand there already.
+// The Labels from lo to hi, with another origin. Only that differs, so the words are copied, and each label's first word is written again.
+fn marked_labels(s: &[u32], lo: usize, hi: usize, d: &mut [u32], at: usize, origin: u32) -> usize
+    requires { ⌜ LabelsUp (now s) lo hi ⌝ }
+    ensures { λ r. ⌜ Marks origin (now (s .entry)) lo hi (now (d .entry)) at r (now (d .exit)) ⌝ }
+{
+    let end = cells::copy(s, lo, hi, d, at);
+    if d.len() < end {
+        return end;
+    }
+    let mut i = at;
+    while i < end {
+        d[i] = origin;
+        i += cells::CELL_WORDS;
+    }
+    end
+}
+
+// The labels of a node without sources. Those of a Nothing stand there already, but for the origin.
 fn leaf_labels(
     s: &[u32],
     lo: usize,
@@ -83,19 +105,20 @@ fn leaf_labels(
     widths: &[usize],
     names: &[u32],
     columns: &[u8],
+    origin: u32,
 ) -> usize
     requires { ⌜ ColumnsAt (now widths) (now s) lo hi ⌝ }
     requires { ⌜ NamesAt (now widths) (now names) (now columns) ⌝ }
-    ensures { λ r. ⌜ WritesLabels (now (widths .entry)) (now (names .entry)) (now (columns .entry)) (now (s .entry)) lo hi (now (d .entry)) at r (now (d .exit)) ⌝ }
+    ensures { λ r. ⌜ WritesLabels origin (now (widths .entry)) (now (names .entry)) (now (columns .entry)) (now (s .entry)) lo hi (now (d .entry)) at r (now (d .exit)) ⌝ }
 {
     if cells::tag_at(s, hi) == tags::NOTHING {
-        return cells::copy(s, lo, hi - cells::CELL_WORDS, d, at);
+        return marked_labels(s, lo, hi - cells::CELL_WORDS, d, at, origin);
     }
-    each_label(s, lo, hi, d, at, widths, names, columns)
+    each_label(s, lo, hi, d, at, widths, names, columns, origin)
 }
 
-// The labels of all columns of the node from lo to hi, after the first `at` words of d. A node whose columns are those of its sources gives way to
-// these, the left one first, so that each leaf below is met once.
+// The labels of all columns of the node from lo to hi, each with the given origin, after the first `at` words of d. A node whose columns are those of its
+// sources gives way to these, the left one first, so that each leaf below is met once.
 pub fn write_labels(
     s: &[u32],
     lo: usize,
@@ -105,24 +128,25 @@ pub fn write_labels(
     widths: &[usize],
     names: &[u32],
     columns: &[u8],
+    origin: u32,
 ) -> usize
     requires { ⌜ ColumnsAt (now widths) (now s) lo hi ⌝ }
     requires { ⌜ NamesAt (now widths) (now names) (now columns) ⌝ }
-    ensures { λ r. ⌜ WritesLabels (now (widths .entry)) (now (names .entry)) (now (columns .entry)) (now (s .entry)) lo hi (now (d .entry)) at r (now (d .exit)) ⌝ }
+    ensures { λ r. ⌜ WritesLabels origin (now (widths .entry)) (now (names .entry)) (now (columns .entry)) (now (s .entry)) lo hi (now (d .entry)) at r (now (d .exit)) ⌝ }
 {
     let n = nodes::source_count(s, lo, hi);
     if n == 0 {
-        return leaf_labels(s, lo, hi, d, at, widths, names, columns);
+        return leaf_labels(s, lo, hi, d, at, widths, names, columns, origin);
     }
     let m = nodes::own_start(s, lo, hi);
     if n == 1 {
         let t = cells::tag_at(s, hi);
         if labels::says_columns(t) {
-            return each_label(s, lo, hi, d, at, widths, names, columns);
+            return each_label(s, lo, hi, d, at, widths, names, columns, origin);
         }
-        return write_labels(s, lo, m, d, at, widths, names, columns);
+        return write_labels(s, lo, m, d, at, widths, names, columns, origin);
     }
     let mid = cells::start(s, m);
-    let next = write_labels(s, lo, mid, d, at, widths, names, columns);
-    write_labels(s, mid, m, d, next, widths, names, columns)
+    let next = write_labels(s, lo, mid, d, at, widths, names, columns, origin);
+    write_labels(s, mid, m, d, next, widths, names, columns, origin)
 }

@@ -31,5 +31,5 @@ abbrev pub value-words : Cell → List ℕ
 value-words k = cond (is-defined k) (sized [] k) []
 
 -- of Is Null and of Is NaN
-abbrev pub is-words : ℕ → List ℕ
-is-words t = cond (eqb t Tags.is-null) (constant-words null) (cond (eqb t Tags.is-nan) (constant-words (datum (float the-nan))) [])
+abbrev pub is-words : (tag origin : ℕ) → List ℕ
+is-words t new = cond (eqb t Tags.is-null) (constant-words (null, new)) (cond (eqb t Tags.is-nan) (constant-words (datum (float the-nan), new)) [])

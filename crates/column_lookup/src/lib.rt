@@ -1,7 +1,7 @@
 // expression.rs, is_column_lookup and into_column_values, and optimizer.rs, the test for an equijoin: which column an expression looks up, the values that it
 // is looked up for, and which two columns it sets equal. Expressions are in their working form (crate cells).
 ghost use mathlib.Core.Path.{_≡_};
-ghost use Prim.Native.Nat.{_-_, _<_};
+ghost use Prim.Native.Nat.{ℕ, _-_, _<_};
 ghost use Rattle.sql.specs.Expression.{same-column};
 ghost use Rattle.sql.specs.Optimizer.{ordered};
 ghost use Rattle.cells.specs.Room.{Wrote};
@@ -128,9 +128,9 @@ fn equal_value(d: &mut [u32], at: usize, k: cells::Cell) -> usize
     at
 }
 
-// The value of Is Null, which has tag 31, and of Is NaN, 32.
-fn is_value(d: &mut [u32], at: usize, t: u32) -> usize
-    ensures { λ r. ⌜ Wrote (now (d .entry)) at (is-words t) r (now (d .exit)) ⌝ }
+// The value of Is Null, which has tag 31, and of Is NaN, 32. It has the origin of the Is.
+fn is_value(d: &mut [u32], at: usize, t: u32, origin: u32) -> usize
+    ensures { λ r. ⌜ Wrote (now (d .entry)) at (is-words t origin) r (now (d .exit)) ⌝ }
 {
     if t == tags::IS_NULL {
         return cells::put(
@@ -138,6 +138,7 @@ fn is_value(d: &mut [u32], at: usize, t: u32) -> usize
             at,
             at,
             cells::Cell {
+                origin: origin,
                 tag: tags::NULL,
                 flag: 0,
                 a: 0,
@@ -152,6 +153,7 @@ fn is_value(d: &mut [u32], at: usize, t: u32) -> usize
             at,
             at,
             cells::Cell {
+                origin: origin,
                 tag: tags::FLOAT,
                 flag: 0,
                 a: 0,
@@ -183,7 +185,7 @@ pub fn into_column_values(s: &[u32], lo: usize, hi: usize, d: &mut [u32], at: us
         let m = equal_value(d, at, cells::cell_at(s, mid));
         return equal_value(d, m, cells::cell_at(s, end));
     }
-    is_value(d, at, t)
+    is_value(d, at, t, cells::origin_at(s, hi))
 }
 
 // Two columns, the lower one first.

@@ -7,7 +7,7 @@ use lib.ListN.{length, getD, set, length-append, length-set}
 use lib.Seq.{set-at}
 use borrow.Author.Tests.{eq-eqb, ne-eqb}
 use Rattle.cells.specs.declared.Cell.{Cell}
-use Rattle.cells.specs.Cells.{words, Part}
+use Rattle.cells.specs.Cells.{cell-words, words, Part}
 use Rattle.cells.proofs.Laws.{part-word}
 use Rattle.column_numbers.specs.declared.Change.{Change}
 use Rattle.column_numbers.specs.Columns.{changed, Room, changed-cell, changed-sized, EachCell}
@@ -34,7 +34,7 @@ changing-none k d at n cs p = record { done = []; rest = cs; is = p .whole; long
 cell-done : {k : Change} {before : List ℕ} {cs : List (Cell × ℕ)} {after : List ℕ} {at n i : ℕ} (done : List ℕ) (c : Cell × ℕ) (rest : List (Cell × ℕ)) (c′ : Cell)
     → c′ ≡ changed-cell k (c .0) → at + length done ≡ i → i + length (flat (c ∷ rest)) ≡ n
     → done ++ flat (map (changed-sized k) (c ∷ rest)) ≡ flat (map (changed-sized k) cs) → (EachCell k cs → EachCell k (c ∷ rest))
-    → {d : List ℕ} → d ≡ before ++ (done ++ (words c′ (c .1) ++ (flat rest ++ after))) → Rest k before cs after at n (i + 6) d
+    → {d : List ℕ} → d ≡ before ++ (done ++ (words c′ (c .1) ++ (flat rest ++ after))) → Rest k before cs after at n (i + cell-words) d
 cell-done {k} done c rest c′ new long left same room is =
     record {
       done = done ++ words c′ (c .1);
@@ -61,12 +61,12 @@ module _ {k : Change} {before : List ℕ} {cs : List (Cell × ℕ)} {after : Lis
         high = g .left;
       }
 
-  pub rest-in : Rest k before cs after at n i d → i < n → (i + 6 ≤ n) × (n ≤ length d)
+  pub rest-in : Rest k before cs after at n i d → i < n → (i + cell-words ≤ n) × (n ≤ length d)
   rest-in g h = cell-room h (g .rest) (rest-part g)
 
   -- one cell of those that are left
   one-left : (P : Type 0) → i < n → Rest k before cs after at n i d
-      → ((done : List ℕ) (c : Cell × ℕ) (rest : List (Cell × ℕ)) → getD d i 0 ≡ c .0 .tag → getD d (i + 2) 0 ≡ c .0 .a
+      → ((done : List ℕ) (c : Cell × ℕ) (rest : List (Cell × ℕ)) → getD d (i + 1) 0 ≡ c .0 .tag → getD d (i + 3) 0 ≡ c .0 .a
       → (is : d ≡ before ++ (done ++ (flat (c ∷ rest) ++ after))) → at + length done ≡ i → i + length (flat (c ∷ rest)) ≡ n
       → done ++ flat (map (changed-sized k) (c ∷ rest)) ≡ flat (map (changed-sized k) cs) → (EachCell k cs → EachCell k (c ∷ rest)) → P)
       → P
@@ -76,33 +76,33 @@ module _ {k : Change} {before : List ℕ} {cs : List (Cell × ℕ)} {after : Lis
           → g .done ++ flat (map (changed-sized k) rest) ≡ flat (map (changed-sized k) cs) → (EachCell k cs → EachCell k rest) → P
       go [] p is left same room = absurd (omega arith)
       go (c ∷ rest) p is left same room =
-          f (g .done) c rest (part-word p i 0 (omega arith)) (part-word p (i + 2) 2 (omega arith)) is (g .long) left same room
+          f (g .done) c rest (part-word p (i + 1) 1 (omega arith)) (part-word p (i + 3) 3 (omega arith)) is (g .long) left same room
 
-  pub rest-room : Rest k before cs after at n i d → i < n → EachCell k cs → getD d i 0 ≡ 6 → Room k (getD d (i + 2) 0)
+  pub rest-room : Rest k before cs after at n i d → i < n → EachCell k cs → getD d (i + 1) 0 ≡ 6 → Room k (getD d (i + 3) 0)
   rest-room g h each six =
-      one-left (Room k (getD d (i + 2) 0)) h g
+      one-left (Room k (getD d (i + 3) 0)) h g
       (λ done c rest tag a is long left same room. subst (Room k) (sym a) (room each .0 (sym tag ∙ six)))
 
-  rest-kept : Rest k before cs after at n i d → i < n → (getD d i 0 ≡ 6 → ⊥) → Rest k before cs after at n (i + 6) d
+  rest-kept : Rest k before cs after at n i d → i < n → (getD d (i + 1) 0 ≡ 6 → ⊥) → Rest k before cs after at n (i + cell-words) d
   rest-kept g h other =
-      one-left (Rest k before cs after at n (i + 6) d) h g
+      one-left (Rest k before cs after at n (i + cell-words) d) h g
       (λ done c rest tag a is long left same room.
       cell-done done c rest (c .0) (simp (ne-eqb (c .0 .tag) 6 (λ z. other (tag ∙ z)))) long left same room (is ∙ simp append-assoc))
 
-  rest-changed : Rest k before cs after at n i d → i < n → getD d i 0 ≡ 6 → {v : ℕ} → v ≡ changed k (getD d (i + 2) 0)
-      → Rest k before cs after at n (i + 6) (set d (i + 2) v)
+  rest-changed : Rest k before cs after at n i d → i < n → getD d (i + 1) 0 ≡ 6 → {v : ℕ} → v ≡ changed k (getD d (i + 3) 0)
+      → Rest k before cs after at n (i + cell-words) (set d (i + 3) v)
   rest-changed g h six {v} w =
-      one-left (Rest k before cs after at n (i + 6) (set d (i + 2) v)) h g
+      one-left (Rest k before cs after at n (i + cell-words) (set d (i + 3) v)) h g
       (λ done c rest tag a is long left same room.
-      let now : Cell = record { tag = c .0 .tag; flag = c .0 .flag; a = v; b = c .0 .b; c = c .0 .c } in
-      let front = before ++ (done ++ (c .0 .tag ∷ c .0 .flag ∷ [])) in
+      let now : Cell = record { origin = c .0 .origin; tag = c .0 .tag; flag = c .0 .flag; a = v; b = c .0 .b; c = c .0 .c } in
+      let front = before ++ (done ++ (c .0 .origin ∷ c .0 .tag ∷ c .0 .flag ∷ [])) in
       let back = c .0 .b ∷ c .0 .c ∷ c .1 ∷ (flat rest ++ after) in
-      let m : length front ≡ i + 2 = omega (arith, length-append before (done ++ (c .0 .tag ∷ c .0 .flag ∷ [])), length-append done (c .0 .tag ∷ c .0 .flag ∷ [])) in
+      let m : length front ≡ i + 3 = omega (arith, length-append before (done ++ (c .0 .origin ∷ c .0 .tag ∷ c .0 .flag ∷ [])), length-append done (c .0 .origin ∷ c .0 .tag ∷ c .0 .flag ∷ [])) in
       let all : d ≡ front ++ (c .0 .a ∷ back) = is ∙ simp append-assoc in
       let z : v ≡ changed k (c .0 .a) = w ∙ ap (changed k) a in
       cell-done done c rest now
       (simp (eq-eqb (c .0 .tag) 6 (sym tag ∙ six), z)) long left same room
-      (ap (λ (y : List ℕ). set y (i + 2) v) all ∙ set-at front (c .0 .a) back v (i + 2) m ∙ simp append-assoc))
+      (ap (λ (y : List ℕ). set y (i + 3) v) all ∙ set-at front (c .0 .a) back v (i + 3) m ∙ simp append-assoc))
 
   pub rest-none : Rest k before cs after at n i d → n ≤ i → d ≡ before ++ (flat (map (changed-sized k) cs) ++ after)
   rest-none g h =
@@ -115,8 +115,8 @@ module _ {k : Change} {before : List ℕ} {cs : List (Cell × ℕ)} {after : Lis
 -- ---- a turn of the loop
 
 module _ {k : Change} {d₀ : List ℕ} {at n i : ℕ} {d : List ℕ} (h : i < n) (g : (length d ≡ length d₀) × Changing k d₀ at n i d) {d′ : List ℕ} where
-  pub turn-kept : (getD d i 0 ≡ 6 → ⊥) → d′ ≡ d → (length d′ ≡ length d₀) × Changing k d₀ at n (i + 6) d′
+  pub turn-kept : (getD d (i + 1) 0 ≡ 6 → ⊥) → d′ ≡ d → (length d′ ≡ length d₀) × Changing k d₀ at n (i + cell-words) d′
   turn-kept other e = rw e (g .0, λ cs p. rest-kept (p .low) (g .1 cs p) h other)
 
-  pub turn-changed : getD d i 0 ≡ 6 → {v : ℕ} → v ≡ changed k (getD d (i + 2) 0) → d′ ≡ set d (i + 2) v → (length d′ ≡ length d₀) × Changing k d₀ at n (i + 6) d′
+  pub turn-changed : getD d (i + 1) 0 ≡ 6 → {v : ℕ} → v ≡ changed k (getD d (i + 3) 0) → d′ ≡ set d (i + 3) v → (length d′ ≡ length d₀) × Changing k d₀ at n (i + cell-words) d′
   turn-changed six {v} w e = rw e (simp length-set (g .0), λ cs p. rest-changed (p .low) (g .1 cs p) h six w)

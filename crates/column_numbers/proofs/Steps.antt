@@ -10,7 +10,7 @@ use borrow.Author.Tests.{ne-eqb}
 use Rattle.sql.specs.Expression.{Expression, constant, column, unary, binary, map-columns}
 use Rattle.sheet.specs.Content.{Content, constant-cell, column-cell, unary-cell, binary-cell}
 use Rattle.cells.specs.declared.Cell.{Cell}
-use Rattle.cells.specs.Cells.{Part}
+use Rattle.cells.specs.Cells.{cell-words, Part}
 use Rattle.cells.specs.Room.{Copies}
 use Rattle.cells.proofs.Laws.{no-more, done, wrote-up}
 use Rattle.words.specs.Words.{cell, expression-words}
@@ -25,16 +25,16 @@ use Rattle.column_numbers.proofs.Flat.{flat-words}
 -- ---- a property of each column
 
 pub each-column : {P : ℕ → Type 0} → ((c : ℕ) → P c) → (e : Expression) → EachColumn P e
-each-column f (constant v) = tt
-each-column f (column c) = f c
-each-column f (unary o x) = each-column f x
-each-column f (binary o l r) = (each-column f l, each-column f r)
+each-column f (constant og v) = tt
+each-column f (column og c) = f c
+each-column f (unary og o x) = each-column f x
+each-column f (binary og o l r) = (each-column f l, each-column f r)
 
 pub each-so : {P Q : ℕ → Type 0} → ((c : ℕ) → P c → Q c) → (e : Expression) → EachColumn P e → EachColumn Q e
-each-so f (constant v) h = tt
-each-so f (column c) h = f c h
-each-so f (unary o x) h = each-so f x h
-each-so f (binary o l r) h = (each-so f l (h .0), each-so f r (h .1))
+each-so f (constant og v) h = tt
+each-so f (column og c) h = f c h
+each-so f (unary og o x) h = each-so f x h
+each-so f (binary og o l r) h = (each-so f l (h .0), each-so f r (h .1))
 
 -- ---- where a rewrite has room
 
@@ -53,49 +53,49 @@ some-there t = record { e = t .e; here = t .here }
 
 each-cell : (k : Change) (e : Expression) → EachColumn (Room k) e → (cs : List (Cell × ℕ)) → EachCell k cs → EachCell k (cells-before e cs)
 unfolding cell
-each-cell k (constant v) h cs f = (λ z. absurd (omega (arith, constant-tag v)), f)
-each-cell k (column i) h cs f = (λ z. h, f)
-each-cell k (unary o x) h cs f = each-cell k x h ((cell (unary-cell o), length (expression-words x) + 6) ∷ cs) (λ z. absurd (omega (arith, unary-range o)), f)
-each-cell k (binary o l r) h cs f =
-    let c : Cell × ℕ = (cell (binary-cell o), length (expression-words l ++ expression-words r) + 6) in
+each-cell k (constant og v) h cs f = (λ z. absurd (omega (arith, constant-tag v)), f)
+each-cell k (column og i) h cs f = (λ z. h, f)
+each-cell k (unary og o x) h cs f = each-cell k x h ((cell og (unary-cell o), length (expression-words x) + cell-words) ∷ cs) (λ z. absurd (omega (arith, unary-range o)), f)
+each-cell k (binary og o l r) h cs f =
+    let c : Cell × ℕ = (cell og (binary-cell o), length (expression-words l ++ expression-words r) + cell-words) in
     each-cell k l (h .0) (cells-before r (c ∷ cs)) (each-cell k r (h .1) (c ∷ cs) (λ z. absurd (omega (arith, binary-range o .0)), f))
 
 -- ---- the cells of the rewritten expression are the rewritten cells
 
 long-kept : (f : ℕ → ℕ) (e : Expression) → length (expression-words e) ≡ length (expression-words (map-columns f e))
 unfolding expression-words
-long-kept f (constant v) = refl
-long-kept f (column i) = refl
-long-kept f (unary o x) = simp length-append (omega (arith, long-kept f x))
-long-kept f (binary o l r) = simp length-append (omega (arith, long-kept f l, long-kept f r))
+long-kept f (constant og v) = refl
+long-kept f (column og i) = refl
+long-kept f (unary og o x) = simp length-append (omega (arith, long-kept f x))
+long-kept f (binary og o l r) = simp length-append (omega (arith, long-kept f l, long-kept f r))
 
-other-kept : (k : Change) (t : Content) → (tag t ≡ 6 → ⊥) → changed-cell k (cell t) ≡ cell t
+other-kept : (k : Change) (og : ℕ) (t : Content) → (tag t ≡ 6 → ⊥) → changed-cell k (cell og t) ≡ cell og t
 unfolding cell
-other-kept k t h = simp (ne-eqb (tag t) 6 h)
+other-kept k og t h = simp (ne-eqb (tag t) 6 h)
 
-column-changed : (k : Change) (i : ℕ) → changed-cell k (cell (column-cell i)) ≡ cell (column-cell (changed k i))
+column-changed : (k : Change) (og i : ℕ) → changed-cell k (cell og (column-cell i)) ≡ cell og (column-cell (changed k i))
 unfolding cell
-column-changed k i = refl
+column-changed k og i = refl
 
 changed-before : (k : Change) (e : Expression) (cs : List (Cell × ℕ))
     → map (changed-sized k) (cells-before e cs) ≡ cells-before (map-columns (changed k) e) (map (changed-sized k) cs)
-changed-before k (constant v) cs =
-    ap (λ (c : Cell). (c, 6) ∷ map (changed-sized k) cs) (other-kept k (constant-cell v) (λ z. omega (arith, constant-tag v)))
-changed-before k (column i) cs = ap (λ (c : Cell). (c, 6) ∷ map (changed-sized k) cs) (column-changed k i)
-changed-before k (unary o x) cs =
-    changed-before k x ((cell (unary-cell o), length (expression-words x) + 6) ∷ cs)
-    ∙ ap₂ (λ (c : Cell) (n : ℕ). cells-before (map-columns (changed k) x) ((c, n + 6) ∷ map (changed-sized k) cs))
-    (other-kept k (unary-cell o) (λ z. omega (arith, unary-range o)))
+changed-before k (constant og v) cs =
+    ap (λ (c : Cell). (c, cell-words) ∷ map (changed-sized k) cs) (other-kept k og (constant-cell v) (λ z. omega (arith, constant-tag v)))
+changed-before k (column og i) cs = ap (λ (c : Cell). (c, cell-words) ∷ map (changed-sized k) cs) (column-changed k og i)
+changed-before k (unary og o x) cs =
+    changed-before k x ((cell og (unary-cell o), length (expression-words x) + cell-words) ∷ cs)
+    ∙ ap₂ (λ (c : Cell) (n : ℕ). cells-before (map-columns (changed k) x) ((c, n + cell-words) ∷ map (changed-sized k) cs))
+    (other-kept k og (unary-cell o) (λ z. omega (arith, unary-range o)))
     (long-kept (changed k) x)
-changed-before k (binary o l r) cs =
+changed-before k (binary og o l r) cs =
     let f = map-columns (changed k) in
-    let c : Cell × ℕ = (cell (binary-cell o), length (expression-words l ++ expression-words r) + 6) in
+    let c : Cell × ℕ = (cell og (binary-cell o), length (expression-words l ++ expression-words r) + cell-words) in
     let m : length (expression-words l ++ expression-words r) ≡ length (expression-words (f l) ++ expression-words (f r)) =
     simp length-append (omega (arith, long-kept (changed k) l, long-kept (changed k) r)) in
     changed-before k l (cells-before r (c ∷ cs))
     ∙ ap (cells-before (f l)) (changed-before k r (c ∷ cs))
-    ∙ ap₂ (λ (c : Cell) (n : ℕ). cells-before (f l) (cells-before (f r) ((c, n + 6) ∷ map (changed-sized k) cs)))
-    (other-kept k (binary-cell o) (λ z. omega (arith, binary-range o .0)))
+    ∙ ap₂ (λ (c : Cell) (n : ℕ). cells-before (f l) (cells-before (f r) ((c, n + cell-words) ∷ map (changed-sized k) cs)))
+    (other-kept k og (binary-cell o) (λ z. omega (arith, binary-range o .0)))
     m
 
 changed-words : (k : Change) (e : Expression) → flat (map (changed-sized k) (cells-before e [])) ≡ expression-words (map-columns (changed k) e)

@@ -33,7 +33,7 @@ Room (Replace from to) c = Unit
 
 -- a Column's cell has tag 6 and its number in a
 abbrev pub changed-cell : Change → Cell → Cell
-changed-cell k c = cond (eqb (c .tag) Tags.column) (record { tag = c .tag; flag = c .flag; a = changed k (c .a); b = c .b; c = c .c }) c
+changed-cell k c = cond (eqb (c .tag) Tags.column) (record { origin = c .origin; tag = c .tag; flag = c .flag; a = changed k (c .a); b = c .b; c = c .c }) c
 
 -- the cell with its size, which stays
 abbrev pub changed-sized : Change → Cell × ℕ → Cell × ℕ
@@ -56,10 +56,10 @@ Rewrites k d at n d′ = (cs : List (Cell × ℕ)) (p : Part d at n (flat cs)) �
 
 -- P holds of each column of an expression.
 abbrev pub EachColumn : (ℕ → Type 0) → Expression → Type 0
-EachColumn P (constant v) = Unit
-EachColumn P (column c) = P c
-EachColumn P (unary o x) = EachColumn P x
-EachColumn P (binary o l r) = EachColumn P l × EachColumn P r
+EachColumn P (constant og v) = Unit
+EachColumn P (column og c) = P c
+EachColumn P (unary og o x) = EachColumn P x
+EachColumn P (binary og o l r) = EachColumn P l × EachColumn P r
 
 -- Some expression stands in s from word lo up to hi, and its columns can be rewritten.
 pub record Changeable (k : Change) (s : List ℕ) (lo hi : ℕ) : Type 0 where

@@ -17,8 +17,8 @@ flat ks = all-words with-size ks
 
 -- an expression's cells, and others behind them
 abbrev pub cells-before : Expression → List (Cell × ℕ) → List (Cell × ℕ)
-cells-before (constant v) ks = (cell (constant-cell v), cell-words) ∷ ks
-cells-before (column i) ks = (cell (column-cell i), cell-words) ∷ ks
-cells-before (unary o x) ks = cells-before x ((cell (unary-cell o), length (expression-words x) + cell-words) ∷ ks)
-cells-before (binary o l r) ks =
-    cells-before l (cells-before r ((cell (binary-cell o), length (expression-words l ++ expression-words r) + cell-words) ∷ ks))
+cells-before (constant og v) ks = (cell og (constant-cell v), cell-words) ∷ ks
+cells-before (column og i) ks = (cell og (column-cell i), cell-words) ∷ ks
+cells-before (unary og o x) ks = cells-before x ((cell og (unary-cell o), length (expression-words x) + cell-words) ∷ ks)
+cells-before (binary og o l r) ks =
+    cells-before l (cells-before r ((cell og (binary-cell o), length (expression-words l ++ expression-words r) + cell-words) ∷ ks))

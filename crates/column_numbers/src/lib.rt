@@ -104,7 +104,7 @@ fn change_columns(d: &mut [u32], at: usize, n: usize, k: Change) -> usize
 {
     let mut i = at;
     while i < n {
-        if d[i] == tags::COLUMN {
+        if d[i + cells::TAG] == tags::COLUMN {
             d[i + cells::A] = changed(k, d[i + cells::A]);
         }
         i += cells::CELL_WORDS;

@@ -17,34 +17,34 @@ use Rattle.conjuncts.specs.Conjuncts.{and-then, and-onto, for-destinatio
 
 -- ---- and_vec, one conjunct after the other
 
-pub onto-append : (acc : Option Expression) (xs ys : List Expression) → and-onto acc (xs ++ ys) ≡ and-onto (and-onto acc xs) ys
-onto-append acc [] ys = refl
-onto-append acc (x ∷ xs) ys = onto-append (and-then acc x) xs ys
+pub onto-append : (new : ℕ) (acc : Option Expression) (xs ys : List Expression) → and-onto new acc (xs ++ ys) ≡ and-onto new (and-onto new acc xs) ys
+onto-append new acc [] ys = refl
+onto-append new acc (x ∷ xs) ys = onto-append new (and-then new acc x) xs ys
 
-onto-some : (a : Expression) (xs : List Expression) → and-onto (some a) xs ≡ some (and-all a xs)
-onto-some a [] = refl
-onto-some a (x ∷ xs) = onto-some (and a x) xs
+onto-some : (new : ℕ) (a : Expression) (xs : List Expression) → and-onto new (some a) xs ≡ some (and-all new a xs)
+onto-some new a [] = refl
+onto-some new a (x ∷ xs) = onto-some new (and new a x) xs
 
-pub onto-none : (xs : List Expression) → and-onto none xs ≡ and-vec xs
-onto-none [] = refl
-onto-none (x ∷ xs) = onto-some x xs
+pub onto-none : (new : ℕ) (xs : List Expression) → and-onto new none xs ≡ and-vec new xs
+onto-none new [] = refl
+onto-none new (x ∷ xs) = onto-some new x xs
 
-pub onto-vec : (xs ys : List Expression) → and-onto (and-vec xs) ys ≡ and-vec (xs ++ ys)
-onto-vec xs ys = sym (ap (λ (a : Option Expression). and-onto a ys) (onto-none xs)) ∙ (sym (onto-append none xs ys) ∙ onto-none (xs ++ ys))
+pub onto-vec : (new : ℕ) (xs ys : List Expression) → and-onto new (and-vec new xs) ys ≡ and-vec new (xs ++ ys)
+onto-vec new xs ys = sym (ap (λ (a : Option Expression). and-onto new a ys) (onto-none new xs)) ∙ (sym (onto-append new none xs ys) ∙ onto-none new (xs ++ ys))
 
 -- ---- the Ands at the top
 
-pub ands-and : (o : Binary) (l r : Expression) → binary-tag o ≡ 10 → ands (binary o l r) ≡ ands l ++ ands r
-ands-and o l r = by-and (λ p. ands (binary p l r) ≡ ands l ++ ands r) refl o
+pub ands-and : (og : ℕ) (o : Binary) (l r : Expression) → binary-tag o ≡ 10 → ands (binary og o l r) ≡ ands l ++ ands r
+ands-and og o l r = by-and (λ p. ands (binary og p l r) ≡ ands l ++ ands r) refl o
 
 pub ands-one : (e : Expression) → (tag (root e) ≡ 10 → ⊥) → ands e ≡ e ∷ []
-ands-one (constant v) h = refl
-ands-one (column i) h = refl
-ands-one (unary o x) h = refl
-ands-one (binary (logical And) l r) h = absurd (h refl)
-ands-one (binary (logical Or) l r) h = refl
-ands-one (binary Equal l r) h = refl
-ands-one (binary (function f) l r) h = refl
+ands-one (constant og v) h = refl
+ands-one (column og i) h = refl
+ands-one (unary og o x) h = refl
+ands-one (binary og (logical And) l r) h = absurd (h refl)
+ands-one (binary og (logical Or) l r) h = refl
+ands-one (binary og Equal l r) h = refl
+ands-one (binary og (function f) l r) h = refl
 
 -- ---- keep and flat-map
 
@@ -65,10 +65,10 @@ flat-keep t f (x ∷ xs) = step (t x) (keep t xs) (flat-keep t f xs)
     step false zs h = h
 
 pub shift-none : (e : Expression) → shift-column-down 0 e ≡ e
-shift-none (constant v) = refl
-shift-none (column c) = ap column (omega arith)
-shift-none (unary o x) = ap (unary o) (shift-none x)
-shift-none (binary o l r) = ap₂ (binary o) (shift-none l) (shift-none r)
+shift-none (constant og v) = refl
+shift-none (column og c) = ap (column og) (omega arith)
+shift-none (unary og o x) = ap (unary og o) (shift-none x)
+shift-none (binary og o l r) = ap₂ (binary og o) (shift-none l) (shift-none r)
 
 pub map-shift-none : (es : List Expression) → map (shift-column-down 0) es ≡ es
 map-shift-none [] = refl

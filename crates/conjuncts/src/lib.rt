@@ -1,5 +1,6 @@
 // optimizer.rs, maybe_push_join: the conjuncts of a join's predicate, joined by And in order, by where they go. The predicate is in its working form (crate
-// cells); a conjunct is appended to another slice, behind those that stand there from word `from` up to `at`, with an And over both (and_vec).
+// cells); a conjunct is appended to another slice, behind those that stand there from word `from` up to `at`, with an And over both (and_vec), whose
+// origin the caller gives.
 ghost use mathlib.Core.Path.{_≡_};
 ghost use mathlib.Core.List.{[], _∷_, map};
 ghost use Prim.Native.Nat.{_-_, _<_};
@@ -27,9 +28,9 @@ fn move_down(s: &[u32], lo: usize, hi: usize, d: &mut [u32], at: usize, shift: u
 }
 
 // The And of the conjuncts that stand in d from `from` up to at and the expression from at up to m; that expression alone if no conjunct stands before it.
-pub fn and_over(d: &mut [u32], from: usize, at: usize, m: usize) -> usize
+pub fn and_over(d: &mut [u32], from: usize, at: usize, m: usize, origin: u32) -> usize
     requires { ⌜ JoinableAt (now d) from at m ⌝ }
-    ensures { λ r. ⌜ Joins (now (d .entry)) from at m r (now (d .exit)) ⌝ }
+    ensures { λ r. ⌜ Joins origin (now (d .entry)) from at m r (now (d .exit)) ⌝ }
 {
     if d.len() < at {
         return at;
@@ -42,6 +43,7 @@ pub fn and_over(d: &mut [u32], from: usize, at: usize, m: usize) -> usize
         from,
         m,
         cells::Cell {
+            origin: origin,
             tag: tags::AND,
             flag: 0,
             a: 0,
@@ -60,13 +62,14 @@ pub fn append(
     from: usize,
     at: usize,
     shift: usize,
+    origin: u32,
 ) -> usize
     requires { ⌜ ExpressionAt (now s) lo hi ⌝ }
     requires { ⌜ GatheredAt (now d) from at ⌝ }
-    ensures { λ r. ⌜ AppendsEach (λ e. shift-column-down shift e ∷ []) (now (s .entry)) lo hi (now (d .entry)) from at r (now (d .exit)) ⌝ }
+    ensures { λ r. ⌜ AppendsEach origin (λ e. shift-column-down shift e ∷ []) (now (s .entry)) lo hi (now (d .entry)) from at r (now (d .exit)) ⌝ }
 {
     let m = move_down(s, lo, hi, d, at, shift);
-    and_over(d, from, at, m)
+    and_over(d, from, at, m, origin)
 }
 
 // Whether a conjunct that refers to these sources goes there. One that refers to no column goes to both sources.
@@ -106,19 +109,20 @@ fn gather(
     to: Destination,
     n: usize,
     shift: usize,
+    origin: u32,
 ) -> usize
     requires { ⌜ ExpressionAt (now s) lo hi ⌝ }
     requires { ⌜ GatheredAt (now d) from at ⌝ }
-    ensures { λ r. ⌜ Walks (chosen to n shift) (now (s .entry)) lo hi (now (d .entry)) from at r (now (d .exit)) ⌝ }
+    ensures { λ r. ⌜ Walks origin (chosen to n shift) (now (s .entry)) lo hi (now (d .entry)) from at r (now (d .exit)) ⌝ }
 {
     if cells::tag_at(s, hi) == tags::AND {
         let end = hi - cells::CELL_WORDS;
         let mid = cells::start(s, end);
-        let m = gather(s, lo, mid, d, from, at, to, n, shift);
-        return gather(s, mid, end, d, from, m, to, n, shift);
+        let m = gather(s, lo, mid, d, from, at, to, n, shift, origin);
+        return gather(s, mid, end, d, from, m, to, n, shift, origin);
     }
     if goes(to, column_numbers::refers(s, lo, hi, n)) {
-        return append(s, lo, hi, d, from, at, shift);
+        return append(s, lo, hi, d, from, at, shift, origin);
     }
     at
 }
@@ -132,12 +136,13 @@ pub fn for_left(
     from: usize,
     at: usize,
     n: usize,
+    origin: u32,
 ) -> usize
     requires { ⌜ ExpressionAt (now s) lo hi ⌝ }
     requires { ⌜ GatheredAt (now d) from at ⌝ }
-    ensures { λ r. ⌜ AppendsEach (λ e. for-left n (ands e)) (now (s .entry)) lo hi (now (d .entry)) from at r (now (d .exit)) ⌝ }
+    ensures { λ r. ⌜ AppendsEach origin (λ e. for-left n (ands e)) (now (s .entry)) lo hi (now (d .entry)) from at r (now (d .exit)) ⌝ }
 {
-    gather(s, lo, hi, d, from, at, Destination::Left, n, 0)
+    gather(s, lo, hi, d, from, at, Destination::Left, n, 0, origin)
 }
 
 // Those for the right source, with their columns `shift` lower: n, to push them, or 0.
@@ -150,12 +155,13 @@ pub fn for_right(
     at: usize,
     n: usize,
     shift: usize,
+    origin: u32,
 ) -> usize
     requires { ⌜ ExpressionAt (now s) lo hi ⌝ }
     requires { ⌜ GatheredAt (now d) from at ⌝ }
-    ensures { λ r. ⌜ AppendsEach (λ e. map (shift-column-down shift) (for-right n (ands e))) (now (s .entry)) lo hi (now (d .entry)) from at r (now (d .exit)) ⌝ }
+    ensures { λ r. ⌜ AppendsEach origin (λ e. map (shift-column-down shift) (for-right n (ands e))) (now (s .entry)) lo hi (now (d .entry)) from at r (now (d .exit)) ⌝ }
 {
-    gather(s, lo, hi, d, from, at, Destination::Right, n, shift)
+    gather(s, lo, hi, d, from, at, Destination::Right, n, shift, origin)
 }
 
 // Those that stay with the join.
@@ -167,10 +173,11 @@ pub fn for_both(
     from: usize,
     at: usize,
     n: usize,
+    origin: u32,
 ) -> usize
     requires { ⌜ ExpressionAt (now s) lo hi ⌝ }
     requires { ⌜ GatheredAt (now d) from at ⌝ }
-    ensures { λ r. ⌜ AppendsEach (λ e. for-both n (ands e)) (now (s .entry)) lo hi (now (d .entry)) from at r (now (d .exit)) ⌝ }
+    ensures { λ r. ⌜ AppendsEach origin (λ e. for-both n (ands e)) (now (s .entry)) lo hi (now (d .entry)) from at r (now (d .exit)) ⌝ }
 {
-    gather(s, lo, hi, d, from, at, Destination::Join, n, 0)
+    gather(s, lo, hi, d, from, at, Destination::Join, n, 0, origin)
 }

@@ -5,10 +5,12 @@ use mathlib.Core.Path.{_≡_, refl, sym, ap, subst}
 use mathlib.Core.List.{List, [], _∷_}
 use mathlib.Core.Option.{Option, some}
 use lib.ListN.{length, length-append}
+use Rattle.sql.specs.Expression.{Marked}
 use Rattle.sql.specs.Plan.{limit, offset, order, projection, remap, aggregate, Over, Other, other, Node, over, node-size}
 use Rattle.sql.specs.Answer.{Answer, done, refused, _>>=_}
 use Rattle.sql.specs.Optimizer.{fold-over, ConstantFolding}
 use Rattle.sheet.specs.Content.{item-cell, key-cell}
+use Rattle.cells.specs.Cells.{cell-words}
 use Rattle.cells.specs.Room.{Short}
 use Rattle.words.specs.Words.{cell, all-words, expression-words, item-words, key-words, over-own, node-words}
 use Rattle.words.specs.Place.{NodeHere, NodeAt}
@@ -33,33 +35,33 @@ bare-folds first (limit a) h = refl
 bare-folds first (offset a) h = refl
 bare-folds first (order []) h = refl
 bare-folds first (order (k ∷ ks)) h =
-    absurd (omega (arith, ap length h, length-append (key-words k) (all-words key-words ks), sized-long (expression-words (k .0)) (cell (key-cell (k .1)))))
+    absurd (omega (arith, ap length h, length-append (key-words k) (all-words key-words ks), sized-long (expression-words (k .0)) (cell (k .2) (key-cell (k .1)))))
 bare-folds first (projection []) h = refl
 bare-folds first (projection (i ∷ is)) h =
-    absurd (omega (arith, ap length h, length-append (item-words i) (all-words item-words is), sized-long (expression-words (i .0)) (cell (item-cell (i .1)))))
+    absurd (omega (arith, ap length h, length-append (item-words i) (all-words item-words is), sized-long (expression-words (i .0)) (cell (i .2) (item-cell (i .1)))))
 bare-folds first (remap ts) h = refl
 bare-folds first (aggregate es gs) h = refl
 
-folding-chain : (first : ℕ) (os : List Other) → Each (λ o. over-own (other o) ≡ []) os → (p : Node)
+folding-chain : (first : ℕ) (os : List (Marked Other)) → Each (λ o. over-own (other o) ≡ []) os → (p : Node)
     → ConstantFolding first (chain os p) ≡ (ConstantFolding first p >>= λ q. done (chain os q))
 folding-chain first os h p =
     chain-left (λ rest p. ConstantFolding first p)
-    (λ rest o h p. ap (λ (a : Answer Over). a >>= λ c. ConstantFolding first p >>= λ s. done (over c s)) (bare-folds (first + node-size p) o h)) 0 os h p
+    (λ rest og o h p. ap (λ (a : Answer Over). a >>= λ c. ConstantFolding first p >>= λ s. done (over og c s)) (bare-folds (first + node-size p) o h)) 0 os h p
 
-below-fits : (text : List ℕ) (os : List Other) (p : Node) → Node-fits text (chain os p) → Node-fits text p
+below-fits : (text : List ℕ) (os : List (Marked Other)) (p : Node) → Node-fits text (chain os p) → Node-fits text p
 below-fits text [] p f = f
-below-fits text (o ∷ os) p f = below-fits text os (over (other o) p) f .1
+below-fits text (o ∷ os) p f = below-fits text os (over (o .1) (other (o .0)) p) f .1
 
 -- ---- the node below
 
 -- what the chain leaves
-left-chain : {y : List ℕ} {at : ℕ} {r : Folded} {y₁ : List ℕ} (first : ℕ) (os : List Other) → Each (λ o. over-own (other o) ≡ []) os → (p : Node)
+left-chain : {y : List ℕ} {at : ℕ} {r : Folded} {y₁ : List ℕ} (first : ℕ) (os : List (Marked Other)) → Each (λ o. over-own (other o) ≡ []) os → (p : Node)
     → Leaves node-words y at (ConstantFolding first p >>= λ q. done (chain os q)) r y₁ → Leaves words-of y at (fold-source first (some (chain os p))) r y₁
 left-chain first os e p l = made-into (ConstantFolding first (chain os p)) some (λ q. refl) (answer-as (sym (folding-chain first os e p)) l)
 
 module _ {text x : List ℕ} {lo hi end : ℕ} (b : Bare x lo hi end) (h : lo < hi) where
   by-below : (Q : Option Node → Type 0)
-      → ((os : List Other) → Each (λ o. over-own (other o) ≡ []) os → (p : Node) → NodeHere x lo hi (chain os p) → NodeHere x lo end p → Node-fits text p → Q (some (chain os p)))
+      → ((os : List (Marked Other)) → Each (λ o. over-own (other o) ≡ []) os → (p : Node) → NodeHere x lo hi (chain os p) → NodeHere x lo end p → Node-fits text p → Q (some (chain os p)))
       → (source : Option Node) → SourceHere text x lo hi source → Q source
   by-below Q k source u =
       by-node Q
@@ -86,7 +88,7 @@ module _ {text x : List ℕ} {lo hi end : ℕ} (b : Bare x lo hi end) (h : lo < 
   chain-at t = by-below (λ o. ChainAt x end hi) (λ os e p v w f. record { low = lo; os = os; p = p; whole = v; below = w }) (t .source) (t .here)
 
   -- what the node below leaves
-  left-below : {y : List ℕ} {at : ℕ} {r : Folded} {y₁ : List ℕ} → FoldsSource text x lo end y at r y₁ → (first : ℕ) → lo ≡ 6 * first
+  left-below : {y : List ℕ} {at : ℕ} {r : Folded} {y₁ : List ℕ} → FoldsSource text x lo end y at r y₁ → (first : ℕ) → lo ≡ cell-words * first
       → (p : Node) → NodeHere x lo end p → Node-fits text p → Leaves node-words y at (ConstantFolding first p) r y₁
   left-below g first k p w f = node-left first p (g .leaves first (some p) k (below-here p w f))
 
@@ -110,7 +112,7 @@ module _ {text x : List ℕ} {lo hi end : ℕ} (b : Bare x lo hi end) (h : lo < 
   module _ {y : List ℕ} {at u : ℕ} {y₁ : List ℕ} (room : (at + (hi - lo) ≤ length y) × Short y) (long : length y₁ ≡ length y)
       (g : FoldsSource text x lo end y at (Folded.Done u) y₁) {v : ℕ} {y₂ : List ℕ} (c : Follows x end hi y₁ at u v y₂) where
     -- the chain over what the node below folds to
-    followed : (os : List Other) (p q : Node) → NodeHere x lo hi (chain os p) → NodeHere x lo end p → Appended y at (node-words q) u y₁
+    followed : (os : List (Marked Other)) (p q : Node) → NodeHere x lo hi (chain os p) → NodeHere x lo end p → Appended y at (node-words q) u y₁
         → Appended y at (node-words (chain os q)) v y₂ × (v ≤ at + (hi - lo))
     followed os p q v w a =
         let e = chain-end os p v w in
@@ -120,7 +122,7 @@ module _ {text x : List ℕ} {lo hi end : ℕ} (b : Bare x lo hi end) (h : lo < 
         let d = appended (c .over-node lo os p q v w y long (wrote a (omega (arith, room .0, a .ends)))) (room .1) (omega (arith, room .0, a .ends)) in
         (d, omega (arith, d .ends, a .ends))
 
-    ended : (os : List Other) (p : Node) → NodeHere x lo hi (chain os p) → NodeHere x lo end p → (a : Answer Node) → Leaves node-words y at a (Folded.Done u) y₁ → v ≤ at + (hi - lo)
+    ended : (os : List (Marked Other)) (p : Node) → NodeHere x lo hi (chain os p) → NodeHere x lo end p → (a : Answer Node) → Leaves node-words y at a (Folded.Done u) y₁ → v ≤ at + (hi - lo)
     ended os p v w (done q) l = followed os p q v w (l .left) .1
     ended os p v w (refused number place) l = absurd (l .left)
 

@@ -6,7 +6,7 @@ use mathlib.Core.Path.{_≡_, refl, sym, ap, _∙_, subst}
 use mathlib.Core.List.{List, [], _∷_, _++_, append-assoc}
 use mathlib.Core.Option.{Option, none, some}
 use lib.ListN.{length, length-append}
-use Rattle.sql.specs.Plan.{Leaf, scan, lookup, nothing, values, Over, Join, Node, leaf, over, join, node-size}
+use Rattle.sql.specs.Plan.{node-origin, Leaf, scan, lookup, nothing, values, Over, Join, Node, leaf, over, join, node-size}
 use Rattle.sql.specs.Answer.{Answer, done, refused, _>>=_}
 use Rattle.sql.specs.Optimizer.{fold-leaf, fold-over, fold-join, ConstantFolding}
 use Rattle.sheet.specs.Content.{row-cell}
@@ -14,7 +14,7 @@ use Rattle.sheet_laws.specs.Fits.{All, Optional}
 use Rattle.sheet_laws.specs.Counts.{size-positive}
 use Rattle.sound.specs.Answers.{answer-is}
 use Rattle.cells.specs.declared.Cell.{Cell}
-use Rattle.cells.specs.Cells.{sized, cell-at, start-at, Part, Sized}
+use Rattle.cells.specs.Cells.{cell-words, sized, cell-at, start-at, Part, Sized}
 use Rattle.cells.specs.Room.{Short, Wrote, Seals, Copies}
 use Rattle.cells.proofs.Laws.{part-left, part-right, part-in}
 use Rattle.words.specs.Words.{cell, all-words, expression-words, row-words, node-words, leaf-own, over-own, join-own, leaf-cell, over-cell, join-cell, source-words, own-words, node-cell}
@@ -35,50 +35,50 @@ use Rattle.constant_folding.proofs.Cells.{leaf-cell-kept, over-cell-kep
 
 -- ---- last_source
 
-node-six : (p : Node) → 6 ≤ length (node-words p)
-node-six p = omega (arith, ap length (node-shape p), sized-long (source-words p ++ own-words p) (cell (node-cell p)))
+node-has-cell : (p : Node) → cell-words ≤ length (node-words p)
+node-has-cell p = omega (arith, ap length (node-shape p), sized-long (source-words p ++ own-words p) (cell (node-origin p) (node-cell p)))
 
 module _ {x : List ℕ} {lo m : ℕ} where
   pub last-none : m ≤ lo → LastStart x lo m lo
-  last-none h (leaf l) u = omega arith
-  last-none h (over o n) u = absurd (omega (arith, node-six n, u .high))
-  last-none h (join outer j l r) u = absurd (omega (arith, node-six l, u .high, length-append (node-words l) (node-words r)))
+  last-none h (leaf og l) u = omega arith
+  last-none h (over og o n) u = absurd (omega (arith, node-has-cell n, u .high))
+  last-none h (join og outer j l r) u = absurd (omega (arith, node-has-cell l, u .high, length-append (node-words l) (node-words r)))
 
   module _ (h : lo < m) where
     pub last-sized : SourcesAt x lo m → Sized x m
     last-sized t = go (t .p) (t .stand)
       where
         go : (p : Node) → Part x lo m (source-words p) → Sized x m
-        go (leaf l) u = absurd (omega (arith, u .high))
-        go (over o n) u = node-size-at n (record { part = u })
-        go (join outer j l r) u = node-size-at r (record { part = part-right (node-words l) (node-words r) u })
+        go (leaf og l) u = absurd (omega (arith, u .high))
+        go (over og o n) u = node-size-at n (record { part = u })
+        go (join og outer j l r) u = node-size-at r (record { part = part-right (node-words l) (node-words r) u })
 
     pub last-some : {mid : ℕ} → mid ≡ start-at x m → LastStart x lo m mid
-    last-some e (leaf l) u = absurd (omega (arith, u .high))
-    last-some e (over o n) u = let k = node-start n (record { part = u }) in omega arith
-    last-some e (join outer j l r) u = e ∙ node-start r (record { part = part-right (node-words l) (node-words r) u })
+    last-some e (leaf og l) u = absurd (omega (arith, u .high))
+    last-some e (over og o n) u = let k = node-start n (record { part = u }) in omega arith
+    last-some e (join og outer j l r) u = e ∙ node-start r (record { part = part-right (node-words l) (node-words r) u })
 
 -- ---- where the sources stand
 
 sources-are : (p : Node) → source-words p ≡ words-of (earlier-source p) ++ words-of (last-source p)
-sources-are (leaf l) = refl
-sources-are (over o n) = refl
-sources-are (join outer j l r) = refl
+sources-are (leaf og l) = refl
+sources-are (over og o n) = refl
+sources-are (join og outer j l r) = refl
 
 earlier-fits : (text : List ℕ) (p : Node) → Node-fits text p → Optional (Node-fits text) (earlier-source p)
-earlier-fits text (leaf l) f = tt
-earlier-fits text (over o n) f = tt
-earlier-fits text (join outer j l r) f = f .1 .0
+earlier-fits text (leaf og l) f = tt
+earlier-fits text (over og o n) f = tt
+earlier-fits text (join og outer j l r) f = f .1 .0
 
 last-fits : (text : List ℕ) (p : Node) → Node-fits text p → Optional (Node-fits text) (last-source p)
-last-fits text (leaf l) f = tt
-last-fits text (over o n) f = f .1
-last-fits text (join outer j l r) f = f .1 .1
+last-fits text (leaf og l) f = tt
+last-fits text (over og o n) f = f .1
+last-fits text (join og outer j l r) f = f .1 .1
 
 own-fits : (text : List ℕ) (p : Node) → Node-fits text p → All (Part-fits text) (own-parts p)
-own-fits text (leaf l) f = f
-own-fits text (over o n) f = f .0
-own-fits text (join outer j l r) f = f .0
+own-fits text (leaf og l) f = f
+own-fits text (over og o n) f = f .0
+own-fits text (join og outer j l r) f = f .0
 
 -- from where the own words start, and the last source
 module _ {x : List ℕ} {lo hi m : ℕ} (own : OwnStart x lo hi m) where
@@ -86,14 +86,14 @@ module _ {x : List ℕ} {lo hi m : ℕ} (own : OwnStart x lo hi m) where
   sources-part p u = source-part p u (own p u)
 
   -- the number of the first own cell
-  leaf-number : (first : ℕ) → lo ≡ 6 * first → (l : Leaf) → NodeHere x lo hi (leaf l) → m ≡ 6 * first
-  leaf-number first e l u = omega (arith, own (leaf l) u)
+  leaf-number : (first : ℕ) → lo ≡ cell-words * first → (og : ℕ) (l : Leaf) → NodeHere x lo hi (leaf og l) → m ≡ cell-words * first
+  leaf-number first e og l u = omega (arith, own (leaf og l) u)
 
-  over-number : (first : ℕ) → lo ≡ 6 * first → (o : Over) (n : Node) → NodeHere x lo hi (over o n) → m ≡ 6 * (first + node-size n)
-  over-number first e o n u = omega (arith, own (over o n) u, words-long n)
+  over-number : (first : ℕ) → lo ≡ cell-words * first → (og : ℕ) (o : Over) (n : Node) → NodeHere x lo hi (over og o n) → m ≡ cell-words * (first + node-size n)
+  over-number first e og o n u = omega (arith, own (over og o n) u, words-long n)
 
-  join-number : (first : ℕ) → lo ≡ 6 * first → (outer : Bool) (j : Join) (l r : Node) → NodeHere x lo hi (join outer j l r) → m ≡ 6 * (first + (node-size l + node-size r))
-  join-number first e outer j l r u = omega (arith, own (join outer j l r) u, length-append (node-words l) (node-words r), words-long l, words-long r)
+  join-number : (first : ℕ) → lo ≡ cell-words * first → (og : ℕ) (outer : Bool) (j : Join) (l r : Node) → NodeHere x lo hi (join og outer j l r) → m ≡ cell-words * (first + (node-size l + node-size r))
+  join-number first e og outer j l r u = omega (arith, own (join og outer j l r) u, length-append (node-words l) (node-words r), words-long l, words-long r)
 
   module _ {mid : ℕ} (last : LastStart x lo m mid) where
     both : (p : Node) → NodeHere x lo hi p → Part x lo m (words-of (earlier-source p) ++ words-of (last-source p))
@@ -102,11 +102,11 @@ module _ {x : List ℕ} {lo hi m : ℕ} (own : OwnStart x lo hi m) where
     mid-is : (p : Node) (u : NodeHere x lo hi p) → lo + length (words-of (earlier-source p)) ≡ mid
     mid-is p u = sym (last p (sources-part p u))
 
-    join-mid : (first : ℕ) → lo ≡ 6 * first → (outer : Bool) (j : Join) (l r : Node) → NodeHere x lo hi (join outer j l r) → mid ≡ 6 * (first + node-size l)
-    join-mid first e outer j l r u = omega (arith, mid-is (join outer j l r) u, words-long l)
+    join-mid : (first : ℕ) → lo ≡ cell-words * first → (og : ℕ) (outer : Bool) (j : Join) (l r : Node) → NodeHere x lo hi (join og outer j l r) → mid ≡ cell-words * (first + node-size l)
+    join-mid first e og outer j l r u = omega (arith, mid-is (join og outer j l r) u, words-long l)
 
-    over-mid : (first : ℕ) → lo ≡ 6 * first → (o : Over) (n : Node) → NodeHere x lo hi (over o n) → mid ≡ 6 * first
-    over-mid first e o n u = omega (arith, mid-is (over o n) u)
+    over-mid : (first : ℕ) → lo ≡ cell-words * first → (og : ℕ) (o : Over) (n : Node) → NodeHere x lo hi (over og o n) → mid ≡ cell-words * first
+    over-mid first e og o n u = omega (arith, mid-is (over og o n) u)
 
 module _ {text x : List ℕ} {lo hi : ℕ} where
   -- There is a node.
@@ -124,20 +124,20 @@ module _ {text x : List ℕ} {lo hi : ℕ} where
     pub sources-at : lo < hi → SourceAt text x lo hi → SourcesAt x lo m
     sources-at h t = by-node (λ o. SourcesAt x lo m) (λ p u f. record { p = p; stand = sources-part own p u }) h (t .source) (t .here)
 
-    pub own-in : lo < hi → SourceAt text x lo hi → (lo ≤ m) × ((m + 6 ≤ hi) × (hi ≤ length x))
-    own-in h t = by-node (λ o. (lo ≤ m) × ((m + 6 ≤ hi) × (hi ≤ length x)))
+    pub own-in : lo < hi → SourceAt text x lo hi → (lo ≤ m) × ((m + cell-words ≤ hi) × (hi ≤ length x))
+    own-in h t = by-node (λ o. (lo ≤ m) × ((m + cell-words ≤ hi) × (hi ≤ length x)))
         (λ p u f. (omega (arith, own p u), (omega (arith, own p u, node-long p u), node-in p u .1))) h (t .source) (t .here)
 
     pub own-at : lo < hi → SourceAt text x lo hi → OwnAt text x lo hi m
     own-at h t = by-node (λ o. OwnAt text x lo hi m) go h (t .source) (t .here)
       where
-        made : (p : Node) → NodeHere x lo hi p → Node-fits text p → (first : ℕ) → m ≡ 6 * first → OwnAt text x lo hi m
+        made : (p : Node) → NodeHere x lo hi p → Node-fits text p → (first : ℕ) → m ≡ cell-words * first → OwnAt text x lo hi m
         made p u f first e = record { p = p; here = own-here p u f; own = own; first = first; numbered = e; short = t .short }
 
         go : (p : Node) → NodeHere x lo hi p → Node-fits text p → OwnAt text x lo hi m
-        go (leaf l) u f = made (leaf l) u f (t .first) (leaf-number own (t .first) (t .numbered) l u)
-        go (over o n) u f = made (over o n) u f (t .first + node-size n) (over-number own (t .first) (t .numbered) o n u)
-        go (join outer j l r) u f = made (join outer j l r) u f (t .first + (node-size l + node-size r)) (join-number own (t .first) (t .numbered) outer j l r u)
+        go (leaf og l) u f = made (leaf og l) u f (t .first) (leaf-number own (t .first) (t .numbered) og l u)
+        go (over og o n) u f = made (over og o n) u f (t .first + node-size n) (over-number own (t .first) (t .numbered) og o n u)
+        go (join og outer j l r) u f = made (join og outer j l r) u f (t .first + (node-size l + node-size r)) (join-number own (t .first) (t .numbered) og outer j l r u)
 
     module _ {mid : ℕ} (last : LastStart x lo m mid) where
       earlier-here : (p : Node) → NodeHere x lo hi p → Node-fits text p → SourceHere text x lo mid (earlier-source p)
@@ -162,13 +162,13 @@ module _ {text x : List ℕ} {lo hi : ℕ} where
       pub last-at : lo < hi → SourceAt text x lo hi → SourceAt text x mid m
       last-at h t = by-node (λ o. SourceAt text x mid m) go h (t .source) (t .here)
         where
-          made : (p : Node) → NodeHere x lo hi p → Node-fits text p → (first : ℕ) → mid ≡ 6 * first → SourceAt text x mid m
+          made : (p : Node) → NodeHere x lo hi p → Node-fits text p → (first : ℕ) → mid ≡ cell-words * first → SourceAt text x mid m
           made p u f first e = record { source = last-source p; here = last-here p u f; first = first; numbered = e; short = t .short }
 
           go : (p : Node) → NodeHere x lo hi p → Node-fits text p → SourceAt text x mid m
-          go (leaf l) u f = made (leaf l) u f (t .first) (omega (arith, mid-is own last (leaf l) u, t .numbered))
-          go (over o n) u f = made (over o n) u f (t .first) (over-mid own last (t .first) (t .numbered) o n u)
-          go (join outer j l r) u f = made (join outer j l r) u f (t .first + node-size l) (join-mid own last (t .first) (t .numbered) outer j l r u)
+          go (leaf og l) u f = made (leaf og l) u f (t .first) (omega (arith, mid-is own last (leaf og l) u, t .numbered))
+          go (over og o n) u f = made (over og o n) u f (t .first) (over-mid own last (t .first) (t .numbered) og o n u)
+          go (join og outer j l r) u f = made (join og outer j l r) u f (t .first + node-size l) (join-mid own last (t .first) (t .numbered) og outer j l r u)
 
 -- ---- what is appended
 
@@ -183,11 +183,11 @@ some-left (refused i p) h = absurd (h .left)
 
 -- of the own parts, whatever kind of node it is
 own-folded : {y : List ℕ} {at : ℕ} {r : Folded} {y′ : List ℕ} (first : ℕ) (p : Node) → Own-left y at first p r y′ → Leaves (λ w. w) y at (fold-own first p) r y′
-own-folded first (leaf l) h = made-into (fold-leaf first l) leaf-own (λ m. refl) h
-own-folded first (over o n) h = made-into (fold-over first o) over-own (λ p. refl) h
-own-folded first (join outer j l r) h = made-into (fold-join first j) join-own (λ k. refl) h
+own-folded first (leaf og l) h = made-into (fold-leaf first l) leaf-own (λ m. refl) h
+own-folded first (over og o n) h = made-into (fold-over first o) over-own (λ p. refl) h
+own-folded first (join og outer j l r) h = made-into (fold-join first j) join-own (λ k. refl) h
 
-pub own-bound : {text x : List ℕ} {lo hi : ℕ} {y : List ℕ} {at m : ℕ} {q : Folded} {y′ : List ℕ} {n : ℕ} → q ≡ Folded.Done n → FoldsOwn text x lo hi y at m q y′ → n ≤ at + (hi - 6 - m)
+pub own-bound : {text x : List ℕ} {lo hi : ℕ} {y : List ℕ} {at m : ℕ} {q : Folded} {y′ : List ℕ} {n : ℕ} → q ≡ Folded.Done n → FoldsOwn text x lo hi y at m q y′ → n ≤ at + (hi - cell-words - m)
 own-bound e g = up-to-as e (g .within) .ends
 
 pub source-bound : {text x : List ℕ} {lo hi : ℕ} {y : List ℕ} {at : ℕ} {q : Folded} {y′ : List ℕ} {n : ℕ} → q ≡ Folded.Done n → FoldsSource text x lo hi y at q y′ → n ≤ at + (hi - lo)
@@ -244,9 +244,9 @@ refused-after (refused i p) own k h e = said-as (sym e) (record { left = (refl, 
 pub source-none : {text x : List ℕ} {lo hi : ℕ} {y : List ℕ} {at : ℕ} → hi ≤ lo → FoldsSource text x lo hi y at (Folded.Done at) y
 source-none {text} {x} {lo} {hi} {y} {at} h = record { leaves = go; within = record { ends = omega arith } }
   where
-    go : (first : ℕ) (source : Option Node) → lo ≡ 6 * first → SourceHere text x lo hi source → Leaves words-of y at (fold-source first source) (Folded.Done at) y
+    go : (first : ℕ) (source : Option Node) → lo ≡ cell-words * first → SourceHere text x lo hi source → Leaves words-of y at (fold-source first source) (Folded.Done at) y
     go first none e u = record { left = appended-none y at }
-    go first (some p) e u = absurd (omega (arith, node-six p, u .stand .high))
+    go first (some p) e u = absurd (omega (arith, node-has-cell p, u .stand .high))
 
 -- A node of one cell folds to itself.
 
@@ -257,18 +257,18 @@ leaf-alone first (lookup a t al vs) h = refl
 leaf-alone first (nothing ls) h = refl
 leaf-alone first (values []) h = refl
 leaf-alone first (values (r ∷ rs)) h =
-    absurd (omega (arith, length-append (row-words r) (all-words row-words rs), sized-long (all-words expression-words r) (cell (row-cell (length r)))))
+    absurd (omega (arith, length-append (row-words r) (all-words row-words rs), sized-long (all-words expression-words (r .0)) (cell (r .1) (row-cell (length (r .0))))))
 
-node-alone : {x : List ℕ} {lo hi : ℕ} (first : ℕ) (p : Node) → NodeHere x lo hi p → hi - lo ≡ 6 → ConstantFolding first p ≡ done p
-node-alone first (leaf l) u h = ap (λ (a : Answer Leaf). a >>= λ m. done (leaf m)) (leaf-alone first l (omega (arith, node-long (leaf l) u)))
-node-alone first (over o n) u h = absurd (omega (arith, node-long (over o n) u, node-six n))
-node-alone first (join outer j l r) u h = absurd (omega (arith, node-long (join outer j l r) u, node-six l, length-append (node-words l) (node-words r)))
+node-alone : {x : List ℕ} {lo hi : ℕ} (first : ℕ) (p : Node) → NodeHere x lo hi p → hi - lo ≡ cell-words → ConstantFolding first p ≡ done p
+node-alone first (leaf og l) u h = ap (λ (a : Answer Leaf). a >>= λ m. done (leaf og m)) (leaf-alone first l (omega (arith, node-long (leaf og l) u)))
+node-alone first (over og o n) u h = absurd (omega (arith, node-long (over og o n) u, node-has-cell n))
+node-alone first (join og outer j l r) u h = absurd (omega (arith, node-long (join og outer j l r) u, node-has-cell l, length-append (node-words l) (node-words r)))
 
 module _ {text x : List ℕ} {lo hi : ℕ} where
   pub source-in : lo < hi → SourceAt text x lo hi → (lo ≤ hi) × (hi ≤ length x)
   source-in h t = by-node (λ o. (lo ≤ hi) × (hi ≤ length x)) (λ p u f. (omega arith, node-in p u .1)) h (t .source) (t .here)
 
-  pub source-single : {y : List ℕ} {at r : ℕ} {y₁ : List ℕ} → hi - lo ≡ 6 → (at + (hi - lo) ≤ length y) × Short y → SourceAt text x lo hi → Copies x lo hi y at r y₁
+  pub source-single : {y : List ℕ} {at r : ℕ} {y₁ : List ℕ} → hi - lo ≡ cell-words → (at + (hi - lo) ≤ length y) × Short y → SourceAt text x lo hi → Copies x lo hi y at r y₁
       → FoldsSource text x lo hi y at (Folded.Done r) y₁
   source-single {y} {at} {r} {y₁} h (room, few) t c = record {
     leaves = λ first source k u. by-node (λ o. Leaves words-of y at (fold-source first o) (Folded.Done r) y₁)
@@ -285,27 +285,27 @@ node-left first p h = made-of (ConstantFolding first p) some (λ q. refl) h
 
 -- a node that its own cell closes
 module _ {x : List ℕ} {lo hi : ℕ} where
-  leaf-words : (first : ℕ) (l m : Leaf) → NodeHere x lo hi (leaf l) → fold-leaf first l ≡ done m → sized (([] ++ []) ++ leaf-own m) (cell-at x hi) ≡ node-words (leaf m)
+  leaf-words : (first og : ℕ) (l m : Leaf) → NodeHere x lo hi (leaf og l) → fold-leaf first l ≡ done m → sized (([] ++ []) ++ leaf-own m) (cell-at x hi) ≡ node-words (leaf og m)
   unfolding node-words
-  leaf-words first l m u e =
-      ap (λ (k : Cell). sized (leaf-own m) k) (node-cell-is (leaf l) u ∙ ap cell (sym (answer-is (λ m. leaf-cell m ≡ leaf-cell l) (fold-leaf first l) m (leaf-cell-kept first l) e)))
+  leaf-words first og l m u e =
+      ap (λ (k : Cell). sized (leaf-own m) k) (node-cell-is (leaf og l) u ∙ ap (cell og) (sym (answer-is (λ m. leaf-cell m ≡ leaf-cell l) (fold-leaf first l) m (leaf-cell-kept first l) e)))
 
-  over-words : (first : ℕ) (o p : Over) (n s : Node) → NodeHere x lo hi (over o n) → fold-over first o ≡ done p → sized (([] ++ node-words s) ++ over-own p) (cell-at x hi) ≡ node-words (over p s)
+  over-words : (first og : ℕ) (o p : Over) (n s : Node) → NodeHere x lo hi (over og o n) → fold-over first o ≡ done p → sized (([] ++ node-words s) ++ over-own p) (cell-at x hi) ≡ node-words (over og p s)
   unfolding node-words
-  over-words first o p n s u e =
-      ap (λ (k : Cell). sized (node-words s ++ over-own p) k) (node-cell-is (over o n) u ∙ ap cell (sym (answer-is (λ m. over-cell m ≡ over-cell o) (fold-over first o) p (over-cell-kept first o) e)))
+  over-words first og o p n s u e =
+      ap (λ (k : Cell). sized (node-words s ++ over-own p) k) (node-cell-is (over og o n) u ∙ ap (cell og) (sym (answer-is (λ m. over-cell m ≡ over-cell o) (fold-over first o) p (over-cell-kept first o) e)))
 
-  join-words : (first : ℕ) (outer : Bool) (j k : Join) (l r a b : Node) → NodeHere x lo hi (join outer j l r) → fold-join first j ≡ done k
-      → sized ((node-words a ++ node-words b) ++ join-own k) (cell-at x hi) ≡ node-words (join outer k a b)
+  join-words : (first og : ℕ) (outer : Bool) (j k : Join) (l r a b : Node) → NodeHere x lo hi (join og outer j l r) → fold-join first j ≡ done k
+      → sized ((node-words a ++ node-words b) ++ join-own k) (cell-at x hi) ≡ node-words (join og outer k a b)
   unfolding node-words
-  join-words first outer j k l r a b u e =
+  join-words first og outer j k l r a b u e =
       ap (λ (w : List ℕ). sized w (cell-at x hi)) (append-assoc (node-words a) (node-words b) (join-own k))
       ∙ ap (λ (c : Cell). sized (node-words a ++ (node-words b ++ join-own k)) c)
-      (node-cell-is (join outer j l r) u ∙ ap cell (sym (answer-is (λ m. join-cell outer m ≡ join-cell outer j) (fold-join first j) k (join-cell-kept outer first j) e)))
+      (node-cell-is (join og outer j l r) u ∙ ap (cell og) (sym (answer-is (λ m. join-cell outer m ≡ join-cell outer j) (fold-join first j) k (join-cell-kept outer first j) e)))
 
 module _ {text x : List ℕ} {lo hi m mid : ℕ} (h : lo < hi) (own : OwnStart x lo hi m) (last : LastStart x lo m mid) {y : List ℕ} {at : ℕ} where
   node-folded : {r : Folded} {y′ : List ℕ}
-      → ((first : ℕ) → lo ≡ 6 * first → (p : Node) → NodeHere x lo hi p → Node-fits text p → Leaves node-words y at (ConstantFolding first p) r y′)
+      → ((first : ℕ) → lo ≡ cell-words * first → (p : Node) → NodeHere x lo hi p → Node-fits text p → Leaves node-words y at (ConstantFolding first p) r y′)
       → Up-to (at + (hi - lo)) r → FoldsSource text x lo hi y at r y′
   node-folded {r} {y′} go w = record {
     leaves = λ first source k u. by-node (λ o. Leaves words-of y at (fold-source first o) r y′)
@@ -315,7 +315,7 @@ module _ {text x : List ℕ} {lo hi m mid : ℕ} (h : lo < hi) (own : OwnStart x
 
   -- a source is refused
   node-refused : SourceAt text x lo hi → {number place : ℕ} {r : Folded} {y′ : List ℕ} → Refuses text x lo hi m number place r
-      → ((first : ℕ) → lo ≡ 6 * first → (p : Node) → NodeHere x lo hi p → Node-fits text p → Leaves node-words y at (ConstantFolding first p) r y′)
+      → ((first : ℕ) → lo ≡ cell-words * first → (p : Node) → NodeHere x lo hi p → Node-fits text p → Leaves node-words y at (ConstantFolding first p) r y′)
       → FoldsSource text x lo hi y at r y′
   node-refused t w go = let f = refuses-some (own-at own h t) w in node-folded go (up-to-as (sym (f .is)) (record { ends = tt }))
 
@@ -323,66 +323,66 @@ module _ {text x : List ℕ} {lo hi m mid : ℕ} (h : lo < hi) (own : OwnStart x
     pub earlier-refused : SourceAt text x lo hi → {j i : ℕ} → q₂ ≡ Folded.Refused j i → {r : Folded} {y′ : List ℕ} → Refuses text x lo hi m j i r → FoldsSource text x lo hi y at r y′
     earlier-refused t {j} {i} e {r} {y′} w = node-refused t w go
       where
-        go : (first : ℕ) → lo ≡ 6 * first → (p : Node) → NodeHere x lo hi p → Node-fits text p → Leaves node-words y at (ConstantFolding first p) r y′
-        go first k (leaf l) v f = absurd (said-as e (g₂ .leaves first none k (earlier-here own last (leaf l) v f)) .left)
-        go first k (over o s) v f = absurd (said-as e (g₂ .leaves first none k (earlier-here own last (over o s) v f)) .left)
-        go first k (join outer c a b) v f =
+        go : (first : ℕ) → lo ≡ cell-words * first → (p : Node) → NodeHere x lo hi p → Node-fits text p → Leaves node-words y at (ConstantFolding first p) r y′
+        go first k (leaf og l) v f = absurd (said-as e (g₂ .leaves first none k (earlier-here own last (leaf og l) v f)) .left)
+        go first k (over og o s) v f = absurd (said-as e (g₂ .leaves first none k (earlier-here own last (over og o s) v f)) .left)
+        go first k (join og outer c a b) v f =
             refused-after (fold-join (first + (node-size a + node-size b)) c) join-own
-            (λ k. ConstantFolding first a >>= λ l. ConstantFolding (first + node-size a) b >>= λ r. done (join outer k l r))
-            (λ d. refused-on (ConstantFolding first a) (λ l. ConstantFolding (first + node-size a) b >>= λ r. done (join outer d l r))
-            (node-left first a (said-as e (g₂ .leaves first (some a) k (earlier-here own last (join outer c a b) v f)))))
-            (w .is (first + (node-size a + node-size b)) (join outer c a b) (join-number own first k outer c a b v) (own-here (join outer c a b) v f))
+            (λ k. ConstantFolding first a >>= λ l. ConstantFolding (first + node-size a) b >>= λ r. done (join og outer k l r))
+            (λ d. refused-on (ConstantFolding first a) (λ l. ConstantFolding (first + node-size a) b >>= λ r. done (join og outer d l r))
+            (node-left first a (said-as e (g₂ .leaves first (some a) k (earlier-here own last (join og outer c a b) v f)))))
+            (w .is (first + (node-size a + node-size b)) (join og outer c a b) (join-number own first k og outer c a b v) (own-here (join og outer c a b) v f))
 
     module _ {e : ℕ} (q₂e : q₂ ≡ Folded.Done e) {q₃ : Folded} {y₂ : List ℕ} (g₃ : FoldsSource text x mid m y₁ e q₃ y₂) where
-      join-earlier : (first : ℕ) → lo ≡ 6 * first → (outer : Bool) (c : Join) (a b : Node) → NodeHere x lo hi (join outer c a b) → Node-fits text (join outer c a b)
+      join-earlier : (first : ℕ) → lo ≡ cell-words * first → (og : ℕ) (outer : Bool) (c : Join) (a b : Node) → NodeHere x lo hi (join og outer c a b) → Node-fits text (join og outer c a b)
           → Leaves node-words y at (ConstantFolding first a) (Folded.Done e) y₁
-      join-earlier first k outer c a b v f = node-left first a (said-as q₂e (g₂ .leaves first (some a) k (earlier-here own last (join outer c a b) v f)))
+      join-earlier first k og outer c a b v f = node-left first a (said-as q₂e (g₂ .leaves first (some a) k (earlier-here own last (join og outer c a b) v f)))
 
       pub last-refused : SourceAt text x lo hi → {j i : ℕ} → q₃ ≡ Folded.Refused j i → {r : Folded} {y′ : List ℕ} → Refuses text x lo hi m j i r → FoldsSource text x lo hi y at r y′
       last-refused t {j} {i} z {r} {y′} w = node-refused t w go
         where
-          go : (first : ℕ) → lo ≡ 6 * first → (p : Node) → NodeHere x lo hi p → Node-fits text p → Leaves node-words y at (ConstantFolding first p) r y′
-          go first k (leaf l) v f = absurd (said-as z (g₃ .leaves first none (omega (arith, mid-is own last (leaf l) v)) (last-here own last (leaf l) v f)) .left)
-          go first k (over o s) v f =
-              refused-after (fold-over (first + node-size s) o) over-own (λ p. ConstantFolding first s >>= λ t. done (over p t))
-              (λ d. refused-on (ConstantFolding first s) (λ t. done (over d t))
-              (node-left first s (said-as z (g₃ .leaves first (some s) (over-mid own last first k o s v) (last-here own last (over o s) v f)))))
-              (w .is (first + node-size s) (over o s) (over-number own first k o s v) (own-here (over o s) v f))
-          go first k (join outer c a b) v f =
+          go : (first : ℕ) → lo ≡ cell-words * first → (p : Node) → NodeHere x lo hi p → Node-fits text p → Leaves node-words y at (ConstantFolding first p) r y′
+          go first k (leaf og l) v f = absurd (said-as z (g₃ .leaves first none (omega (arith, mid-is own last (leaf og l) v)) (last-here own last (leaf og l) v f)) .left)
+          go first k (over og o s) v f =
+              refused-after (fold-over (first + node-size s) o) over-own (λ p. ConstantFolding first s >>= λ t. done (over og p t))
+              (λ d. refused-on (ConstantFolding first s) (λ t. done (over og d t))
+              (node-left first s (said-as z (g₃ .leaves first (some s) (over-mid own last first k og o s v) (last-here own last (over og o s) v f)))))
+              (w .is (first + node-size s) (over og o s) (over-number own first k og o s v) (own-here (over og o s) v f))
+          go first k (join og outer c a b) v f =
               refused-after (fold-join (first + (node-size a + node-size b)) c) join-own
-              (λ k. ConstantFolding first a >>= λ l. ConstantFolding (first + node-size a) b >>= λ r. done (join outer k l r))
-              (λ d. done-on (ConstantFolding first a) (λ l. ConstantFolding (first + node-size a) b >>= λ r. done (join outer d l r)) (join-earlier first k outer c a b v f)
-              (λ l _ _. refused-on (ConstantFolding (first + node-size a) b) (λ r. done (join outer d l r))
-              (node-left (first + node-size a) b (said-as z (g₃ .leaves (first + node-size a) (some b) (join-mid own last first k outer c a b v) (last-here own last (join outer c a b) v f))))))
-              (w .is (first + (node-size a + node-size b)) (join outer c a b) (join-number own first k outer c a b v) (own-here (join outer c a b) v f))
+              (λ k. ConstantFolding first a >>= λ l. ConstantFolding (first + node-size a) b >>= λ r. done (join og outer k l r))
+              (λ d. done-on (ConstantFolding first a) (λ l. ConstantFolding (first + node-size a) b >>= λ r. done (join og outer d l r)) (join-earlier first k og outer c a b v f)
+              (λ l _ _. refused-on (ConstantFolding (first + node-size a) b) (λ r. done (join og outer d l r))
+              (node-left (first + node-size a) b (said-as z (g₃ .leaves (first + node-size a) (some b) (join-mid own last first k og outer c a b v) (last-here own last (join og outer c a b) v f))))))
+              (w .is (first + (node-size a + node-size b)) (join og outer c a b) (join-number own first k og outer c a b v) (own-here (join og outer c a b) v f))
 
       module _ {i : ℕ} (q₃e : q₃ ≡ Folded.Done i) {q : Folded} {y₃ : List ℕ} (g : FoldsOwn text x lo hi y₂ i m q y₃) where
         pub own-refused : {j c : ℕ} → q ≡ Folded.Refused j c → FoldsSource text x lo hi y at (Folded.Refused j c) y₃
         own-refused {j} {c} z = node-folded go (record { ends = tt })
           where
-            go : (first : ℕ) → lo ≡ 6 * first → (p : Node) → NodeHere x lo hi p → Node-fits text p → Leaves node-words y at (ConstantFolding first p) (Folded.Refused j c) y₃
-            go first n (leaf l) v f = refused-on (fold-leaf first l) (λ m. done (leaf m)) (said-as z (g .leaves first (leaf l) (leaf-number own first n l v) (own-here (leaf l) v f)))
-            go first n (over o s) v f =
-                refused-on (fold-over (first + node-size s) o) (λ p. ConstantFolding first s >>= λ t. done (over p t))
-                (said-as z (g .leaves (first + node-size s) (over o s) (over-number own first n o s v) (own-here (over o s) v f)))
-            go first n (join outer c a b) v f =
+            go : (first : ℕ) → lo ≡ cell-words * first → (p : Node) → NodeHere x lo hi p → Node-fits text p → Leaves node-words y at (ConstantFolding first p) (Folded.Refused j c) y₃
+            go first n (leaf og l) v f = refused-on (fold-leaf first l) (λ m. done (leaf og m)) (said-as z (g .leaves first (leaf og l) (leaf-number own first n og l v) (own-here (leaf og l) v f)))
+            go first n (over og o s) v f =
+                refused-on (fold-over (first + node-size s) o) (λ p. ConstantFolding first s >>= λ t. done (over og p t))
+                (said-as z (g .leaves (first + node-size s) (over og o s) (over-number own first n og o s v) (own-here (over og o s) v f)))
+            go first n (join og outer c a b) v f =
                 refused-on (fold-join (first + (node-size a + node-size b)) c)
-                (λ k. ConstantFolding first a >>= λ l. ConstantFolding (first + node-size a) b >>= λ r. done (join outer k l r))
-                (said-as z (g .leaves (first + (node-size a + node-size b)) (join outer c a b) (join-number own first n outer c a b v) (own-here (join outer c a b) v f)))
+                (λ k. ConstantFolding first a >>= λ l. ConstantFolding (first + node-size a) b >>= λ r. done (join og outer k l r))
+                (said-as z (g .leaves (first + (node-size a + node-size b)) (join og outer c a b) (join-number own first n og outer c a b v) (own-here (join og outer c a b) v f)))
 
         module _ {n : ℕ} (qe : q ≡ Folded.Done n) where
           -- what each call leaves, by the kind of node
-          leaf-own-left : (first : ℕ) → lo ≡ 6 * first → (l : Leaf) → NodeHere x lo hi (leaf l) → Node-fits text (leaf l) → Leaves leaf-own y₂ i (fold-leaf first l) (Folded.Done n) y₃
-          leaf-own-left first e l u f = said-as qe (g .leaves first (leaf l) (leaf-number own first e l u) (own-here (leaf l) u f))
+          leaf-own-left : (first : ℕ) → lo ≡ cell-words * first → (og : ℕ) (l : Leaf) → NodeHere x lo hi (leaf og l) → Node-fits text (leaf og l) → Leaves leaf-own y₂ i (fold-leaf first l) (Folded.Done n) y₃
+          leaf-own-left first e og l u f = said-as qe (g .leaves first (leaf og l) (leaf-number own first e og l u) (own-here (leaf og l) u f))
 
-          over-own-left : (first : ℕ) → lo ≡ 6 * first → (o : Over) (s : Node) → NodeHere x lo hi (over o s) → Node-fits text (over o s)
+          over-own-left : (first : ℕ) → lo ≡ cell-words * first → (og : ℕ) (o : Over) (s : Node) → NodeHere x lo hi (over og o s) → Node-fits text (over og o s)
               → Leaves over-own y₂ i (fold-over (first + node-size s) o) (Folded.Done n) y₃
-          over-own-left first e o s u f = said-as qe (g .leaves (first + node-size s) (over o s) (over-number own first e o s u) (own-here (over o s) u f))
+          over-own-left first e og o s u f = said-as qe (g .leaves (first + node-size s) (over og o s) (over-number own first e og o s u) (own-here (over og o s) u f))
 
-          join-own-left : (first : ℕ) → lo ≡ 6 * first → (outer : Bool) (c : Join) (a b : Node) → NodeHere x lo hi (join outer c a b) → Node-fits text (join outer c a b)
+          join-own-left : (first : ℕ) → lo ≡ cell-words * first → (og : ℕ) (outer : Bool) (c : Join) (a b : Node) → NodeHere x lo hi (join og outer c a b) → Node-fits text (join og outer c a b)
               → Leaves join-own y₂ i (fold-join (first + (node-size a + node-size b)) c) (Folded.Done n) y₃
-          join-own-left first e outer c a b u f =
-              said-as qe (g .leaves (first + (node-size a + node-size b)) (join outer c a b) (join-number own first e outer c a b u) (own-here (join outer c a b) u f))
+          join-own-left first e og outer c a b u f =
+              said-as qe (g .leaves (first + (node-size a + node-size b)) (join og outer c a b) (join-number own first e og outer c a b u) (own-here (join og outer c a b) u f))
 
           module _ (t : SourceAt text x lo hi) (room : (at + (hi - lo) ≤ length y) × Short y) (long : length y₃ ≡ length y) {k : Cell} (ke : k ≡ cell-at x hi) {r : ℕ} {y₄ : List ℕ} (c : Seals y₃ at n k r y₄) where
             closed-room : (v w o : List ℕ) → Appended y at v e y₁ → Appended y₁ e w i y₂ → Appended y₂ i o n y₃ → at + length (sized ((v ++ w) ++ o) (cell-at x hi)) ≤ at + (hi - lo)
@@ -398,29 +398,29 @@ module _ {text x : List ℕ} {lo hi m mid : ℕ} (h : lo < hi) (own : OwnStart x
                 appended (subst (λ (k : Cell). Wrote y at (sized ((v ++ w) ++ o) k) r y₄) ke
                 (c y ((v ++ w) ++ o) long (wrote l (omega (arith, room .0, sized-long ((v ++ w) ++ o) (cell-at x hi)))))) (room .1) (omega (arith, room .0))
 
-            node-done : (first : ℕ) → lo ≡ 6 * first → (p : Node) → NodeHere x lo hi p → Node-fits text p → Leaves node-words y at (ConstantFolding first p) (Folded.Done r) y₄
-            node-done first k (leaf l) v f =
-                done-on (fold-leaf first l) (λ m. done (leaf m)) (leaf-own-left first k l v f)
+            node-done : (first : ℕ) → lo ≡ cell-words * first → (p : Node) → NodeHere x lo hi p → Node-fits text p → Leaves node-words y at (ConstantFolding first p) (Folded.Done r) y₄
+            node-done first k (leaf og l) v f =
+                done-on (fold-leaf first l) (λ m. done (leaf og m)) (leaf-own-left first k og l v f)
                 (λ d de da. record {
-                  left = appended-as (leaf-words first l d v de) (closed [] [] (leaf-own d)
-                      (said-as q₂e (g₂ .leaves first none k (earlier-here own last (leaf l) v f)) .left)
-                      (said-as q₃e (g₃ .leaves first none (omega (arith, mid-is own last (leaf l) v)) (last-here own last (leaf l) v f)) .left) da);
+                  left = appended-as (leaf-words first og l d v de) (closed [] [] (leaf-own d)
+                      (said-as q₂e (g₂ .leaves first none k (earlier-here own last (leaf og l) v f)) .left)
+                      (said-as q₃e (g₃ .leaves first none (omega (arith, mid-is own last (leaf og l) v)) (last-here own last (leaf og l) v f)) .left) da);
                 })
-            node-done first k (over o s) v f =
-                done-on (fold-over (first + node-size s) o) (λ p. ConstantFolding first s >>= λ t. done (over p t)) (over-own-left first k o s v f)
-                (λ d de da. done-on (ConstantFolding first s) (λ t. done (over d t))
-                (node-left first s (said-as q₃e (g₃ .leaves first (some s) (over-mid own last first k o s v) (last-here own last (over o s) v f))))
+            node-done first k (over og o s) v f =
+                done-on (fold-over (first + node-size s) o) (λ p. ConstantFolding first s >>= λ t. done (over og p t)) (over-own-left first k og o s v f)
+                (λ d de da. done-on (ConstantFolding first s) (λ t. done (over og d t))
+                (node-left first s (said-as q₃e (g₃ .leaves first (some s) (over-mid own last first k og o s v) (last-here own last (over og o s) v f))))
                 (λ t _ ta. record {
-                  left = appended-as (over-words (first + node-size s) o d s t v de) (closed [] (node-words t) (over-own d)
-                      (said-as q₂e (g₂ .leaves first none k (earlier-here own last (over o s) v f)) .left) ta da);
+                  left = appended-as (over-words (first + node-size s) og o d s t v de) (closed [] (node-words t) (over-own d)
+                      (said-as q₂e (g₂ .leaves first none k (earlier-here own last (over og o s) v f)) .left) ta da);
                 }))
-            node-done first k (join outer j a b) v f =
-                done-on (fold-join (first + (node-size a + node-size b)) j) (λ k. ConstantFolding first a >>= λ l. ConstantFolding (first + node-size a) b >>= λ r. done (join outer k l r))
-                (join-own-left first k outer j a b v f)
-                (λ d de da. done-on (ConstantFolding first a) (λ l. ConstantFolding (first + node-size a) b >>= λ r. done (join outer d l r)) (join-earlier first k outer j a b v f)
-                (λ l _ la. done-on (ConstantFolding (first + node-size a) b) (λ r. done (join outer d l r))
-                (node-left (first + node-size a) b (said-as q₃e (g₃ .leaves (first + node-size a) (some b) (join-mid own last first k outer j a b v) (last-here own last (join outer j a b) v f))))
-                (λ r _ ra. record { left = appended-as (join-words (first + (node-size a + node-size b)) outer j d a b l r v de) (closed (node-words l) (node-words r) (join-own d) la ra da) })))
+            node-done first k (join og outer j a b) v f =
+                done-on (fold-join (first + (node-size a + node-size b)) j) (λ k. ConstantFolding first a >>= λ l. ConstantFolding (first + node-size a) b >>= λ r. done (join og outer k l r))
+                (join-own-left first k og outer j a b v f)
+                (λ d de da. done-on (ConstantFolding first a) (λ l. ConstantFolding (first + node-size a) b >>= λ r. done (join og outer d l r)) (join-earlier first k og outer j a b v f)
+                (λ l _ la. done-on (ConstantFolding (first + node-size a) b) (λ r. done (join og outer d l r))
+                (node-left (first + node-size a) b (said-as q₃e (g₃ .leaves (first + node-size a) (some b) (join-mid own last first k og outer j a b v) (last-here own last (join og outer j a b) v f))))
+                (λ r _ ra. record { left = appended-as (join-words (first + (node-size a + node-size b)) og outer j d a b l r v de) (closed (node-words l) (node-words r) (join-own d) la ra da) })))
 
             pub node-closed : FoldsSource text x lo hi y at (Folded.Done r) y₄
             node-closed = node-folded node-done (record { ends = ended })

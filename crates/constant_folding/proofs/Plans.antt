@@ -79,7 +79,7 @@ module _ (schema : Schema) (text : List ℕ) (tables : ℕ) where
   leaf-fit (scan t al q) h = optional-fit _ q (h .0)
   leaf-fit (lookup a t al vs) h = tt
   leaf-fit (nothing ls) h = tt
-  leaf-fit (values rs) h = all-parts (Row-of schema text tables _) (Part-fits text) row-part (λ es k. (row-fit 0 es (k .0), omega arith)) rs h
+  leaf-fit (values rs) h = all-parts (Row-of schema text tables _) (Part-fits text) row-part (λ es k. (row-fit 0 (es .0) (k .0), omega arith)) rs h
 
   over-fit : (n : ℕ) (o : Over) → Sound-over schema text tables n o → All (Part-fits text) (over-parts o)
   over-fit n (filter e) h = (constants-fit n e h, tt)
@@ -95,9 +95,9 @@ module _ (schema : Schema) (text : List ℕ) (tables : ℕ) where
   join-fit l r (hash i j) h = tt
 
   pub sound-fits : (p : Node) → Sound schema text tables p → Node-fits text p
-  sound-fits (leaf l) h = leaf-fit l h
-  sound-fits (over o n) h = (over-fit (columns schema n) o (h .1), sound-fits n (h .0))
-  sound-fits (join outer j l r) h = (join-fit (columns schema l) (columns schema r) j (h .1 .1), (sound-fits l (h .0), sound-fits r (h .1 .0)))
+  sound-fits (leaf og l) h = leaf-fit l h
+  sound-fits (over og o n) h = (over-fit (columns schema n) o (h .1), sound-fits n (h .0))
+  sound-fits (join og outer j l r) h = (join-fit (columns schema l) (columns schema r) j (h .1 .1), (sound-fits l (h .0), sound-fits r (h .1 .0)))
 
 -- ---- constant_folding
 

@@ -19,20 +19,20 @@ overflowing = plus (number 9223372036854775807) (number 1)
 
 -- five cells, refused by 13 at the third
 abbrev mistyped : Node
-mistyped = one-row (plus (number 1) (constant (truth True)) ∷ [])
+mistyped = one-row (plus (number 1) (constant 0 (truth True)) ∷ [])
 
 -- Its own parts are refused too, and come first.
-own-first : node-refusal 5 (over (filter overflowing) mistyped) 13 2 ≡ Folded.Refused 11 7
+own-first : node-refusal 5 (over 0 (filter overflowing) mistyped) 13 2 ≡ Folded.Refused 11 7
 unfolding checked add-integers
 own-first = refl
 
 -- They fold, and the source's refusal is the node's.
-source-refused : node-refusal 5 (over (filter (plus (number 1) (number 1))) mistyped) 13 2 ≡ Folded.Refused 13 2
+source-refused : node-refusal 5 (over 0 (filter (plus (number 1) (number 1))) mistyped) 13 2 ≡ Folded.Refused 13 2
 unfolding checked add-integers
 source-refused = refl
 
 -- a join of which the right source and the predicate are refused
-right-and-own : (node-refusal 8 (join false (nested-loop (some overflowing)) (one-row (number 1 ∷ [])) mistyped) 13 5 ≡ Folded.Refused 11 10)
-    × (ConstantFolding 0 (join false (nested-loop (some overflowing)) (one-row (number 1 ∷ [])) mistyped) ≡ refused 11 10)
+right-and-own : (node-refusal 8 (join 0 false (nested-loop (some overflowing)) (one-row (number 1 ∷ [])) mistyped) 13 5 ≡ Folded.Refused 11 10)
+    × (ConstantFolding 0 (join 0 false (nested-loop (some overflowing)) (one-row (number 1 ∷ [])) mistyped) ≡ refused 11 10)
 unfolding checked add-integers
 right-and-own = (refl, refl)

@@ -18,21 +18,21 @@ use Rattle.fold_parts.specs.Own.{leaf-parts, over-parts, join-parts, OwnHere}
 
 -- The own parts of the node, and of all below it, fit.
 abbrev pub Node-fits : List ℕ → Node → Type 0
-Node-fits text (leaf l) = All (Part-fits text) (leaf-parts l)
-Node-fits text (over o n) = All (Part-fits text) (over-parts o) × Node-fits text n
-Node-fits text (join outer j l r) = All (Part-fits text) (join-parts j) × (Node-fits text l × Node-fits text r)
+Node-fits text (leaf og l) = All (Part-fits text) (leaf-parts l)
+Node-fits text (over og o n) = All (Part-fits text) (over-parts o) × Node-fits text n
+Node-fits text (join og outer j l r) = All (Part-fits text) (join-parts j) × (Node-fits text l × Node-fits text r)
 
 -- ---- sources: the last one, and the one before it
 
 abbrev pub earlier-source : Node → Option Node
-earlier-source (leaf l) = none
-earlier-source (over o n) = none
-earlier-source (join outer j l r) = some l
+earlier-source (leaf og l) = none
+earlier-source (over og o n) = none
+earlier-source (join og outer j l r) = some l
 
 abbrev pub last-source : Node → Option Node
-last-source (leaf l) = none
-last-source (over o n) = some n
-last-source (join outer j l r) = some r
+last-source (leaf og l) = none
+last-source (over og o n) = some n
+last-source (join og outer j l r) = some r
 
 abbrev pub words-of : Option Node → List ℕ
 words-of none = []
@@ -80,13 +80,13 @@ first-refusal (refused i p) number place = Folded.Refused i p
 
 -- What a node's own parts fold to, in words. The first of their cells has the number `first`.
 abbrev pub fold-own : ℕ → Node → Answer (List ℕ)
-fold-own first (leaf l) = do
+fold-own first (leaf og l) = do
   m ← fold-leaf first l
   done (leaf-own m)
-fold-own first (over o n) = do
+fold-own first (over og o n) = do
   p ← fold-over first o
   done (over-own p)
-fold-own first (join outer j l r) = do
+fold-own first (join og outer j l r) = do
   k ← fold-join first j
   done (join-own k)
 

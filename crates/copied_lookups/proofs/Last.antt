@@ -10,7 +10,7 @@ use lib.Dec.{eqb}
 use Rattle.sql.specs.Expression.{Expression, ands}
 use Rattle.sql.specs.Optimizer.{is-number, is-lookup-of, or-else, last-lookup}
 use Rattle.cells.specs.declared.Cell.{Cell}
-use Rattle.cells.specs.Cells.{cell-at, tag-at, start-at, Sized}
+use Rattle.cells.specs.Cells.{cell-words, cell-at, tag-at, start-at, Sized}
 use Rattle.words.specs.Words.{root}
 use Rattle.words.specs.Place.{ExpressionHere, ExpressionAt}
 use Rattle.words.proofs.Expressions.{tag, by-binary, root-tag, here-left, here-right, here-size, at-in, at-start, at-left, at-right}
@@ -45,11 +45,11 @@ module _ (c : ℕ) {s : List ℕ} {lo hi : ℕ} where
   lookup-of q f e u = ap (λ (x : Lookup). is-number c (found x)) (sym q) ∙ ap (is-number c) (f e u)
 
   -- the same by the tag, from the cells
-  module _ {mid : ℕ} (st : mid ≡ start-at s (hi - 6)) (h : tag-at s hi ≡ 12) {k j : Cell} (at-k : k ≡ cell-at s mid) (at-j : j ≡ cell-at s (hi - 6)) where
+  module _ {mid : ℕ} (st : mid ≡ start-at s (hi - cell-words)) (h : tag-at s hi ≡ 12) {k j : Cell} (at-k : k ≡ cell-at s mid) (at-j : j ≡ cell-at s (hi - cell-words)) where
     pub of-equal : {r : Bool} → r ≡ is-number c (found (equal-cells k j)) → IsLookupOf c s lo hi r
     of-equal q e u = q ∙ ap (is-number c) (looks-equal st h at-k at-j {q = equal-cells k j} refl e u)
 
-  pub of-is : 31 ≤ tag-at s hi → tag-at s hi ≤ 32 → {k : Cell} → k ≡ cell-at s (hi - 6) → {r : Bool} → r ≡ is-number c (found (column-in k)) → IsLookupOf c s lo hi r
+  pub of-is : 31 ≤ tag-at s hi → tag-at s hi ≤ 32 → {k : Cell} → k ≡ cell-at s (hi - cell-words) → {r : Bool} → r ≡ is-number c (found (column-in k)) → IsLookupOf c s lo hi r
   of-is h g {k} at-k q e u = q ∙ ap (is-number c) (looks-is h g at-k {q = column-in k} refl e u)
 
   pub of-none : (tag-at s hi ≡ 11 → ⊥) → (tag-at s hi ≡ 12 → ⊥) → tag-at s hi < 31 → IsLookupOf c s lo hi false
@@ -82,19 +82,19 @@ earlier s q none p h k = k
 earlier s q (some x) p h k = absurd h
 
 module _ (c : ℕ) {s : List ℕ} {lo hi : ℕ} where
-  module _ {mid : ℕ} (st : mid ≡ start-at s (hi - 6)) (h : tag-at s hi ≡ 10) where
-    in-two : (q : Place) → ((l r : Expression) → ExpressionHere s lo mid l → ExpressionHere s mid (hi - 6) r → Stands s q (or-else (last-lookup c (ands r)) (last-lookup c (ands l))))
+  module _ {mid : ℕ} (st : mid ≡ start-at s (hi - cell-words)) (h : tag-at s hi ≡ 10) where
+    in-two : (q : Place) → ((l r : Expression) → ExpressionHere s lo mid l → ExpressionHere s mid (hi - cell-words) r → Stands s q (or-else (last-lookup c (ands r)) (last-lookup c (ands l))))
         → FindsLast c s lo hi q
     in-two q f e u = by-binary (λ e. ExpressionHere s lo hi e → tag (root e) ≡ 10 → Stands s q (last-lookup c (ands e)))
-        (λ o l r t z. subst (λ (p : Option Expression). Stands s q p) (sym (ap (last-lookup c) (ands-and o l r z) ∙ last-append c (ands l) (ands r)))
-        (f l r (here-left st o l r t) (here-right st o l r t)))
+        (λ og o l r t z. subst (λ (p : Option Expression). Stands s q p) (sym (ap (last-lookup c) (ands-and og o l r z) ∙ last-append c (ands l) (ands r)))
+        (f l r (here-left st og o l r t) (here-right st og o l r t)))
         e (omega (arith, root-tag e u)) (omega (arith, root-tag e u)) u (sym (root-tag e u) ∙ h)
 
-    pub last-later : {r : Place} {a b : ℕ} → r ≡ Place.At a b → FindsLast c s mid (hi - 6) r → FindsLast c s lo hi (Place.At a b)
+    pub last-later : {r : Place} {a b : ℕ} → r ≡ Place.At a b → FindsLast c s mid (hi - cell-words) r → FindsLast c s lo hi (Place.At a b)
     last-later {r} {a} {b} q f = in-two (Place.At a b)
         (λ x y u v. later s a b (last-lookup c (ands y)) (last-lookup c (ands x)) (subst (λ (p : Place). Stands s p (last-lookup c (ands y))) q (f y v)))
 
-    pub last-earlier : {r : Place} (q : Place) → r ≡ Place.None → FindsLast c s mid (hi - 6) r → FindsLast c s lo mid q → FindsLast c s lo hi q
+    pub last-earlier : {r : Place} (q : Place) → r ≡ Place.None → FindsLast c s mid (hi - cell-words) r → FindsLast c s lo mid q → FindsLast c s lo hi q
     last-earlier q z f g = in-two q
         (λ x y u v. earlier s q (last-lookup c (ands y)) (last-lookup c (ands x)) (subst (λ (p : Place). Stands s p (last-lookup c (ands y))) z (f y v)) (g x u))
 
@@ -112,11 +112,11 @@ module _ (c : ℕ) {s : List ℕ} {lo hi : ℕ} where
 -- ---- the same by where it ends
 
 module _ (c : ℕ) {s : List ℕ} {lo hi : ℕ} where
-  module _ {mid : ℕ} (st : mid ≡ start-at s (hi - 6)) (h : tag-at s hi ≡ 10) where
-    pub end-later : (j : ℕ) → (j ≡ 0 → ⊥) → FindsLast c s mid (hi - 6) (ending s j) → FindsLast c s lo hi (ending s j)
+  module _ {mid : ℕ} (st : mid ≡ start-at s (hi - cell-words)) (h : tag-at s hi ≡ 10) where
+    pub end-later : (j : ℕ) → (j ≡ 0 → ⊥) → FindsLast c s mid (hi - cell-words) (ending s j) → FindsLast c s lo hi (ending s j)
     end-later j z f = subst (λ (q : Place). FindsLast c s lo hi q) (sym (ends-some s z)) (last-later c st h (ends-some s z) f)
 
-    pub end-earlier : (i j : ℕ) → j ≡ 0 → FindsLast c s mid (hi - 6) (ending s j) → FindsLast c s lo mid (ending s i) → FindsLast c s lo hi (ending s i)
+    pub end-earlier : (i j : ℕ) → j ≡ 0 → FindsLast c s mid (hi - cell-words) (ending s j) → FindsLast c s lo mid (ending s i) → FindsLast c s lo hi (ending s i)
     end-earlier i j z f g = last-earlier c st h (ending s i) (ends-none s z) f g
 
   pub end-one : (tag-at s hi ≡ 10 → ⊥) → {b : Bool} → IsLookupOf c s lo hi b → b ≡ true → ExpressionAt s lo hi → FindsLast c s lo hi (ending s hi)
@@ -148,18 +148,18 @@ module _ (c : ℕ) {s : List ℕ} {lo hi : ℕ} where
   pub nothing-searched : {t : ℕ} → t ≡ tag-at s hi → ExpressionAt s lo hi → Searched c s lo hi hi t
   nothing-searched e t = record { tagged = e; left = t; last = λ q f. f }
 
-  module _ {at t mid : ℕ} (w : Searched c s lo hi at t) (h : t ≡ 10) (st : mid ≡ start-at s (at - 6)) where
+  module _ {at t mid : ℕ} (w : Searched c s lo hi at t) (h : t ≡ 10) (st : mid ≡ start-at s (at - cell-words)) where
     and-tag : tag-at s at ≡ 10
     and-tag = sym (w .tagged) ∙ h
 
     pub left-part : ExpressionAt s lo mid
     left-part = at-left (omega (arith, and-tag)) (omega (arith, and-tag)) st (w .left)
 
-    pub right-part : ExpressionAt s mid (at - 6)
+    pub right-part : ExpressionAt s mid (at - cell-words)
     right-part = at-right (omega (arith, and-tag)) (omega (arith, and-tag)) st (w .left)
 
-    pub found-later : (j : ℕ) → (j ≡ 0 → ⊥) → FindsLast c s mid (at - 6) (ending s j) → FindsLast c s lo hi (ending s j)
+    pub found-later : (j : ℕ) → (j ≡ 0 → ⊥) → FindsLast c s mid (at - cell-words) (ending s j) → FindsLast c s lo hi (ending s j)
     found-later j z f = w .last (ending s j) (end-later c st and-tag j z f)
 
-    pub searched-one : (j : ℕ) → j ≡ 0 → FindsLast c s mid (at - 6) (ending s j) → {u : ℕ} → u ≡ tag-at s mid → Searched c s lo hi mid u
+    pub searched-one : (j : ℕ) → j ≡ 0 → FindsLast c s mid (at - cell-words) (ending s j) → {u : ℕ} → u ≡ tag-at s mid → Searched c s lo hi mid u
     searched-one j z f e = record { tagged = e; left = left-part; last = λ q g. w .last q (last-earlier c st and-tag q (ends-none s z) f g) }

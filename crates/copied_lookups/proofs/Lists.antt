@@ -23,13 +23,13 @@ singles-append (x ∷ xs) ys f g = (f .0, singles-append xs ys (f .1) g)
 
 singles-ands : (e : Expression) → Singles (ands e)
 unfolding Singles
-singles-ands (constant v) = (refl, tt)
-singles-ands (column i) = (refl, tt)
-singles-ands (unary o x) = (refl, tt)
-singles-ands (binary (logical And) l r) = singles-append (ands l) (ands r) (singles-ands l) (singles-ands r)
-singles-ands (binary (logical Or) l r) = (refl, tt)
-singles-ands (binary Equal l r) = (refl, tt)
-singles-ands (binary (function f) l r) = (refl, tt)
+singles-ands (constant og v) = (refl, tt)
+singles-ands (column og i) = (refl, tt)
+singles-ands (unary og o x) = (refl, tt)
+singles-ands (binary og (logical And) l r) = singles-append (ands l) (ands r) (singles-ands l) (singles-ands r)
+singles-ands (binary og (logical Or) l r) = (refl, tt)
+singles-ands (binary og Equal l r) = (refl, tt)
+singles-ands (binary og (function f) l r) = (refl, tt)
 
 singles-keep : (t : Expression → Bool) (xs : List Expression) → Singles xs → Singles (keep t xs)
 unfolding Singles
@@ -45,21 +45,21 @@ unfolding Singles
 flat-singles [] f = refl
 flat-singles (x ∷ xs) f = ap₂ (λ (a b : List Expression). a ++ b) (f .0) (flat-singles xs (f .1))
 
-ands-all : (a : Expression) (xs : List Expression) → ands (and-all a xs) ≡ ands a ++ flat-map ands xs
-ands-all a [] = sym (append-nothing (ands a))
+ands-all : (new : ℕ) (a : Expression) (xs : List Expression) → ands (and-all new a xs) ≡ ands a ++ flat-map ands xs
+ands-all new a [] = sym (append-nothing (ands a))
   where
     append-nothing : (l : List Expression) → l ++ [] ≡ l
     append-nothing [] = refl
     append-nothing (x ∷ l) = ap (λ m. x ∷ m) (append-nothing l)
-ands-all a (x ∷ xs) = ands-all (and a x) xs ∙ append-assoc (ands a) (ands x) (flat-map ands xs)
+ands-all new a (x ∷ xs) = ands-all new (and new a x) xs ∙ append-assoc (ands a) (ands x) (flat-map ands xs)
 
-conjuncts-back : (xs : List Expression) → Singles xs → conjuncts-of (and-vec xs) ≡ xs
+conjuncts-back : (new : ℕ) (xs : List Expression) → Singles xs → conjuncts-of (and-vec new xs) ≡ xs
 unfolding Singles
-conjuncts-back [] f = refl
-conjuncts-back (x ∷ xs) f = ands-all x xs ∙ ap₂ (λ (a b : List Expression). a ++ b) (f .0) (flat-singles xs (f .1))
+conjuncts-back new [] f = refl
+conjuncts-back new (x ∷ xs) f = ands-all new x xs ∙ ap₂ (λ (a b : List Expression). a ++ b) (f .0) (flat-singles xs (f .1))
 
-pub kept-back : (t : Expression → Bool) (e : Expression) → conjuncts-of (and-vec (keep t (ands e))) ≡ keep t (ands e)
-kept-back t e = conjuncts-back (keep t (ands e)) (singles-keep t (ands e) (singles-ands e))
+pub kept-back : (new : ℕ) (t : Expression → Bool) (e : Expression) → conjuncts-of (and-vec new (keep t (ands e))) ≡ keep t (ands e)
+kept-back new t e = conjuncts-back new (keep t (ands e)) (singles-keep t (ands e) (singles-ands e))
 
 -- ---- moving the columns of conjuncts
 
@@ -71,13 +71,13 @@ map-flat : {A B C : Type 0} (f : B → C) (g : A → List B) (xs : List A) → m
 map-flat f g [] = refl
 map-flat f g (x ∷ xs) = map-append f (g x) (flat-map g xs) ∙ ap (λ l. map f (g x) ++ l) (map-flat f g xs)
 
-moved-all : (n : ℕ) (a : Expression) (xs : List Expression) → shift-column-down n (and-all a xs) ≡ and-all (shift-column-down n a) (map (shift-column-down n) xs)
-moved-all n a [] = refl
-moved-all n a (x ∷ xs) = moved-all n (and a x) xs
+moved-all : (new n : ℕ) (a : Expression) (xs : List Expression) → shift-column-down n (and-all new a xs) ≡ and-all new (shift-column-down n a) (map (shift-column-down n) xs)
+moved-all new n a [] = refl
+moved-all new n a (x ∷ xs) = moved-all new n (and new a x) xs
 
-pub moved-vec : (n : ℕ) (xs : List Expression) → map-optional (shift-column-down n) (and-vec xs) ≡ and-vec (map (shift-column-down n) xs)
-moved-vec n [] = refl
-moved-vec n (x ∷ xs) = ap some (moved-all n x xs)
+pub moved-vec : (new n : ℕ) (xs : List Expression) → map-optional (shift-column-down n) (and-vec new xs) ≡ and-vec new (map (shift-column-down n) xs)
+moved-vec new n [] = refl
+moved-vec new n (x ∷ xs) = ap some (moved-all new n x xs)
 
 -- ---- the copies of all equijoins that stay
 
@@ -133,12 +133,12 @@ module _ (n shift : ℕ) (lookups : List Expression) where
 
 -- ---- all that is pushed
 
-pub pushed-left : (n : ℕ) (e : Expression) → for-left n (ands e) ++ flat-map (copies Left n 0 (conjuncts-of (and-vec (for-right n (ands e))))) (ands e) ≡ push-left n (ands e)
-pushed-left n e = ap (λ l. for-left n (ands e) ++ l)
-    (ap (λ ls. flat-map (copies Left n 0 ls) (ands e)) (kept-back (λ x. not (ref-left n x)) e) ∙ copies-down n 0 (for-right n (ands e)) (ands e))
+pub pushed-left : (new n : ℕ) (e : Expression) → for-left n (ands e) ++ flat-map (copies Left n 0 (conjuncts-of (and-vec new (for-right n (ands e))))) (ands e) ≡ push-left n (ands e)
+pushed-left new n e = ap (λ l. for-left n (ands e) ++ l)
+    (ap (λ ls. flat-map (copies Left n 0 ls) (ands e)) (kept-back new (λ x. not (ref-left n x)) e) ∙ copies-down n 0 (for-right n (ands e)) (ands e))
 
-pub pushed-right : (n shift : ℕ) (e : Expression)
-    → map (shift-column-down shift) (for-right n (ands e)) ++ flat-map (copies Right n shift (conjuncts-of (and-vec (for-left n (ands e))))) (ands e) ≡ map (shift-column-down shift) (push-right n (ands e))
-pushed-right n shift e = ap (λ l. map (shift-column-down shift) (for-right n (ands e)) ++ l)
-    (ap (λ ls. flat-map (copies Right n shift ls) (ands e)) (kept-back (λ x. not (ref-right n x)) e) ∙ copies-up n shift (for-left n (ands e)) (ands e))
+pub pushed-right : (new n shift : ℕ) (e : Expression)
+    → map (shift-column-down shift) (for-right n (ands e)) ++ flat-map (copies Right n shift (conjuncts-of (and-vec new (for-left n (ands e))))) (ands e) ≡ map (shift-column-down shift) (push-right n (ands e))
+pushed-right new n shift e = ap (λ l. map (shift-column-down shift) (for-right n (ands e)) ++ l)
+    (ap (λ ls. flat-map (copies Right n shift ls) (ands e)) (kept-back new (λ x. not (ref-right n x)) e) ∙ copies-up n shift (for-left n (ands e)) (ands e))
     ∙ sym (map-append (shift-column-down shift) (for-right n (ands e)) (flat-map (λ x. copy-up (for-left n (ands e)) (equijoin x)) (for-both n (ands e))))

@@ -8,7 +8,7 @@ use mathlib.Core.Option.{Option, none, some}
 use mathlib.Core.Path.{_≡_, refl, sym, ap, ap₂, _∙_, subst}
 use mathlib.Core.List.{List, [], _∷_, map}
 use lib.Dec.{T, eqb, ltb, eqb→eq}
-use Rattle.sql.specs.Expression.{And, Or, IsNull, IsNaN, Identity, Negate, Not, function, logical, Equal, Expression, constant, column, unary, binary, map-columns, replace-column, shift-column-down, is-column, same-column, is-column-lookup}
+use Rattle.sql.specs.Expression.{origin, And, Or, IsNull, IsNaN, Identity, Negate, Not, function, logical, Equal, Expression, constant, column, unary, binary, map-columns, replace-column, shift-column-down, is-column, same-column, is-column-lookup}
 use Rattle.sql.specs.Optimizer.{ref-left, ref-right, equijoin, is-number, is-lookup-of, or-else, last-lookup, copied}
 use Rattle.cells.proofs.Laws.{lt-or-ge}
 
@@ -20,11 +20,11 @@ no-true h = absurd (let z : _≡_ {A = ℕ} 0 1 = cc in omega arith)
 
 -- ---- what is known of a lookup
 
-pub column-is : (x : Expression) (c : ℕ) → is-column x ≡ some c → x ≡ column c
-column-is (constant v) c h = no-some h
-column-is (column i) c h = let k : i ≡ c = cc in ap column k
-column-is (unary o x) c h = no-some h
-column-is (binary o l r) c h = no-some h
+pub column-is : (x : Expression) (c : ℕ) → is-column x ≡ some c → x ≡ column (origin x) c
+column-is (constant og v) c h = no-some h
+column-is (column og i) c h = let k : i ≡ c = cc in ap (column og) k
+column-is (unary og o x) c h = no-some h
+column-is (binary og o l r) c h = no-some h
 
 pub same-both : (o p : Option ℕ) (c : ℕ) → same-column o p ≡ some c → (o ≡ some c) × (p ≡ some c)
 same-both none p c h = no-some h
@@ -38,33 +38,33 @@ same-both (some a) (some b) c h = test (eqb a b) refl h
 -- two rewrites that agree at the column of a lookup agree
 module _ (f g : ℕ → ℕ) (c : ℕ) (same : f c ≡ g c) where
   column-same : (x : Expression) → is-column x ≡ some c → map-columns f x ≡ map-columns g x
-  column-same x h = subst (λ (y : Expression). map-columns f y ≡ map-columns g y) (sym (column-is x c h)) (ap column same)
+  column-same x h = subst (λ (y : Expression). map-columns f y ≡ map-columns g y) (sym (column-is x c h)) (ap (column (origin x)) same)
 
   pub lookup-same : (e : Expression) → is-column-lookup e ≡ some c → map-columns f e ≡ map-columns g e
-  lookup-same (constant v) h = no-some h
-  lookup-same (column i) h = no-some h
-  lookup-same (unary Not x) h = no-some h
-  lookup-same (unary (function IsNull) x) h = ap (unary (function IsNull)) (column-same x h)
-  lookup-same (unary (function IsNaN) x) h = ap (unary (function IsNaN)) (column-same x h)
-  lookup-same (unary (function Identity) x) h = no-some h
-  lookup-same (unary (function Negate) x) h = no-some h
-  lookup-same (binary (logical And) l r) h = no-some h
-  lookup-same (binary (logical Or) l r) h =
-      let (a, b) = same-both (is-column-lookup l) (is-column-lookup r) c h in ap₂ (binary (logical Or)) (lookup-same l a) (lookup-same r b)
-  lookup-same (binary Equal (constant v) r) h = ap (binary Equal (constant v)) (column-same r h)
-  lookup-same (binary Equal (column i) (constant v)) h = ap (λ x. binary Equal x (constant v)) (column-same (column i) h)
-  lookup-same (binary Equal (column i) (column j)) h = no-some h
-  lookup-same (binary Equal (column i) (unary o x)) h = no-some h
-  lookup-same (binary Equal (column i) (binary o x y)) h = no-some h
-  lookup-same (binary Equal (unary o x) r) h = no-some h
-  lookup-same (binary Equal (binary o x y) r) h = no-some h
-  lookup-same (binary (function p) l r) h = no-some h
+  lookup-same (constant og v) h = no-some h
+  lookup-same (column og i) h = no-some h
+  lookup-same (unary og Not x) h = no-some h
+  lookup-same (unary og (function IsNull) x) h = ap (unary og (function IsNull)) (column-same x h)
+  lookup-same (unary og (function IsNaN) x) h = ap (unary og (function IsNaN)) (column-same x h)
+  lookup-same (unary og (function Identity) x) h = no-some h
+  lookup-same (unary og (function Negate) x) h = no-some h
+  lookup-same (binary og (logical And) l r) h = no-some h
+  lookup-same (binary og (logical Or) l r) h =
+      let (a, b) = same-both (is-column-lookup l) (is-column-lookup r) c h in ap₂ (binary og (logical Or)) (lookup-same l a) (lookup-same r b)
+  lookup-same (binary og Equal (constant og′ v) r) h = ap (binary og Equal (constant og′ v)) (column-same r h)
+  lookup-same (binary og Equal (column og′ i) (constant og″ v)) h = ap (λ x. binary og Equal x (constant og″ v)) (column-same (column og′ i) h)
+  lookup-same (binary og Equal (column og′ i) (column og″ j)) h = no-some h
+  lookup-same (binary og Equal (column og′ i) (unary og″ o x)) h = no-some h
+  lookup-same (binary og Equal (column og′ i) (binary og″ o x y)) h = no-some h
+  lookup-same (binary og Equal (unary og′ o x) r) h = no-some h
+  lookup-same (binary og Equal (binary og′ o x y) r) h = no-some h
+  lookup-same (binary og (function p) l r) h = no-some h
 
 map-twice : (f g : ℕ → ℕ) (e : Expression) → map-columns f (map-columns g e) ≡ map-columns (λ c. f (g c)) e
-map-twice f g (constant v) = refl
-map-twice f g (column c) = refl
-map-twice f g (unary o x) = ap (unary o) (map-twice f g x)
-map-twice f g (binary o l r) = ap₂ (binary o) (map-twice f g l) (map-twice f g r)
+map-twice f g (constant og v) = refl
+map-twice f g (column og c) = refl
+map-twice f g (unary og o x) = ap (unary og o) (map-twice f g x)
+map-twice f g (binary og o l r) = ap₂ (binary og o) (map-twice f g l) (map-twice f g r)
 
 pub eqb-same : (c : ℕ) → eqb c c ≡ true
 eqb-same c = eq-eqb c c refl
@@ -122,13 +122,13 @@ below-too i j n h k = ⊎-elim
     (lt-or-ge j n)
 
 pub stays : (n : ℕ) (e : Expression) (p : ℕ × ℕ) → equijoin e ≡ some p → (ref-left n e && ref-right n e) ≡ (ltb (p .0) n && not (ltb (p .1) n))
-stays n (constant v) p h = no-some h
-stays n (column i) p h = no-some h
-stays n (unary o x) p h = no-some h
-stays n (binary (logical o) l r) p h = no-some h
-stays n (binary Equal (constant v) r) p h = no-some h
-stays n (binary Equal (column i) (constant v)) p h = no-some h
-stays n (binary Equal (column i) (column j)) p h = ⊎-elim
+stays n (constant og v) p h = no-some h
+stays n (column og i) p h = no-some h
+stays n (unary og o x) p h = no-some h
+stays n (binary og (logical o) l r) p h = no-some h
+stays n (binary og Equal (constant og′ v) r) p h = no-some h
+stays n (binary og Equal (column og′ i) (constant og″ v)) p h = no-some h
+stays n (binary og Equal (column og′ i) (column og″ j)) p h = ⊎-elim
     (λ (z : j < i).
     let q : _≡_ {A = ℕ × ℕ} (j, i) p = let b = lt-ltb j i z in let w : _≡_ {A = Option (ℕ × ℕ)} (some (cond true (j, i) (i, j))) (some p) = subst (λ (t : Bool). some (cond t (j, i) (i, j)) ≡ some p) b h in cc in
     subst (λ (p : ℕ × ℕ). ((ltb i n || ltb j n) && (not (ltb i n) || not (ltb j n))) ≡ (ltb (p .0) n && not (ltb (p .1) n))) q
@@ -138,8 +138,8 @@ stays n (binary Equal (column i) (column j)) p h = ⊎-elim
     subst (λ (p : ℕ × ℕ). ((ltb i n || ltb j n) && (not (ltb i n) || not (ltb j n))) ≡ (ltb (p .0) n && not (ltb (p .1) n))) q
     (swapped-side (ltb i n) (ltb j n) (below-too i j n z)))
     (lt-or-ge j i)
-stays n (binary Equal (column i) (unary o x)) p h = no-some h
-stays n (binary Equal (column i) (binary o x y)) p h = no-some h
-stays n (binary Equal (unary o x) r) p h = no-some h
-stays n (binary Equal (binary o x y) r) p h = no-some h
-stays n (binary (function f) l r) p h = no-some h
+stays n (binary og Equal (column og′ i) (unary og″ o x)) p h = no-some h
+stays n (binary og Equal (column og′ i) (binary og″ o x y)) p h = no-some h
+stays n (binary og Equal (unary og′ o x) r) p h = no-some h
+stays n (binary og Equal (binary og′ o x y) r) p h = no-some h
+stays n (binary og (function f) l r) p h = no-some h

@@ -24,24 +24,24 @@ module _ (t : ℕ → Bool) (f : ℕ → ℕ) (c : ℕ) where
   column-has x h = subst (λ (y : Expression). contains-column t (map-columns f y) ≡ t (f c)) (sym (column-is x c h)) refl
 
   lookup-has : (e : Expression) → is-column-lookup e ≡ some c → contains-column t (map-columns f e) ≡ t (f c)
-  lookup-has (constant v) h = no-some h
-  lookup-has (column i) h = no-some h
-  lookup-has (unary Not x) h = no-some h
-  lookup-has (unary (function IsNull) x) h = column-has x h
-  lookup-has (unary (function IsNaN) x) h = column-has x h
-  lookup-has (unary (function Identity) x) h = no-some h
-  lookup-has (unary (function Negate) x) h = no-some h
-  lookup-has (binary (logical And) l r) h = no-some h
-  lookup-has (binary (logical Or) l r) h =
+  lookup-has (constant og v) h = no-some h
+  lookup-has (column og i) h = no-some h
+  lookup-has (unary og Not x) h = no-some h
+  lookup-has (unary og (function IsNull) x) h = column-has x h
+  lookup-has (unary og (function IsNaN) x) h = column-has x h
+  lookup-has (unary og (function Identity) x) h = no-some h
+  lookup-has (unary og (function Negate) x) h = no-some h
+  lookup-has (binary og (logical And) l r) h = no-some h
+  lookup-has (binary og (logical Or) l r) h =
       let (a, b) = same-both (is-column-lookup l) (is-column-lookup r) c h in ap₂ (λ (i j : Bool). i || j) (lookup-has l a) (lookup-has r b) ∙ or-same (t (f c))
-  lookup-has (binary Equal (constant v) r) h = column-has r h
-  lookup-has (binary Equal (column i) (constant v)) h = or-false (t (f i)) ∙ column-has (column i) h
-  lookup-has (binary Equal (column i) (column j)) h = no-some h
-  lookup-has (binary Equal (column i) (unary o x)) h = no-some h
-  lookup-has (binary Equal (column i) (binary o x y)) h = no-some h
-  lookup-has (binary Equal (unary o x) r) h = no-some h
-  lookup-has (binary Equal (binary o x y) r) h = no-some h
-  lookup-has (binary (function p) l r) h = no-some h
+  lookup-has (binary og Equal (constant og′ v) r) h = column-has r h
+  lookup-has (binary og Equal (column og′ i) (constant og″ v)) h = or-false (t (f i)) ∙ column-has (column og′ i) h
+  lookup-has (binary og Equal (column og′ i) (column og″ j)) h = no-some h
+  lookup-has (binary og Equal (column og′ i) (unary og″ o x)) h = no-some h
+  lookup-has (binary og Equal (column og′ i) (binary og″ o x y)) h = no-some h
+  lookup-has (binary og Equal (unary og′ o x) r) h = no-some h
+  lookup-has (binary og Equal (binary og′ o x y) r) h = no-some h
+  lookup-has (binary og (function p) l r) h = no-some h
 
 -- ---- lists of conjuncts without a column of the left source
 
@@ -100,16 +100,16 @@ module _ (n : ℕ) where
       test true q g = no-left-append (copy-up lookups (equijoin x)) (flat-map (λ e. copy-up lookups (equijoin e)) (for-both n xs)) (no-left-copy lookups x q) g
       test false q g = g
 
-  no-left-all : (a : Expression) (xs : List Expression) → ref-left n a ≡ false → NoLeft xs → ref-left n (and-all a xs) ≡ false
+  no-left-all : (new : ℕ) (a : Expression) (xs : List Expression) → ref-left n a ≡ false → NoLeft xs → ref-left n (and-all new a xs) ≡ false
   unfolding NoLeft
-  no-left-all a [] h f = h
-  no-left-all a (x ∷ xs) h f = no-left-all (and a x) xs (ap₂ (λ (i j : Bool). i || j) h (f .0)) (f .1)
+  no-left-all new a [] h f = h
+  no-left-all new a (x ∷ xs) h f = no-left-all new (and new a x) xs (ap₂ (λ (i j : Bool). i || j) h (f .0)) (f .1)
 
-  no-left-vec : (xs : List Expression) → NoLeft xs → (p : Expression) → and-vec xs ≡ some p → ref-left n p ≡ false
+  no-left-vec : (new : ℕ) (xs : List Expression) → NoLeft xs → (p : Expression) → and-vec new xs ≡ some p → ref-left n p ≡ false
   unfolding NoLeft
-  no-left-vec [] f p q = no-some q
-  no-left-vec (x ∷ xs) f p q = let z : and-all x xs ≡ p = cc in subst (λ (y : Expression). ref-left n y ≡ false) z (no-left-all x xs (f .0) (f .1))
+  no-left-vec new [] f p q = no-some q
+  no-left-vec new (x ∷ xs) f p q = let z : and-all new x xs ≡ p = cc in subst (λ (y : Expression). ref-left n y ≡ false) z (no-left-all new x xs (f .0) (f .1))
 
-  pub right-refers : (es : List Expression) (p : Expression) → and-vec (push-right n es) ≡ some p → ref-left n p ≡ false
-  right-refers es p q = no-left-vec (push-right n es)
+  pub right-refers : (new : ℕ) (es : List Expression) (p : Expression) → and-vec new (push-right n es) ≡ some p → ref-left n p ≡ false
+  right-refers new es p q = no-left-vec new (push-right n es)
       (no-left-append (for-right n es) (flat-map (λ e. copy-up (for-left n es) (equijoin e)) (for-both n es)) (no-left-kept es) (no-left-copies (for-left n es) es)) p q

@@ -61,40 +61,41 @@ optional-copies into n shift lookups (some pair) = pair-copies into n shift look
 abbrev pub copies : Source → ℕ → ℕ → List Expression → Expression → List Expression
 copies into n shift lookups e = optional-copies into n shift lookups (equijoin e)
 
--- ---- what the functions append, for whatever conjuncts of the other source stand where they are lent
+-- ---- what the functions append, for whatever conjuncts of the other source stand where they are lent; the Ands have the origin `new`
 
-abbrev pub CopiesLast : ℕ → ℕ → List ℕ → ℕ → ℕ → List ℕ → ℕ → ℕ → ℕ → List ℕ → Type 0
-CopiesLast c to s lo hi d from at n d′ = (o : Option Expression) → OptionalHere s lo hi o → Appends d from at (copied c to (last-lookup c (conjuncts-of o))) n d′
+abbrev pub CopiesLast : ℕ → ℕ → ℕ → List ℕ → ℕ → ℕ → List ℕ → ℕ → ℕ → ℕ → List ℕ → Type 0
+CopiesLast new c to s lo hi d from at n d′ = (o : Option Expression) → OptionalHere s lo hi o → Appends new d from at (copied c to (last-lookup c (conjuncts-of o))) n d′
 
-abbrev pub CopiesPair : Source → ℕ → ℕ → ℕ → ℕ → List ℕ → ℕ → ℕ → List ℕ → ℕ → ℕ → ℕ → List ℕ → Type 0
-CopiesPair into n shift l r s lo hi d from at m d′ =
-    (o : Option Expression) → OptionalHere s lo hi o → Appends d from at (pair-copies into n shift (conjuncts-of o) l r) m d′
+abbrev pub CopiesPair : ℕ → Source → ℕ → ℕ → ℕ → ℕ → List ℕ → ℕ → ℕ → List ℕ → ℕ → ℕ → ℕ → List ℕ → Type 0
+CopiesPair new into n shift l r s lo hi d from at m d′ =
+    (o : Option Expression) → OptionalHere s lo hi o → Appends new d from at (pair-copies into n shift (conjuncts-of o) l r) m d′
 
-abbrev pub CopiesConjunct : Source → ℕ → ℕ → List ℕ → ℕ → ℕ → List ℕ → ℕ → ℕ → List ℕ → ℕ → ℕ → ℕ → List ℕ → Type 0
-CopiesConjunct into n shift s lo hi g a b d from at m d′ =
-    (o : Option Expression) → OptionalHere g a b o → AppendsEach (copies into n shift (conjuncts-of o)) s lo hi d from at m d′
+abbrev pub CopiesConjunct : ℕ → Source → ℕ → ℕ → List ℕ → ℕ → ℕ → List ℕ → ℕ → ℕ → List ℕ → ℕ → ℕ → ℕ → List ℕ → Type 0
+CopiesConjunct new into n shift s lo hi g a b d from at m d′ =
+    (o : Option Expression) → OptionalHere g a b o → AppendsEach new (copies into n shift (conjuncts-of o)) s lo hi d from at m d′
 
-abbrev pub CopiesEach : Source → ℕ → ℕ → List ℕ → ℕ → ℕ → List ℕ → ℕ → ℕ → List ℕ → ℕ → ℕ → ℕ → List ℕ → Type 0
-CopiesEach into n shift s lo hi g a b d from at m d′ =
-    (o : Option Expression) → OptionalHere g a b o → Walks (copies into n shift (conjuncts-of o)) s lo hi d from at m d′
+abbrev pub CopiesEach : ℕ → Source → ℕ → ℕ → List ℕ → ℕ → ℕ → List ℕ → ℕ → ℕ → List ℕ → ℕ → ℕ → ℕ → List ℕ → Type 0
+CopiesEach new into n shift s lo hi g a b d from at m d′ =
+    (o : Option Expression) → OptionalHere g a b o → Walks new (copies into n shift (conjuncts-of o)) s lo hi d from at m d′
 
 -- ---- what is pushed: e's conjuncts for the other source are those that stand in g
 
--- Some expression stands in s from lo up to hi, and its conjuncts for the right source, or for the left one, in g from a up to b.
-pub record LeftAt (n : ℕ) (s : List ℕ) (lo hi : ℕ) (g : List ℕ) (a b : ℕ) : Type 0 where
+-- Some expression stands in s from lo up to hi, and its conjuncts for the right source, or for the left one, in g from a up to b, under Ands with the
+-- origin `new`.
+pub record LeftAt (new n : ℕ) (s : List ℕ) (lo hi : ℕ) (g : List ℕ) (a b : ℕ) : Type 0 where
   pub e : Expression
   pub here : ExpressionHere s lo hi e
-  pub others : OptionalHere g a b (and-vec (for-right n (ands e)))
+  pub others : OptionalHere g a b (and-vec new (for-right n (ands e)))
 
-pub record RightAt (n : ℕ) (s : List ℕ) (lo hi : ℕ) (g : List ℕ) (a b : ℕ) : Type 0 where
+pub record RightAt (new n : ℕ) (s : List ℕ) (lo hi : ℕ) (g : List ℕ) (a b : ℕ) : Type 0 where
   pub e : Expression
   pub here : ExpressionHere s lo hi e
-  pub others : OptionalHere g a b (and-vec (for-left n (ands e)))
+  pub others : OptionalHere g a b (and-vec new (for-left n (ands e)))
 
-abbrev pub PushesLeft : ℕ → List ℕ → ℕ → ℕ → List ℕ → ℕ → ℕ → List ℕ → ℕ → ℕ → List ℕ → Type 0
-PushesLeft n s lo hi g a b d at m d′ = (e : Expression) → ExpressionHere s lo hi e → OptionalHere g a b (and-vec (for-right n (ands e)))
-    → Wrote d at (optional-words (and-vec (push-left n (ands e)))) m d′
+abbrev pub PushesLeft : ℕ → ℕ → List ℕ → ℕ → ℕ → List ℕ → ℕ → ℕ → List ℕ → ℕ → ℕ → List ℕ → Type 0
+PushesLeft new n s lo hi g a b d at m d′ = (e : Expression) → ExpressionHere s lo hi e → OptionalHere g a b (and-vec new (for-right n (ands e)))
+    → Wrote d at (optional-words (and-vec new (push-left n (ands e)))) m d′
 
-abbrev pub PushesRight : ℕ → ℕ → List ℕ → ℕ → ℕ → List ℕ → ℕ → ℕ → List ℕ → ℕ → ℕ → List ℕ → Type 0
-PushesRight n shift s lo hi g a b d at m d′ = (e : Expression) → ExpressionHere s lo hi e → OptionalHere g a b (and-vec (for-left n (ands e)))
-    → Wrote d at (optional-words (map-optional (shift-column-down shift) (and-vec (push-right n (ands e))))) m d′
+abbrev pub PushesRight : ℕ → ℕ → ℕ → List ℕ → ℕ → ℕ → List ℕ → ℕ → ℕ → List ℕ → ℕ → ℕ → List ℕ → Type 0
+PushesRight new n shift s lo hi g a b d at m d′ = (e : Expression) → ExpressionHere s lo hi e → OptionalHere g a b (and-vec new (for-left n (ands e)))
+    → Wrote d at (optional-words (map-optional (shift-column-down shift) (and-vec new (push-right n (ands e))))) m d′

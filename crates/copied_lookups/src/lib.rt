@@ -1,6 +1,6 @@
 // optimizer.rs, maybe_push_join: what is pushed into a join's sources. Beside its own conjuncts a source gets, for each equijoin that stays with the join, the
 // last lookup of the other source's column, copied to its own column. The conjuncts of the other source are lent, gathered before (crate conjuncts), so that
-// no others are searched.
+// no others are searched. The Ands over the conjuncts have the origin that the caller gives.
 ghost use mathlib.Core.Path.{_≡_};
 ghost use Prim.Native.Nat.{_-_, _<_};
 ghost use Rattle.sql.specs.Optimizer.{is-number};
@@ -160,10 +160,11 @@ fn copy_last(
     at: usize,
     column: u32,
     to: u32,
+    origin: u32,
 ) -> usize
     requires { ⌜ OptionalAt (now s) lo hi ⌝ }
     requires { ⌜ GatheredAt (now d) from at ⌝ }
-    ensures { λ r. ⌜ CopiesLast column to (now (s .entry)) lo hi (now (d .entry)) from at r (now (d .exit)) ⌝ }
+    ensures { λ r. ⌜ CopiesLast origin column to (now (s .entry)) lo hi (now (d .entry)) from at r (now (d .exit)) ⌝ }
 {
     if lo == hi {
         return at;
@@ -173,7 +174,7 @@ fn copy_last(
         return at;
     };
     let m = column_numbers::replace_column(s, a, b, d, at, column, to);
-    conjuncts::and_over(d, from, at, m)
+    conjuncts::and_over(d, from, at, m, origin)
 }
 
 // What the equijoin of columns l and r copies into a source, if it stays with the join: it has a column of each source. The right source's columns are written
@@ -190,10 +191,11 @@ fn copy_pair(
     into: Source,
     n: usize,
     shift: usize,
+    origin: u32,
 ) -> usize
     requires { ⌜ OptionalAt (now s) lo hi ⌝ }
     requires { ⌜ GatheredAt (now d) from at ⌝ }
-    ensures { λ q. ⌜ CopiesPair into n shift (l .0) (r .0) (now (s .entry)) lo hi (now (d .entry)) from at q (now (d .exit)) ⌝ }
+    ensures { λ q. ⌜ CopiesPair origin into n shift (l .0) (r .0) (now (s .entry)) lo hi (now (d .entry)) from at q (now (d .exit)) ⌝ }
 {
     if n <= l.0 as usize {
         return at;
@@ -202,10 +204,10 @@ fn copy_pair(
         return at;
     }
     match into {
-        Source::Left => copy_last(s, lo, hi, d, from, at, r.0, l.0),
+        Source::Left => copy_last(s, lo, hi, d, from, at, r.0, l.0, origin),
         Source::Right => {
             let own = r.right(shift);
-            copy_last(s, lo, hi, d, from, at, l.0, own.0)
+            copy_last(s, lo, hi, d, from, at, l.0, own.0, origin)
         }
     }
 }
@@ -224,17 +226,18 @@ fn copy_conjunct(
     into: Source,
     n: usize,
     shift: usize,
+    origin: u32,
 ) -> usize
     requires { ⌜ ExpressionAt (now s) lo hi ⌝ }
     requires { ⌜ OptionalAt (now g) a b ⌝ }
     requires { ⌜ GatheredAt (now d) from at ⌝ }
-    ensures { λ r. ⌜ CopiesConjunct into n shift (now (s .entry)) lo hi (now (g .entry)) a b (now (d .entry)) from at r (now (d .exit)) ⌝ }
+    ensures { λ r. ⌜ CopiesConjunct origin into n shift (now (s .entry)) lo hi (now (g .entry)) a b (now (d .entry)) from at r (now (d .exit)) ⌝ }
 {
     let pair = column_lookup::equijoin(s, lo, hi);
     let column_lookup::ColumnPair::Pair(l, r) = pair else {
         return at;
     };
-    copy_pair(g, a, b, d, from, at, l, r, into, n, shift)
+    copy_pair(g, a, b, d, from, at, l, r, into, n, shift, origin)
 }
 
 // What the conjuncts of the expression from lo to hi copy into a source.
@@ -251,19 +254,20 @@ fn copy_each(
     into: Source,
     n: usize,
     shift: usize,
+    origin: u32,
 ) -> usize
     requires { ⌜ ExpressionAt (now s) lo hi ⌝ }
     requires { ⌜ OptionalAt (now g) a b ⌝ }
     requires { ⌜ GatheredAt (now d) from at ⌝ }
-    ensures { λ r. ⌜ CopiesEach into n shift (now (s .entry)) lo hi (now (g .entry)) a b (now (d .entry)) from at r (now (d .exit)) ⌝ }
+    ensures { λ r. ⌜ CopiesEach origin into n shift (now (s .entry)) lo hi (now (g .entry)) a b (now (d .entry)) from at r (now (d .exit)) ⌝ }
 {
     if cells::tag_at(s, hi) == tags::AND {
         let end = hi - cells::CELL_WORDS;
         let mid = cells::start(s, end);
-        let m = copy_each(s, lo, mid, g, a, b, d, from, at, into, n, shift);
-        return copy_each(s, mid, end, g, a, b, d, from, m, into, n, shift);
+        let m = copy_each(s, lo, mid, g, a, b, d, from, at, into, n, shift, origin);
+        return copy_each(s, mid, end, g, a, b, d, from, m, into, n, shift, origin);
     }
-    copy_conjunct(s, lo, hi, g, a, b, d, from, at, into, n, shift)
+    copy_conjunct(s, lo, hi, g, a, b, d, from, at, into, n, shift, origin)
 }
 
 // What of the predicate from lo to hi is pushed into the left source, which has n columns. The conjuncts for the right source stand in g from a up to b.
@@ -277,12 +281,13 @@ pub fn push_left(
     d: &mut [u32],
     at: usize,
     n: usize,
+    origin: u32,
 ) -> usize
-    requires { ⌜ LeftAt n (now s) lo hi (now g) a b ⌝ }
-    ensures { λ r. ⌜ PushesLeft n (now (s .entry)) lo hi (now (g .entry)) a b (now (d .entry)) at r (now (d .exit)) ⌝ }
+    requires { ⌜ LeftAt origin n (now s) lo hi (now g) a b ⌝ }
+    ensures { λ r. ⌜ PushesLeft origin n (now (s .entry)) lo hi (now (g .entry)) a b (now (d .entry)) at r (now (d .exit)) ⌝ }
 {
-    let m = conjuncts::for_left(s, lo, hi, d, at, at, n);
-    copy_each(s, lo, hi, g, a, b, d, at, m, Source::Left, n, 0)
+    let m = conjuncts::for_left(s, lo, hi, d, at, at, n, origin);
+    copy_each(s, lo, hi, g, a, b, d, at, m, Source::Left, n, 0, origin)
 }
 
 // What is pushed into the right source, with its columns `shift` lower: n, to push it, or 0. The conjuncts for the left source stand in g from a up to b.
@@ -297,10 +302,25 @@ pub fn push_right(
     at: usize,
     n: usize,
     shift: usize,
+    origin: u32,
 ) -> usize
-    requires { ⌜ RightAt n (now s) lo hi (now g) a b ⌝ }
-    ensures { λ r. ⌜ PushesRight n shift (now (s .entry)) lo hi (now (g .entry)) a b (now (d .entry)) at r (now (d .exit)) ⌝ }
+    requires { ⌜ RightAt origin n (now s) lo hi (now g) a b ⌝ }
+    ensures { λ r. ⌜ PushesRight origin n shift (now (s .entry)) lo hi (now (g .entry)) a b (now (d .entry)) at r (now (d .exit)) ⌝ }
 {
-    let m = conjuncts::for_right(s, lo, hi, d, at, at, n, shift);
-    copy_each(s, lo, hi, g, a, b, d, at, m, Source::Right, n, shift)
+    let m = conjuncts::for_right(s, lo, hi, d, at, at, n, shift, origin);
+    copy_each(
+        s,
+        lo,
+        hi,
+        g,
+        a,
+        b,
+        d,
+        at,
+        m,
+        Source::Right,
+        n,
+        shift,
+        origin,
+    )
 }

@@ -165,6 +165,7 @@ module _ {s x : List ℕ} {at i : ℕ} (g : Going s x at i) {p : Parts} (l : Lai
           c-small = holds .c-small;
           tag-small = holds .tag-small;
           flag-small = holds .flag-small;
+          origin-small = holds .origin-small;
         }
 
     module _ {r : ℕ} {x′ : List ℕ} (put : Put x at k r x′) where

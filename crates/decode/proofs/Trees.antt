@@ -13,7 +13,7 @@ use Rattle.value.specs.Value.{Truth, False, Unknown, True, truth, datum, intege
 use Rattle.sql.specs.Expression.{Unary, Not, function, IsNull, IsNaN, Identity, Negate, Binary, logical, And, Or, Equal, GreaterThan, LessThan, Add, Divide}
 use Rattle.sql.specs.Plan.{Label, unlabelled, unqualified, qualified}
 use Rattle.sheet.specs.Cell.{Cell}
-use Rattle.sheet.specs.Content.{Content, cell-of, constant-cell, column-cell, unary-cell, binary-cell, label-cell, item-cell, key-cell, target-cell, agg-cell, row-cell, aggregate-cell, filter-cell, hash-join-cell, index-lookup-cell, key-lookup-cell, limit-cell, offset-cell, nested-loop-join-cell, nothing-cell, order-cell, projection-cell, remap-cell, scan-cell, values-cell}
+use Rattle.sheet.specs.Content.{Content, cell-of, marked, constant-cell, column-cell, unary-cell, binary-cell, label-cell, item-cell, key-cell, target-cell, agg-cell, row-cell, aggregate-cell, filter-cell, hash-join-cell, index-lookup-cell, key-lookup-cell, limit-cell, offset-cell, nested-loop-join-cell, nothing-cell, order-cell, projection-cell, remap-cell, scan-cell, values-cell}
 use Rattle.sheet_laws.specs.Fits.{Counts-fit}
 use Rattle.sheet_laws.specs.Content.{high-part}
 use Rattle.arity.specs.Arity.{children}
@@ -89,6 +89,11 @@ trees-said (scan-cell true t none) x = refl
 trees-said (scan-cell false t (some r)) x = refl
 trees-said (scan-cell true t (some r)) x = refl
 trees-said (values-cell n) x = omega arith
+
+-- whatever its origin is
+pub marked-trees : (og : ℕ) (k : Content) → Counts-fit k → trees (marked og (cell-of k)) ≡ total (children k)
+unfolding trees
+marked-trees og k x = trees-said k x
 
 -- ---- the branches of the code
 

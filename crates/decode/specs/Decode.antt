@@ -50,7 +50,7 @@ trees k =
 
 -- a sheet's cell as one of the working form
 abbrev pub as-words : Cell → cells.Cell
-as-words k = record { tag = k .tag; flag = k .flag; a = k .a; b = k .b; c = k .c }
+as-words k = record { origin = k .origin; tag = k .tag; flag = k .flag; a = k .a; b = k .b; c = k .c }
 
 -- The trees that cell k stands over are the last ones of x before `at`.
 pub record Last (x : List ℕ) (at : ℕ) (k : Cell) : Type 0 where
@@ -60,6 +60,7 @@ pub record Last (x : List ℕ) (at : ℕ) (k : Cell) : Type 0 where
   pub c-small : k .c < 4294967296
   pub tag-small : k .tag < 256
   pub flag-small : k .flag < 256
+  pub origin-small : k .origin < 65536
 
 -- The cell is put over them.
 abbrev pub Put : (x : List ℕ) (at : ℕ) → Cell → ℕ → List ℕ → Type 0

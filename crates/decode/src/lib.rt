@@ -111,6 +111,7 @@ fn put_over(x: &mut [u32], at: usize, k: layout::Cell) -> usize
 {
     let lo = start_of(x, at, k);
     let cell = cells::Cell {
+        origin: k.origin as u32,
         tag: k.tag,
         flag: k.flag as u32,
         a: k.a as u32,

@@ -12,7 +12,7 @@ use Rattle.sql.specs.Plan.{Node, node-size}
 use Rattle.sql.specs.Answer.{Answer, done, refused, _>>=_}
 use Rattle.sql.specs.Room.{if-room}
 use Rattle.cells.specs.declared.Cell.{Cell}
-use Rattle.cells.specs.Cells.{words, sized, Part}
+use Rattle.cells.specs.Cells.{cell-words, words, sized, Part}
 use Rattle.cells.specs.Room.{Wrote}
 use Rattle.cells.proofs.Laws.{part-is, no-room, done as written, lt-or-ge, wrote-up}
 use Rattle.words.specs.Words.{node-words}
@@ -61,7 +61,7 @@ module _ {x : List ℕ} {t lo tail : ℕ} {pre post : List ℕ} {p : Node} (h : 
 
 -- the number of words, in cells
 pub total-cells : {x : List ℕ} {t lo tail room rest : ℕ} {pre post : List ℕ} {p : Node} → Shares x lo tail room rest → Holds x t lo tail pre post p
-    → t ≡ 6 * (rest + node-size p)
+    → t ≡ cell-words * (rest + node-size p)
 total-cells {p = p} s h = omega (arith, total h, s .outside, words-long p)
 
 pub standing-at : {x : List ℕ} {t lo tail : ℕ} → Standing x t lo tail → NodeAt x lo (t - tail)
@@ -181,10 +181,10 @@ replaced-up x {y} {n} {t} {from} {tail} {r} {x′} (a, b) k k′ f h =
 
 -- ---- reseal: the last word of a cell is set
 opened : (pre b post : List ℕ) (k : Cell) (i : ℕ)
-    → pre ++ ((b ++ words k i) ++ post) ≡ (pre ++ (b ++ (k .tag ∷ k .flag ∷ k .a ∷ k .b ∷ k .c ∷ []))) ++ (i ∷ post)
+    → pre ++ ((b ++ words k i) ++ post) ≡ (pre ++ (b ++ (k .origin ∷ k .tag ∷ k .flag ∷ k .a ∷ k .b ∷ k .c ∷ []))) ++ (i ∷ post)
 opened pre b post k i = simp append-assoc
 
-re-sealed : (x : List ℕ) (t lo tail : ℕ) → lo + 6 + tail ≤ t → t ≤ length x → (pre b post : List ℕ) (k : Cell) (n : ℕ)
+re-sealed : (x : List ℕ) (t lo tail : ℕ) → lo + cell-words + tail ≤ t → t ≤ length x → (pre b post : List ℕ) (k : Cell) (n : ℕ)
     → take t x ≡ pre ++ ((b ++ words k n) ++ post) → length pre ≡ lo → length post ≡ tail
     → take t (set x (t - tail - 1) (t - tail - lo)) ≡ pre ++ (sized b k ++ post)
 re-sealed x t lo tail h₁ h₂ pre b post k n e a c =
@@ -193,17 +193,17 @@ re-sealed x t lo tail h₁ h₂ pre b post k n e a c =
     let l₃ = length-append b (words k n) in
     let z = length-take-le t x h₂ in
     let w = ap length e in
-    let v : t - tail - lo ≡ length b + 6 = omega arith in
-    let five = k .tag ∷ k .flag ∷ k .a ∷ k .b ∷ k .c ∷ [] in
-    let front = pre ++ (b ++ five) in
-    let q : length front ≡ t - tail - 1 = omega (arith, length-append pre (b ++ five), length-append b five) in
+    let v : t - tail - lo ≡ length b + cell-words = omega arith in
+    let six = k .origin ∷ k .tag ∷ k .flag ∷ k .a ∷ k .b ∷ k .c ∷ [] in
+    let front = pre ++ (b ++ six) in
+    let q : length front ≡ t - tail - 1 = omega (arith, length-append pre (b ++ six), length-append b six) in
     take-set-lt t x (t - tail - 1) (t - tail - lo) (omega arith)
     ∙ ap (λ (y : List ℕ). set y (t - tail - 1) (t - tail - lo)) (e ∙ opened pre b post k n)
     ∙ set-at front n post (t - tail - lo) (t - tail - 1) q
     ∙ ap (λ (i : ℕ). front ++ (i ∷ post)) v
-    ∙ sym (opened pre b post k (length b + 6))
+    ∙ sym (opened pre b post k (length b + cell-words))
 
-pub resealed : (x : List ℕ) (t lo tail : ℕ) → lo + 6 + tail ≤ t → t ≤ length x → Reseals x t lo tail t (set x (t - tail - 1) (t - tail - lo))
+pub resealed : (x : List ℕ) (t lo tail : ℕ) → lo + cell-words + tail ≤ t → t ≤ length x → Reseals x t lo tail t (set x (t - tail - 1) (t - tail - lo))
 resealed x t lo tail h₁ h₂ = record { same = λ _. refl; room = λ _. refl; seal = λ _. re-sealed x t lo tail h₁ h₂ }
 
 -- the size doesn't fit a word
@@ -231,7 +231,7 @@ module _ (x : List ℕ) (t : ℕ) {y : List ℕ} {n lo own tail u : ℕ} {x₁ :
       record { is = λ h. absurd (omega arith); room = λ s h. absurd (omega (arith, p .room s (omega arith))) }
 
   -- the cell stands behind the sources
-  pub own-room : (own + tail ≤ t) × (t ≤ length x) → (lo ≤ own) × (n ≤ length y → 6 ≤ n) → u ≤ length x₁ → (lo + 6 + tail ≤ u) × (u ≤ length x₁)
+  pub own-room : (own + tail ≤ t) × (t ≤ length x) → (lo ≤ own) × (n ≤ length y → cell-words ≤ n) → u ≤ length x₁ → (lo + cell-words + tail ≤ u) × (u ≤ length x₁)
   own-room h (i, j) z = let r = replaced-up x h k₀ k f z in (omega (arith, j (omega arith)), z)
 
   pub own-done : u ≤ length x₁ → {r : ℕ} {x₂ : List ℕ} → length x₂ ≡ length x₁ → Reseals x₁ u lo tail r x₂ → ReplacesOwn x y n t lo own tail r x₂

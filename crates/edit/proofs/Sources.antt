@@ -12,7 +12,7 @@ use Rattle.sql.specs.Answer.{Answer, done, refused, _>>=_}
 use Rattle.sql.specs.Room.{each-source}
 use Rattle.cells.specs.Room.{Short}
 use Rattle.cells.specs.declared.Cell.{Cell}
-use Rattle.cells.specs.Cells.{words, sized, start-at, Sized}
+use Rattle.cells.specs.Cells.{cell-words, words, sized, start-at, Sized}
 use Rattle.words.specs.Words.{cell, over-own, over-cell, join-own, join-cell, node-words, source-words, source-count}
 use Rattle.words.specs.Place.{NodeHere}
 use Rattle.words.proofs.Nodes.{node-long, join-left, sources-sized}
@@ -26,7 +26,7 @@ use Rattle.edit.proofs.Edits.{total, holds-here, shares-next, left-done
 pub no-sources : {Kept : Node → Node → Type 0} → Inherited Kept → (schema : Schema) (F : ℕ → ℕ → Node → Answer Node) {x : List ℕ} {t lo tail g : ℕ} → SourceCount x lo (t - tail) g → g ≡ 0
     → Edit Kept (λ room. each-source room schema (F room)) x t lo tail t x
 no-sources {Kept} fit schema F {x} {t} {lo} {tail} c z room rest s pre post p k h =
-    by-leaf (λ p. Kept p p → Holds x t lo tail pre post p → Left (Kept p) x t pre post (each-source room schema (F room) rest p)) (λ l i w. left-done (leaf l) i w) p
+    by-leaf (λ p. Kept p p → Holds x t lo tail pre post p → Left (Kept p) x t pre post (each-source room schema (F room) rest p)) (λ og l i w. left-done (leaf og l) i w) p
     (sym (c p (holds-here h)) ∙ z) k h
 
 module _ {Kept : Node → Node → Type 0} {x : List ℕ} {t lo tail : ℕ} (d : Held Kept x t lo tail) where
@@ -38,37 +38,37 @@ module _ {Kept : Node → Node → Type 0} {x : List ℕ} {t lo tail : ℕ} (d :
   two-left {g} c y z = go (d .p) (c (d .p) (holds-here (d .holds)))
     where
       go : (p : Node) → g ≡ source-count p → g ≡ 2
-      go (leaf l) e = absurd (y e)
-      go (over o n) e = absurd (z e)
-      go (join outer j l r) e = e
+      go (leaf og l) e = absurd (y e)
+      go (over og o n) e = absurd (z e)
+      go (join og outer j l r) e = e
 
 -- ---- the words of a node behind its source, and their number
 
-behind : Over → Node → List ℕ
-behind o n = over-own o ++ words (cell (over-cell o)) (length (node-words n ++ over-own o) + 6)
+behind : ℕ → Over → Node → List ℕ
+behind og o n = over-own o ++ words (cell og (over-cell o)) (length (node-words n ++ over-own o) + cell-words)
 
-over-words : (o : Over) (n : Node) → node-words (over o n) ≡ node-words n ++ behind o n
+over-words : (og : ℕ) (o : Over) (n : Node) → node-words (over og o n) ≡ node-words n ++ behind og o n
 unfolding node-words behind
-over-words o n = append-assoc (node-words n) (over-own o) (words (cell (over-cell o)) (length (node-words n ++ over-own o) + 6))
+over-words og o n = append-assoc (node-words n) (over-own o) (words (cell og (over-cell o)) (length (node-words n ++ over-own o) + cell-words))
 
-behind-long : (o : Over) (n : Node) → length (behind o n) ≡ 6 * over-size o
+behind-long : (og : ℕ) (o : Over) (n : Node) → length (behind og o n) ≡ cell-words * over-size o
 unfolding behind
-behind-long o n = omega (arith, over-long o, length-append (over-own o) (words (cell (over-cell o)) (length (node-words n ++ over-own o) + 6)))
+behind-long og o n = omega (arith, over-long o, length-append (over-own o) (words (cell og (over-cell o)) (length (node-words n ++ over-own o) + cell-words)))
 
-module _ (outer : Bool) (j : Join) (l r : Node) where
+module _ (og : ℕ) (outer : Bool) (j : Join) (l r : Node) where
   join-end : List ℕ
-  join-end = join-own j ++ words (cell (join-cell outer j)) (length (node-words l ++ (node-words r ++ join-own j)) + 6)
+  join-end = join-own j ++ words (cell og (join-cell outer j)) (length (node-words l ++ (node-words r ++ join-own j)) + cell-words)
 
-  end-long : length join-end ≡ 6 * join-size j
+  end-long : length join-end ≡ cell-words * join-size j
   unfolding join-end
   end-long =
-      omega (arith, join-long j, length-append (join-own j) (words (cell (join-cell outer j)) (length (node-words l ++ (node-words r ++ join-own j)) + 6)))
+      omega (arith, join-long j, length-append (join-own j) (words (cell og (join-cell outer j)) (length (node-words l ++ (node-words r ++ join-own j)) + cell-words)))
 
-  join-words : node-words (join outer j l r) ≡ node-words l ++ (node-words r ++ join-end)
+  join-words : node-words (join og outer j l r) ≡ node-words l ++ (node-words r ++ join-end)
   unfolding node-words join-end
   join-words = simp append-assoc
 
-  back-long : length (node-words r ++ join-end) ≡ 6 * (node-size r + join-size j)
+  back-long : length (node-words r ++ join-end) ≡ cell-words * (node-size r + join-size j)
   back-long = omega (arith, length-append (node-words r) join-end, end-long, words-long r)
 
 -- the first source of a node whose words behind it are b
@@ -99,53 +99,53 @@ sealed-left {x₃ = x₃} c short k₃ z pre b post k n q e g w i j =
 
 module _ {Kept : Node → Node → Type 0} (fit : Inherited Kept) {x : List ℕ} {t lo tail g m : ℕ} (c : SourceCount x lo (t - tail) g) (one : g ≡ 1)
     (own : OwnStart x lo (t - tail) m) where
-  when-over : {pre post : List ℕ} (P : Node → Type 0) → ((o : Over) (n : Node) → Kept (over o n) (over o n) → Holds x t lo tail pre post (over o n) → P (over o n))
+  when-over : {pre post : List ℕ} (P : Node → Type 0) → ((og : ℕ) (o : Over) (n : Node) → Kept (over og o n) (over og o n) → Holds x t lo tail pre post (over og o n) → P (over og o n))
       → (p : Node) → Kept p p → Holds x t lo tail pre post p → P p
   when-over {pre} {post} P f p k h = by-over (λ p. Kept p p → Holds x t lo tail pre post p → P p) f p (sym (c p (holds-here h)) ∙ one) k h
 
-  module _ (o : Over) (n : Node) {pre post : List ℕ} (h : Holds x t lo tail pre post (over o n)) where
-    after-is : t - m ≡ length (behind o n) + tail
+  module _ (og : ℕ) (o : Over) (n : Node) {pre post : List ℕ} (h : Holds x t lo tail pre post (over og o n)) where
+    after-is : t - m ≡ length (behind og o n) + tail
     after-is =
-        omega (arith, own (over o n) (holds-here h), node-long (over o n) (holds-here h), total h, behind-long o n, over-long o)
+        omega (arith, own (over og o n) (holds-here h), node-long (over og o n) (holds-here h), total h, behind-long og o n, over-long o)
 
-    source-holds : Holds x t lo (t - m) pre (behind o n ++ post) n
-    source-holds = first h n (behind o n) (over-words o n) after-is
+    source-holds : Holds x t lo (t - m) pre (behind og o n ++ post) n
+    source-holds = first h n (behind og o n) (over-words og o n) after-is
 
     source-shares : {room rest : ℕ} → Shares x lo tail room rest → Shares x lo (t - m) room (rest + over-size o)
-    source-shares s = record { all = s .all; short = s .short; outside = omega (arith, after-is, behind-long o n, s .outside) }
+    source-shares s = record { all = s .all; short = s .short; outside = omega (arith, after-is, behind-long og o n, s .outside) }
 
   pub source-held : Held Kept x t lo tail → Held Kept x t lo (t - m)
   source-held d =
       when-over (λ p. Held Kept x t lo (t - m))
-      (λ o n k h. record {
+      (λ og o n k h. record {
         room = d .room;
         rest = d .rest + over-size o;
-        shares = source-shares o n h (d .shares);
+        shares = source-shares og o n h (d .shares);
         pre = d .pre;
-        post = behind o n ++ d .post;
+        post = behind og o n ++ d .post;
         p = n;
-        fit = fit .source o n k;
-        holds = source-holds o n h;
+        fit = fit .source og o n k;
+        holds = source-holds og o n h;
       })
       (d .p) (d .fit) (d .holds)
 
   module _ (schema : Schema) (F : ℕ → ℕ → Node → Answer Node) {u : ℕ} {x₁ : List ℕ} (a : Edit Kept F x t lo (t - m) u x₁) where
-    went : {room rest : ℕ} → Shares x lo tail room rest → (o : Over) (n : Node) {pre post : List ℕ} → Kept (over o n) (over o n) → Holds x t lo tail pre post (over o n)
-        → Left (Kept n) x₁ u pre (behind o n ++ post) (F room (rest + over-size o) n)
-    went {room} {rest} s o n {pre} {post} k h =
-        a room (rest + over-size o) (source-shares o n h s) pre (behind o n ++ post) n (fit .source o n k) (source-holds o n h)
+    went : {room rest : ℕ} → Shares x lo tail room rest → (og : ℕ) (o : Over) (n : Node) {pre post : List ℕ} → Kept (over og o n) (over og o n) → Holds x t lo tail pre post (over og o n)
+        → Left (Kept n) x₁ u pre (behind og o n ++ post) (F room (rest + over-size o) n)
+    went {room} {rest} s og o n {pre} {post} k h =
+        a room (rest + over-size o) (source-shares og o n h s) pre (behind og o n ++ post) n (fit .source og o n k) (source-holds og o n h)
 
     pub source-stop : length x₁ < u → Edit Kept (λ room. each-source room schema (F room)) x t lo tail u x₁
     source-stop z room rest s pre post p k h =
         when-over (λ p. Left (Kept p) x₁ u pre post (each-source room schema (F room) rest p))
-        (λ o n k h. left-stop (F room (rest + over-size o) n) (λ q. done (over o q)) (went s o n k h) z) p k h
+        (λ og o n k h. left-stop (F room (rest + over-size o) n) (λ q. done (over og o q)) (went s og o n k h) z) p k h
 
     -- the cell stands behind the source
-    pub source-room : u ≤ length x₁ → Held Kept x t lo tail → lo + 6 + tail ≤ u
+    pub source-room : u ≤ length x₁ → Held Kept x t lo tail → lo + cell-words + tail ≤ u
     source-room z d =
-        when-over (λ p. lo + 6 + tail ≤ u)
-        (λ o n k h. left-with (lo + 6 + tail ≤ u) (F (d .room) (d .rest + over-size o) n) (went (d .shares) o n k h) z
-        (λ q i w. omega (arith, length-take-le u x₁ z, ap length w, length-append (d .pre) (node-words q ++ (behind o n ++ d .post)), length-append (node-words q) (behind o n ++ d .post), length-append (behind o n) (d .post), behind-long o n, over-long o, h .low, h .high)))
+        when-over (λ p. lo + cell-words + tail ≤ u)
+        (λ og o n k h. left-with (lo + cell-words + tail ≤ u) (F (d .room) (d .rest + over-size o) n) (went (d .shares) og o n k h) z
+        (λ q i w. omega (arith, length-take-le u x₁ z, ap length w, length-append (d .pre) (node-words q ++ (behind og o n ++ d .post)), length-append (node-words q) (behind og o n ++ d .post), length-append (behind og o n) (d .post), behind-long og o n, over-long o, h .low, h .high)))
         (d .p) (d .fit) (d .holds)
 
     pub source-go : length x₁ ≡ length x → u ≤ length x₁ → {r : ℕ} {x₂ : List ℕ} → length x₂ ≡ length x₁ → Reseals x₁ u lo tail r x₂
@@ -153,99 +153,99 @@ module _ {Kept : Node → Node → Type 0} (fit : Inherited Kept) {x : List ℕ}
     unfolding node-words behind
     source-go k₁ z {r} {x₂} k₂ seal room rest s pre post p k h =
         when-over (λ p. Left (Kept p) x₂ r pre post (each-source room schema (F room) rest p))
-        (λ o n k h. left-go (F room (rest + over-size o) n) (λ q. done (over o q)) (went s o n k h) z
-        (λ q i w. sealed-left seal (omega (arith, s .short)) k₂ z pre (node-words q ++ over-own o) post (cell (over-cell o)) (length (node-words n ++ over-own o) + 6) (over o q) refl
-        (fit .with-source o n q k i) (w ∙ simp append-assoc) (h .low) (h .high)))
+        (λ og o n k h. left-go (F room (rest + over-size o) n) (λ q. done (over og o q)) (went s og o n k h) z
+        (λ q i w. sealed-left seal (omega (arith, s .short)) k₂ z pre (node-words q ++ over-own o) post (cell og (over-cell o)) (length (node-words n ++ over-own o) + cell-words) (over og o q) refl
+        (fit .with-source og o n q k i) (w ∙ simp append-assoc) (h .low) (h .high)))
         p k h
 
 -- what each-source does with the right source after the left one
-then-right : (ℕ → ℕ → Node → Answer Node) → ℕ → ℕ → Bool → Join → Node → Node → Answer Node
-then-right F room rest outer j r l = F room (rest + (node-size l + join-size j)) r >>= λ q. done (join outer j l q)
+then-right : (ℕ → ℕ → Node → Answer Node) → ℕ → ℕ → ℕ → Bool → Join → Node → Node → Answer Node
+then-right F room rest og outer j r l = F room (rest + (node-size l + join-size j)) r >>= λ q. done (join og outer j l q)
 
 -- ---- two sources, of which the left one ends at mid and the right one at m
 
 module _ {Kept : Node → Node → Type 0} (fit : Inherited Kept) {x : List ℕ} {t lo tail g m : ℕ} (c : SourceCount x lo (t - tail) g) (two : g ≡ 2)
     (own : OwnStart x lo (t - tail) m) where
   when-join : {pre post : List ℕ} (P : Node → Type 0)
-      → ((outer : Bool) (j : Join) (l r : Node) → Kept (join outer j l r) (join outer j l r) → Holds x t lo tail pre post (join outer j l r) → P (join outer j l r))
+      → ((og : ℕ) (outer : Bool) (j : Join) (l r : Node) → Kept (join og outer j l r) (join og outer j l r) → Holds x t lo tail pre post (join og outer j l r) → P (join og outer j l r))
       → (p : Node) → Kept p p → Holds x t lo tail pre post p → P p
   when-join {pre} {post} P f p k h = by-join (λ p. Kept p p → Holds x t lo tail pre post p → P p) f p (sym (c p (holds-here h)) ∙ two) k h
 
   pub right-sized : Held Kept x t lo tail → Sized x m
   right-sized d =
-      when-join (λ p. Sized x m) (λ outer j l r k h. sources-sized outer j l r (holds-here h) (own (join outer j l r) (holds-here h))) (d .p) (d .fit) (d .holds)
+      when-join (λ p. Sized x m) (λ og outer j l r k h. sources-sized og outer j l r (holds-here h) (own (join og outer j l r) (holds-here h))) (d .p) (d .fit) (d .holds)
 
   module _ {mid : ℕ} (st : mid ≡ start-at x m) where
-    module _ (outer : Bool) (j : Join) (l r : Node) {pre post : List ℕ} (h : Holds x t lo tail pre post (join outer j l r)) where
+    module _ (og : ℕ) (outer : Bool) (j : Join) (l r : Node) {pre post : List ℕ} (h : Holds x t lo tail pre post (join og outer j l r)) where
       mid-is : mid ≡ lo + length (node-words l)
-      mid-is = sym (join-left outer j l r (holds-here h) (own (join outer j l r) (holds-here h)) st .part .high)
+      mid-is = sym (join-left og outer j l r (holds-here h) (own (join og outer j l r) (holds-here h)) st .part .high)
 
-      end-is : t - m ≡ length (join-end outer j l r) + tail
+      end-is : t - m ≡ length (join-end og outer j l r) + tail
       end-is =
-          omega (arith, own (join outer j l r) (holds-here h), node-long (join outer j l r) (holds-here h), total h, end-long outer j l r, join-long j)
+          omega (arith, own (join og outer j l r) (holds-here h), node-long (join og outer j l r) (holds-here h), total h, end-long og outer j l r, join-long j)
 
-      back-is : t - mid ≡ length (node-words r ++ join-end outer j l r) + tail
+      back-is : t - mid ≡ length (node-words r ++ join-end og outer j l r) + tail
       back-is =
-          omega (arith, mid-is, own (join outer j l r) (holds-here h), end-is, total h, length-append (node-words l) (node-words r), length-append (node-words r) (join-end outer j l r), node-long (join outer j l r) (holds-here h))
+          omega (arith, mid-is, own (join og outer j l r) (holds-here h), end-is, total h, length-append (node-words l) (node-words r), length-append (node-words r) (join-end og outer j l r), node-long (join og outer j l r) (holds-here h))
 
-      left-holds : Holds x t lo (t - mid) pre ((node-words r ++ join-end outer j l r) ++ post) l
-      left-holds = first h l (node-words r ++ join-end outer j l r) (join-words outer j l r) back-is
+      left-holds : Holds x t lo (t - mid) pre ((node-words r ++ join-end og outer j l r) ++ post) l
+      left-holds = first h l (node-words r ++ join-end og outer j l r) (join-words og outer j l r) back-is
 
       left-shares : {room rest : ℕ} → Shares x lo tail room rest → Shares x lo (t - mid) room (rest + (node-size r + join-size j))
-      left-shares s = record { all = s .all; short = s .short; outside = omega (arith, back-is, back-long outer j l r, s .outside) }
+      left-shares s = record { all = s .all; short = s .short; outside = omega (arith, back-is, back-long og outer j l r, s .outside) }
 
     pub mid-below : Held Kept x t lo tail → mid ≤ t
-    mid-below d = when-join (λ p. mid ≤ t) (λ outer j l r k h. omega (arith, mid-is outer j l r h, total h, node-long (join outer j l r) (holds-here h), own (join outer j l r) (holds-here h), length-append (node-words l) (node-words r))) (d .p) (d .fit) (d .holds)
+    mid-below d = when-join (λ p. mid ≤ t) (λ og outer j l r k h. omega (arith, mid-is og outer j l r h, total h, node-long (join og outer j l r) (holds-here h), own (join og outer j l r) (holds-here h), length-append (node-words l) (node-words r))) (d .p) (d .fit) (d .holds)
 
     pub left-held : Held Kept x t lo tail → Held Kept x t lo (t - mid)
     left-held d =
         when-join (λ p. Held Kept x t lo (t - mid))
-        (λ outer j l r k h. record {
+        (λ og outer j l r k h. record {
           room = d .room;
           rest = d .rest + (node-size r + join-size j);
-          shares = left-shares outer j l r h (d .shares);
+          shares = left-shares og outer j l r h (d .shares);
           pre = d .pre;
-          post = (node-words r ++ join-end outer j l r) ++ d .post;
+          post = (node-words r ++ join-end og outer j l r) ++ d .post;
           p = l;
-          fit = fit .left outer j l r k;
-          holds = left-holds outer j l r h;
+          fit = fit .left og outer j l r k;
+          holds = left-holds og outer j l r h;
         })
         (d .p) (d .fit) (d .holds)
 
     module _ (schema : Schema) (F : ℕ → ℕ → Node → Answer Node) {u : ℕ} {x₁ : List ℕ} (a : Edit Kept F x t lo (t - mid) u x₁) where
-      went-left : {room rest : ℕ} → Shares x lo tail room rest → (outer : Bool) (j : Join) (l r : Node) {pre post : List ℕ} → Kept (join outer j l r) (join outer j l r)
-          → Holds x t lo tail pre post (join outer j l r)
-          → Left (Kept l) x₁ u pre ((node-words r ++ join-end outer j l r) ++ post) (F room (rest + (node-size r + join-size j)) l)
-      went-left {room} {rest} s outer j l r {pre} {post} k h =
-          a room (rest + (node-size r + join-size j)) (left-shares outer j l r h s) pre ((node-words r ++ join-end outer j l r) ++ post) l (fit .left outer j l r k)
-          (left-holds outer j l r h)
+      went-left : {room rest : ℕ} → Shares x lo tail room rest → (og : ℕ) (outer : Bool) (j : Join) (l r : Node) {pre post : List ℕ} → Kept (join og outer j l r) (join og outer j l r)
+          → Holds x t lo tail pre post (join og outer j l r)
+          → Left (Kept l) x₁ u pre ((node-words r ++ join-end og outer j l r) ++ post) (F room (rest + (node-size r + join-size j)) l)
+      went-left {room} {rest} s og outer j l r {pre} {post} k h =
+          a room (rest + (node-size r + join-size j)) (left-shares og outer j l r h s) pre ((node-words r ++ join-end og outer j l r) ++ post) l (fit .left og outer j l r k)
+          (left-holds og outer j l r h)
 
       pub left-stopped : length x₁ < u → Edit Kept (λ room. each-source room schema (F room)) x t lo tail u x₁
       unfolding then-right
       left-stopped z room rest s pre post p k h =
           when-join (λ p. Left (Kept p) x₁ u pre post (each-source room schema (F room) rest p))
-          (λ outer j l r k h. left-stop (F room (rest + (node-size r + join-size j)) l) (then-right F room rest outer j r) (went-left s outer j l r k h) z) p k h
+          (λ og outer j l r k h. left-stop (F room (rest + (node-size r + join-size j)) l) (then-right F room rest og outer j r) (went-left s og outer j l r k h) z) p k h
 
       module _ (k₁ : length x₁ ≡ length x) (z : u ≤ length x₁) where
         -- the right source, after the left one became q
-        module _ (outer : Bool) (j : Join) (l r : Node) {pre post : List ℕ} (h : Holds x t lo tail pre post (join outer j l r)) (q : Node)
-            (w : take u x₁ ≡ pre ++ (node-words q ++ ((node-words r ++ join-end outer j l r) ++ post))) where
+        module _ (og : ℕ) (outer : Bool) (j : Join) (l r : Node) {pre post : List ℕ} (h : Holds x t lo tail pre post (join og outer j l r)) (q : Node)
+            (w : take u x₁ ≡ pre ++ (node-words q ++ ((node-words r ++ join-end og outer j l r) ++ post))) where
           start-is : u - (t - mid) ≡ lo + length (node-words q)
           start-is =
-              let b = node-words r ++ join-end outer j l r in
-              omega (arith, length-take-le u x₁ z, ap length w, length-append pre (node-words q ++ (b ++ post)), length-append (node-words q) (b ++ post), length-append b post, back-is outer j l r h, h .low, h .high)
+              let b = node-words r ++ join-end og outer j l r in
+              omega (arith, length-take-le u x₁ z, ap length w, length-append pre (node-words q ++ (b ++ post)), length-append (node-words q) (b ++ post), length-append b post, back-is og outer j l r h, h .low, h .high)
 
           back-below : t - mid ≤ u
           back-below =
-              let b = node-words r ++ join-end outer j l r in
-              omega (arith, length-take-le u x₁ z, ap length w, length-append pre (node-words q ++ (b ++ post)), length-append (node-words q) (b ++ post), length-append b post, back-is outer j l r h, h .low, h .high)
+              let b = node-words r ++ join-end og outer j l r in
+              omega (arith, length-take-le u x₁ z, ap length w, length-append pre (node-words q ++ (b ++ post)), length-append (node-words q) (b ++ post), length-append b post, back-is og outer j l r h, h .low, h .high)
 
-          right-holds : Holds x₁ u (u - (t - mid)) (t - m) (pre ++ node-words q) (join-end outer j l r ++ post) r
+          right-holds : Holds x₁ u (u - (t - mid)) (t - m) (pre ++ node-words q) (join-end og outer j l r ++ post) r
           right-holds =
               record {
                 whole = w ∙ simp append-assoc;
                 low = omega (arith, start-is, length-append pre (node-words q), h .low);
-                high = omega (arith, end-is outer j l r h, length-append (join-end outer j l r) post, h .high);
+                high = omega (arith, end-is og outer j l r h, length-append (join-end og outer j l r) post, h .high);
                 inside = z;
               }
 
@@ -254,66 +254,66 @@ module _ {Kept : Node → Node → Type 0} (fit : Inherited Kept) {x : List ℕ}
               record {
                 all = k₁ ∙ s .all;
                 short = omega (arith, k₁, s .short);
-                outside = omega (arith, start-is, end-is outer j l r h, end-long outer j l r, words-long q, s .outside);
+                outside = omega (arith, start-is, end-is og outer j l r h, end-long og outer j l r, words-long q, s .outside);
               }
 
         -- what the left source became, where there is room
         after-left : (P : Type 0) (d : Held Kept x t lo tail)
-            → ((outer : Bool) (j : Join) (l r : Node) → Kept (join outer j l r) (join outer j l r) → Holds x t lo tail (d .pre) (d .post) (join outer j l r) → (q : Node) → Kept l q
-            → take u x₁ ≡ d .pre ++ (node-words q ++ ((node-words r ++ join-end outer j l r) ++ d .post)) → P) → P
+            → ((og : ℕ) (outer : Bool) (j : Join) (l r : Node) → Kept (join og outer j l r) (join og outer j l r) → Holds x t lo tail (d .pre) (d .post) (join og outer j l r) → (q : Node) → Kept l q
+            → take u x₁ ≡ d .pre ++ (node-words q ++ ((node-words r ++ join-end og outer j l r) ++ d .post)) → P) → P
         after-left P d f =
             when-join (λ p. P)
-            (λ outer j l r k h. left-with P (F (d .room) (d .rest + (node-size r + join-size j)) l) (went-left (d .shares) outer j l r k h) z (f outer j l r k h))
+            (λ og outer j l r k h. left-with P (F (d .room) (d .rest + (node-size r + join-size j)) l) (went-left (d .shares) og outer j l r k h) z (f og outer j l r k h))
             (d .p) (d .fit) (d .holds)
 
         pub back-fits : Held Kept x t lo tail → t - mid ≤ u
-        back-fits d = after-left (t - mid ≤ u) d (λ outer j l r k h q i w. back-below outer j l r h q w)
+        back-fits d = after-left (t - mid ≤ u) d (λ og outer j l r k h q i w. back-below og outer j l r h q w)
 
         pub right-held : Held Kept x t lo tail → Held Kept x₁ u (u - (t - mid)) (t - m)
         right-held d =
             after-left (Held Kept x₁ u (u - (t - mid)) (t - m)) d
-            (λ outer j l r k h q i w. record {
+            (λ og outer j l r k h q i w. record {
               room = d .room;
               rest = d .rest + (node-size q + join-size j);
-              shares = right-shares outer j l r h q w (d .shares);
+              shares = right-shares og outer j l r h q w (d .shares);
               pre = d .pre ++ node-words q;
-              post = join-end outer j l r ++ d .post;
+              post = join-end og outer j l r ++ d .post;
               p = r;
-              fit = fit .right outer j l r k;
-              holds = right-holds outer j l r h q w;
+              fit = fit .right og outer j l r k;
+              holds = right-holds og outer j l r h q w;
             })
 
         module _ {v : ℕ} {x₂ : List ℕ} (b : Edit Kept F x₁ u (u - (t - mid)) (t - m) v x₂) where
-          went-right : {room rest : ℕ} → Shares x lo tail room rest → (outer : Bool) (j : Join) (l r : Node) {pre post : List ℕ} → Kept (join outer j l r) (join outer j l r)
-              → Holds x t lo tail pre post (join outer j l r) → (q : Node)
-              → take u x₁ ≡ pre ++ (node-words q ++ ((node-words r ++ join-end outer j l r) ++ post))
-              → Left (Kept r) x₂ v (pre ++ node-words q) (join-end outer j l r ++ post) (F room (rest + (node-size q + join-size j)) r)
-          went-right {room} {rest} s outer j l r {pre} {post} k h q w =
-              b room (rest + (node-size q + join-size j)) (right-shares outer j l r h q w s) (pre ++ node-words q) (join-end outer j l r ++ post) r
-              (fit .right outer j l r k) (right-holds outer j l r h q w)
+          went-right : {room rest : ℕ} → Shares x lo tail room rest → (og : ℕ) (outer : Bool) (j : Join) (l r : Node) {pre post : List ℕ} → Kept (join og outer j l r) (join og outer j l r)
+              → Holds x t lo tail pre post (join og outer j l r) → (q : Node)
+              → take u x₁ ≡ pre ++ (node-words q ++ ((node-words r ++ join-end og outer j l r) ++ post))
+              → Left (Kept r) x₂ v (pre ++ node-words q) (join-end og outer j l r ++ post) (F room (rest + (node-size q + join-size j)) r)
+          went-right {room} {rest} s og outer j l r {pre} {post} k h q w =
+              b room (rest + (node-size q + join-size j)) (right-shares og outer j l r h q w s) (pre ++ node-words q) (join-end og outer j l r ++ post) r
+              (fit .right og outer j l r k) (right-holds og outer j l r h q w)
 
           pub right-stopped : length x₂ < v → Edit Kept (λ room. each-source room schema (F room)) x t lo tail v x₂
           unfolding then-right
           right-stopped y room rest s pre post p k h =
               when-join (λ p. Left (Kept p) x₂ v pre post (each-source room schema (F room) rest p))
-              (λ outer j l r k h. left-go (F room (rest + (node-size r + join-size j)) l) (then-right F room rest outer j r) (went-left s outer j l r k h) z
-              (λ q i w. left-stop (F room (rest + (node-size q + join-size j)) r) (λ n. done (join outer j q n)) (went-right s outer j l r k h q w) y))
+              (λ og outer j l r k h. left-go (F room (rest + (node-size r + join-size j)) l) (then-right F room rest og outer j r) (went-left s og outer j l r k h) z
+              (λ q i w. left-stop (F room (rest + (node-size q + join-size j)) r) (λ n. done (join og outer j q n)) (went-right s og outer j l r k h q w) y))
               p k h
 
           module _ (y : v ≤ length x₂) where
-            pub both-room : Held Kept x t lo tail → lo + 6 + tail ≤ v
+            pub both-room : Held Kept x t lo tail → lo + cell-words + tail ≤ v
             both-room d =
-                after-left (lo + 6 + tail ≤ v) d
-                (λ outer j l r k h q i w. left-with (lo + 6 + tail ≤ v) (F (d .room) (d .rest + (node-size q + join-size j)) r) (went-right (d .shares) outer j l r k h q w) y
-                (λ n i w. omega (arith, length-take-le v x₂ y, ap length w, length-append (d .pre ++ node-words q) (node-words n ++ (join-end outer j l r ++ d .post)), length-append (d .pre) (node-words q), length-append (node-words n) (join-end outer j l r ++ d .post), length-append (join-end outer j l r) (d .post), end-long outer j l r, join-long j, h .low, h .high)))
+                after-left (lo + cell-words + tail ≤ v) d
+                (λ og outer j l r k h q i w. left-with (lo + cell-words + tail ≤ v) (F (d .room) (d .rest + (node-size q + join-size j)) r) (went-right (d .shares) og outer j l r k h q w) y
+                (λ n i w. omega (arith, length-take-le v x₂ y, ap length w, length-append (d .pre ++ node-words q) (node-words n ++ (join-end og outer j l r ++ d .post)), length-append (d .pre) (node-words q), length-append (node-words n) (join-end og outer j l r ++ d .post), length-append (join-end og outer j l r) (d .post), end-long og outer j l r, join-long j, h .low, h .high)))
 
             pub both-go : length x₂ ≡ length x₁ → {e : ℕ} {x₃ : List ℕ} → length x₃ ≡ length x₂ → Reseals x₂ v lo tail e x₃
                 → Edit Kept (λ room. each-source room schema (F room)) x t lo tail e x₃
             unfolding node-words join-end then-right
             both-go k₂ {e} {x₃} k₃ seal room rest s pre post p k h =
                 when-join (λ p. Left (Kept p) x₃ e pre post (each-source room schema (F room) rest p))
-                (λ outer j l r k h. left-go (F room (rest + (node-size r + join-size j)) l) (then-right F room rest outer j r) (went-left s outer j l r k h) z
-                (λ q i w. left-go (F room (rest + (node-size q + join-size j)) r) (λ n. done (join outer j q n)) (went-right s outer j l r k h q w) y
-                (λ n i′ w′. sealed-left seal (omega (arith, s .short)) k₃ y pre (node-words q ++ (node-words n ++ join-own j)) post (cell (join-cell outer j)) (length (node-words l ++ (node-words r ++ join-own j)) + 6)
-                (join outer j q n) refl (fit .with-sources outer j l r q n k i i′) (w′ ∙ simp append-assoc) (h .low) (h .high))))
+                (λ og outer j l r k h. left-go (F room (rest + (node-size r + join-size j)) l) (then-right F room rest og outer j r) (went-left s og outer j l r k h) z
+                (λ q i w. left-go (F room (rest + (node-size q + join-size j)) r) (λ n. done (join og outer j q n)) (went-right s og outer j l r k h q w) y
+                (λ n i′ w′. sealed-left seal (omega (arith, s .short)) k₃ y pre (node-words q ++ (node-words n ++ join-own j)) post (cell og (join-cell outer j)) (length (node-words l ++ (node-words r ++ join-own j)) + cell-words)
+                (join og outer j q n) refl (fit .with-sources og outer j l r q n k i i′) (w′ ∙ simp append-assoc) (h .low) (h .high))))
                 p k h

@@ -1,5 +1,5 @@
 -- Edits in place. The whole plan stands in the first t words of x, and the node that is worked on from lo up to t − tail: lo words of the plan stand
--- before it, tail words behind it. What a rewrite makes of the node takes its place, and the words behind it move. x has six words for each cell that
+-- before it, tail words behind it. What a rewrite makes of the node takes its place, and the words behind it move. x has seven words for each cell that
 -- there is room for, so a plan has room if and only if it fits into x; a number of words past the end of x stands for refusal 14.
 use Prim.Native.Nat.{ℕ, _+_, _-_, _*_, _≤_, _<_}
 use mathlib.Core.Bool.{Bool}
@@ -65,12 +65,12 @@ Edit Kept f x t lo tail n x′ =
 pub record Inherited (Kept : Node → Node → Type 0) : Type 0 where
   pub end : (p q : Node) → Kept p q → Kept q q
   pub through : (p q r : Node) → Kept p q → Kept q r → Kept p r
-  pub source : (o : Over) (n : Node) → Kept (over o n) (over o n) → Kept n n
-  pub with-source : (o : Over) (n m : Node) → Kept (over o n) (over o n) → Kept n m → Kept (over o n) (over o m)
-  pub left : (outer : Bool) (j : Join) (l r : Node) → Kept (join outer j l r) (join outer j l r) → Kept l l
-  pub right : (outer : Bool) (j : Join) (l r : Node) → Kept (join outer j l r) (join outer j l r) → Kept r r
-  pub with-sources : (outer : Bool) (j : Join) (l r m n : Node) → Kept (join outer j l r) (join outer j l r) → Kept l m → Kept r n
-      → Kept (join outer j l r) (join outer j m n)
+  pub source : (og : ℕ) (o : Over) (n : Node) → Kept (over og o n) (over og o n) → Kept n n
+  pub with-source : (og : ℕ) (o : Over) (n m : Node) → Kept (over og o n) (over og o n) → Kept n m → Kept (over og o n) (over og o m)
+  pub left : (og : ℕ) (outer : Bool) (j : Join) (l r : Node) → Kept (join og outer j l r) (join og outer j l r) → Kept l l
+  pub right : (og : ℕ) (outer : Bool) (j : Join) (l r : Node) → Kept (join og outer j l r) (join og outer j l r) → Kept r r
+  pub with-sources : (og : ℕ) (outer : Bool) (j : Join) (l r m n : Node) → Kept (join og outer j l r) (join og outer j l r) → Kept l m → Kept r n
+      → Kept (join og outer j l r) (join og outer j m n)
 
 -- ---- contracts of the functions that all edits are made of
 

@@ -6,7 +6,7 @@ ghost use Rattle.sheet.specs.Bytes.{bytes};
 ghost use Rattle.sheet.specs.Write.{cell-bytes, cells-bytes};
 ghost use Rattle.layout.specs.Layout.{Whole};
 ghost use Rattle.cells.specs.Room.{most-words};
-ghost use Rattle.encode.specs.Encode.{written, as-cell, cells-in, trailer-of, CellsAt, PlanLong, Lengths, Encodable, Encodes};
+ghost use Rattle.encode.specs.Encode.{written, as-cell, cells-in, trailer-of, Small, CellsAt, PlanLong, Lengths, Encodable, Encodes};
 
 // The 4 bytes of a number.
 fn put_word(out: &mut [u8], at: usize, w: usize) -> usize
@@ -20,12 +20,16 @@ fn put_word(out: &mut [u8], at: usize, w: usize) -> usize
     at + 4
 }
 
-// The 16 bytes of a cell: tag, flag and two zeros are one number.
+// The 16 bytes of a cell: tag, flag and origin are one number.
 fn put_cell(out: &mut [u8], at: usize, k: cells::Cell) -> usize
-    requires { ⌜ (at + 16 ≤ length (now out)) × ((k .tag < 256) × (k .flag < 256)) ⌝ }
+    requires { ⌜ (at + 16 ≤ length (now out)) × Small (as-cell k) ⌝ }
     ensures { λ r. ⌜ (r ≡ at + 16) × (now (out .exit) ≡ written (now (out .entry)) at (cell-bytes (as-cell k))) ⌝ }
 {
-    let a = put_word(out, at, k.tag as usize + 256 * k.flag as usize);
+    let a = put_word(
+        out,
+        at,
+        k.tag as usize + 256 * k.flag as usize + 65536 * k.origin as usize,
+    );
     let b = put_word(out, a, k.a as usize);
     let c = put_word(out, b, k.b as usize);
     put_word(out, c, k.c as usize)
@@ -59,15 +63,15 @@ fn put_start(s: &[u8], n: usize, out: &mut [u8]) -> usize
     i
 }
 
-// The trailer of a sheet that ends with it.
-fn put_trailer(out: &mut [u8], at: usize, p: layout::Parts) -> usize
+// The trailer of a sheet of this edition that ends with it.
+fn put_trailer(out: &mut [u8], at: usize, p: layout::Parts, edition: usize) -> usize
     requires { ⌜ at + 20 ≤ length (now out) ⌝ }
-    ensures { λ r. ⌜ (r ≡ at + 20) × (now (out .exit) ≡ written (now (out .entry)) at (trailer-of p (at + 20))) ⌝ }
+    ensures { λ r. ⌜ (r ≡ at + 20) × (now (out .exit) ≡ written (now (out .entry)) at (trailer-of p edition (at + 20))) ⌝ }
 {
     let a = put_word(out, at, p.tables.at);
     let b = put_word(out, a, p.columns.at);
     let c = put_word(out, b, p.cells.at);
-    let d = put_word(out, c, 1);
+    let d = put_word(out, c, edition);
     put_word(out, d, d + 4)
 }
 
@@ -81,7 +85,7 @@ pub fn encoded_length(s: &[u8], n: usize) -> usize
     p.cells.at + 16 * (n / cells::CELL_WORDS) + 20
 }
 
-// The plan in the first n words of x, as a sheet with the text and the records of s. The bytes after it stay.
+// The plan in the first n words of x, as a sheet with the text, the records and the edition of s. The bytes after it stay.
 pub fn encode(s: &[u8], x: &[u32], n: usize, out: &mut [u8]) -> usize
     requires { ⌜ Encodable (now s) (now x) n (now out) ⌝ }
     ensures { λ r. ⌜ Encodes (now (s .entry)) (now (x .entry)) n (now (out .entry)) r (now (out .exit)) ⌝ }
@@ -89,5 +93,6 @@ pub fn encode(s: &[u8], x: &[u32], n: usize, out: &mut [u8]) -> usize
     let p = layout::parts_of(s);
     let first = put_start(s, p.cells.at, out);
     let last = put_cells(x, n, out, first);
-    put_trailer(out, last, p)
+    let edition = layout::word_at(s, s.len() - 8);
+    put_trailer(out, last, p, edition)
 }

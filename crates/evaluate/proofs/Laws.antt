@@ -45,19 +45,19 @@ value-said text t a b =
     (cond (eqb t 3) (datum (integer (integer-of-bits (wide a b))))
     (cond (eqb t 4) (datum (float (Ieee.toBits binary64 (Ieee.ofBits binary64 (wide a b))))) (datum (string a (bytes-at text a))))))
 
-pub value-same : (text : List ℕ) (v : Value) → Value-fits text (length text) v
-    → value-said text (cell (constant-cell v) .tag) (cell (constant-cell v) .a) (cell (constant-cell v) .b) ≡ v
+pub value-same : (text : List ℕ) (og : ℕ) (v : Value) → Value-fits text (length text) v
+    → value-said text (cell og (constant-cell v) .tag) (cell og (constant-cell v) .a) (cell og (constant-cell v) .b) ≡ v
 unfolding cell
-value-same text (truth False) f = refl
-value-same text (truth Unknown) f = refl
-value-same text (truth True) f = refl
-value-same text (datum (integer n)) f = ap (λ (i : ℤ). datum (integer i)) (ap integer-of-bits (wide-halves (integer-bits n)) ∙ integer-kept n f)
-value-same text (datum (float b)) f = ap (λ (n : ℕ). datum (float n)) (ap (λ (n : ℕ). Ieee.toBits binary64 (Ieee.ofBits binary64 n)) (wide-halves b) ∙ pattern-kept b (f .0) (f .1))
-value-same text (datum (string r s)) f = ap (λ (l : List ℕ). datum (string r l)) (sym (f .1))
+value-same text og (truth False) f = refl
+value-same text og (truth Unknown) f = refl
+value-same text og (truth True) f = refl
+value-same text og (datum (integer n)) f = ap (λ (i : ℤ). datum (integer i)) (ap integer-of-bits (wide-halves (integer-bits n)) ∙ integer-kept n f)
+value-same text og (datum (float b)) f = ap (λ (n : ℕ). datum (float n)) (ap (λ (n : ℕ). Ieee.toBits binary64 (Ieee.ofBits binary64 n)) (wide-halves b) ∙ pattern-kept b (f .0) (f .1))
+value-same text og (datum (string r s)) f = ap (λ (l : List ℕ). datum (string r l)) (sym (f .1))
 
-module _ {k : Cell} (text : List ℕ) (v : Value) (f : Value-fits text (length text) v) (e : k ≡ cell (constant-cell v)) where
+module _ {k : Cell} (text : List ℕ) (og : ℕ) (v : Value) (f : Value-fits text (length text) v) (e : k ≡ cell og (constant-cell v)) where
   pub said : value-said text (k .tag) (k .a) (k .b) ≡ v
-  said = rw e (value-same text v f)
+  said = rw e (value-same text og v f)
 
   -- by its tag
   pub said-at : (t : ℕ) → k .tag ≡ t → value-said text t (k .a) (k .b) ≡ v
@@ -70,44 +70,44 @@ module _ {k : Cell} (text : List ℕ) (v : Value) (f : Value-fits text (length t
 abbrev pub Halves : Cell → Type 0
 Halves k = (k .a < 4294967296) × (k .b < 4294967296)
 
-constant-halves : (text : List ℕ) → length text < 65536 → (v : Value) → Value-fits text (length text) v → Halves (cell (constant-cell v))
+constant-halves : (text : List ℕ) → length text < 65536 → (og : ℕ) (v : Value) → Value-fits text (length text) v → Halves (cell og (constant-cell v))
 unfolding cell
-constant-halves text h (truth False) f = (omega arith, omega arith)
-constant-halves text h (truth Unknown) f = (omega arith, omega arith)
-constant-halves text h (truth True) f = (omega arith, omega arith)
-constant-halves text h (datum (integer n)) f = (low-word (integer-bits n), high-word (integer-bits n) (bits-bound n f))
-constant-halves text h (datum (float b)) f = (low-word b, high-word b (f .0))
-constant-halves text h (datum (string r s)) f =
+constant-halves text h og (truth False) f = (omega arith, omega arith)
+constant-halves text h og (truth Unknown) f = (omega arith, omega arith)
+constant-halves text h og (truth True) f = (omega arith, omega arith)
+constant-halves text h og (datum (integer n)) f = (low-word (integer-bits n), high-word (integer-bits n) (bits-bound n f))
+constant-halves text h og (datum (float b)) f = (low-word b, high-word b (f .0))
+constant-halves text h og (datum (string r s)) f =
     (omega (arith, leb-true (r % 65536 + r / 65536) (length text) (f .0), mod-add-div r 65536, mod-lt r {m = 65536} (omega arith)), omega arith)
 
 pub halves : {k : Cell} → ConstantCell k → Halves k
-halves t = subst Halves (sym (t .is)) (constant-halves (t .text) (t .short) (t .v) (t .fits))
+halves t = subst Halves (sym (t .is)) (constant-halves (t .text) (t .short) (t .og) (t .v) (t .fits))
 
 -- ---- from a constant to its cell
 
-pub null-cell : of-halves 1 0 ≡ cell (constant-cell null)
+pub null-cell : (og : ℕ) → of-halves og 1 0 ≡ cell og (constant-cell null)
 unfolding cell
-null-cell = refl
+null-cell og = refl
 
-pub true-cell : of-halves 2 1 ≡ cell (constant-cell (boolean true))
+pub true-cell : (og : ℕ) → of-halves og 2 1 ≡ cell og (constant-cell (boolean true))
 unfolding cell
-true-cell = refl
+true-cell og = refl
 
-pub false-cell : of-halves 2 0 ≡ cell (constant-cell (boolean false))
+pub false-cell : (og : ℕ) → of-halves og 2 0 ≡ cell og (constant-cell (boolean false))
 unfolding cell
-false-cell = refl
+false-cell og = refl
 
-pub integer-cell : (i : ℤ) → of-halves 3 (integer-bits i) ≡ cell (constant-cell (datum (integer i)))
+pub integer-cell : (og : ℕ) (i : ℤ) → of-halves og 3 (integer-bits i) ≡ cell og (constant-cell (datum (integer i)))
 unfolding cell
-integer-cell i = refl
+integer-cell og i = refl
 
-pub float-cell : (b : ℕ) → of-halves 4 b ≡ cell (constant-cell (datum (float b)))
+pub float-cell : (og b : ℕ) → of-halves og 4 b ≡ cell og (constant-cell (datum (float b)))
 unfolding cell
-float-cell b = refl
+float-cell og b = refl
 
-pub string-cell : (r : ℕ) (s : List ℕ) → r < 4294967296 → of-halves 5 r ≡ cell (constant-cell (datum (string r s)))
+pub string-cell : (og r : ℕ) (s : List ℕ) → r < 4294967296 → of-halves og 5 r ≡ cell og (constant-cell (datum (string r s)))
 unfolding cell
-string-cell r s h = rw (mod-eq-of-lt h, div-eq-of-lt h)
+string-cell og r s h = rw (mod-eq-of-lt h, div-eq-of-lt h)
 
 -- ---- operators
 

@@ -13,21 +13,22 @@ use Rattle.sheet_laws.specs.Fits.{Value-fits}
 use Rattle.cells.specs.declared.Cell.{Cell}
 use Rattle.words.specs.Words.{cell}
 
--- the cell with a number of 64 bits
-abbrev pub of-halves : ℕ → ℕ → Cell
-of-halves tag bits = record { tag = tag; flag = 0; a = low bits; b = high bits; c = 0 }
+-- the cell with an origin and a number of 64 bits
+abbrev pub of-halves : (og tag bits : ℕ) → Cell
+of-halves og tag bits = record { origin = og; tag = tag; flag = 0; a = low bits; b = high bits; c = 0 }
 
 -- k is the cell of a constant that a sheet with some text may hold. A text has at most 8,192 bytes; less than 65,536 is what text references need.
 pub record ConstantCell (k : Cell) : Type 0 where
   pub text : List ℕ
   pub short : length text < 65536
+  pub og : ℕ
   pub v : Defined.Value
   pub fits : Value-fits text (length text) v
-  pub is : k ≡ cell (constant-cell v)
+  pub is : k ≡ cell og (constant-cell v)
 
 -- r is the constant whose cell k is, of those that a sheet with any text may hold.
 abbrev pub Reads : Cell → Value → Type 0
-Reads k r = (text : List ℕ) (v : Defined.Value) → Value-fits text (length text) v → k ≡ cell (constant-cell v) → meaning text r ≡ v
+Reads k r = (text : List ℕ) (og : ℕ) (v : Defined.Value) → Value-fits text (length text) v → k ≡ cell og (constant-cell v) → meaning text r ≡ v
 
 -- o is the tag of an operator with one operand, with two.
 pub record UnaryTag (o : ℕ) : Type 0 where

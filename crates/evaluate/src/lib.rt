@@ -26,21 +26,21 @@ pub fn value_of(k: Cell) -> Value
     }
 }
 
-// The cell of a constant with this value.
-pub fn cell_of(v: Value) -> Cell
-    ensures { λ r. ⌜ ((text : List ℕ) → r ≡ cell (constant-cell (meaning text v))) ⌝ }
+// The cell of a constant with this value and origin.
+pub fn cell_of(v: Value, origin: u32) -> Cell
+    ensures { λ r. ⌜ ((text : List ℕ) → r ≡ cell origin (constant-cell (meaning text v))) ⌝ }
 {
     match v {
-        Value::Null => constant(1, 0),
+        Value::Null => constant(1, 0, origin),
         Value::Boolean(b) => {
             if b {
-                return constant(2, 1);
+                return constant(2, 1, origin);
             }
-            constant(2, 0)
+            constant(2, 0, origin)
         }
-        Value::Integer(i) => constant(3, value::integer_bits(i)),
-        Value::Float(x) => constant(4, value::float_bits(x)),
-        Value::String(r) => constant(5, r as u64),
+        Value::Integer(i) => constant(3, value::integer_bits(i), origin),
+        Value::Float(x) => constant(4, value::float_bits(x), origin),
+        Value::String(r) => constant(5, r as u64, origin),
     }
 }
 
@@ -52,11 +52,12 @@ fn joined(low: u32, high: u32) -> u64
     low as u64 + 4294967296 * (high as u64)
 }
 
-// The cell with this tag and the halves of a number of 64 bits.
-fn constant(tag: u32, bits: u64) -> Cell
-    ensures { λ r. ⌜ r ≡ of-halves tag bits ⌝ }
+// The cell with this tag, the halves of a number of 64 bits, and this origin.
+fn constant(tag: u32, bits: u64, origin: u32) -> Cell
+    ensures { λ r. ⌜ r ≡ of-halves origin tag bits ⌝ }
 {
     Cell {
+        origin,
         tag,
         flag: 0,
         a: (bits % 4294967296) as u32,

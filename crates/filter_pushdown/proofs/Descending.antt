@@ -6,6 +6,7 @@ use mathlib.Core.List.{List, [], _∷_}
 use lib.ListN.{length}
 use borrow.Author.Tests.{le-leb}
 use Rattle.sql.specs.Schema.{Schema}
+use Rattle.sql.specs.Expression.{Marked}
 use Rattle.sql.specs.Plan.{Other, other, Node, over, over-size, node-size}
 use Rattle.sql.specs.Answer.{Answer, done, refused, _>>=_}
 use Rattle.sql.specs.Room.{if-room, maybe-push-join, maybe-push-filter, each-source, push-filters-from}
@@ -23,15 +24,15 @@ bind-done (done q) = refl
 bind-done (refused number place) = refl
 
 module _ (room : ℕ) (schema : Schema) where
-  other-rule : (n rest : ℕ) (o : Other) (p : Node) → rest + node-size (over (other o) p) ≤ room
-      → push-filters-from room schema (suc n) rest (over (other o) p)
-      ≡ push-filters-from room schema n (rest + over-size (other o)) p >>= (λ q. done (over (other o) q))
+  other-rule : (n rest og : ℕ) (o : Other) (p : Node) → rest + node-size (over og (other o) p) ≤ room
+      → push-filters-from room schema (suc n) rest (over og (other o) p)
+      ≡ push-filters-from room schema n (rest + over-size (other o)) p >>= (λ q. done (over og (other o) q))
   unfolding push-filters-from maybe-push-filter maybe-push-join Optimizer.maybe-push-join
-  other-rule n rest o p h =
-      ap (λ b. if-room b (over (other o) p) >>= each-source room schema (push-filters-from room schema n) rest)
-      (le-leb (rest + node-size (over (other o) p)) room h)
+  other-rule n rest og o p h =
+      ap (λ b. if-room b (over og (other o) p) >>= each-source room schema (push-filters-from room schema n) rest)
+      (le-leb (rest + node-size (over og (other o) p)) room h)
 
-  from-chain : (n left rest : ℕ) (os : List Other) (p : Node) → n ≡ left + length os → rest + node-size (chain os p) ≤ room
+  from-chain : (n left rest : ℕ) (os : List (Marked Other)) (p : Node) → n ≡ left + length os → rest + node-size (chain os p) ≤ room
       → push-filters-from room schema n rest (chain os p) ≡ push-filters-from room schema left (rest + sizes os) p >>= (λ q. done (chain os q))
   from-chain n left rest [] p e h =
       let i : n ≡ left = omega arith in
@@ -39,13 +40,13 @@ module _ (room : ℕ) (schema : Schema) where
       ap (λ (m : ℕ). push-filters-from room schema m rest p) i
       ∙ ap (λ (m : ℕ). push-filters-from room schema left m p) j
       ∙ bind-done (push-filters-from room schema left (rest + 0) p)
-  from-chain n left rest (o ∷ os) p e h =
+  from-chain n left rest ((o, og) ∷ os) p e h =
       let i : n ≡ suc left + length os = omega arith in
       let j : rest + sizes os + over-size (other o) ≡ rest + (sizes os + over-size (other o)) = omega arith in
-      from-chain n (suc left) rest os (over (other o) p) i h
-      ∙ ap (λ (a : Answer Node). a >>= (λ q. done (chain os q))) (other-rule left (rest + sizes os) o p (omega (arith, chain-size os (over (other o) p))))
-      ∙ bind-assoc (push-filters-from room schema left (rest + sizes os + over-size (other o)) p) (λ q. done (over (other o) q)) (λ q. done (chain os q))
-      ∙ ap (λ (m : ℕ). push-filters-from room schema left m p >>= (λ q. done (chain os (over (other o) q)))) j
+      from-chain n (suc left) rest os (over og (other o) p) i h
+      ∙ ap (λ (a : Answer Node). a >>= (λ q. done (chain os q))) (other-rule left (rest + sizes os) og o p (omega (arith, chain-size os (over og (other o) p))))
+      ∙ bind-assoc (push-filters-from room schema left (rest + sizes os + over-size (other o)) p) (λ q. done (over og (other o) q)) (λ q. done (chain os q))
+      ∙ ap (λ (m : ℕ). push-filters-from room schema left m p >>= (λ q. done (chain os (over og (other o) q)))) j
 
 abbrev From : ℕ → Schema → ℕ → ℕ → Node → Answer Node
 From n schema room = push-filters-from room schema n

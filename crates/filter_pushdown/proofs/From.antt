@@ -5,6 +5,7 @@ use mathlib.Core.Path.{_≡_, refl, ap}
 use mathlib.Core.List.{List}
 use lib.ListN.{length}
 use borrow.Author.Tests.{le-leb}
+use Rattle.cells.specs.Cells.{cell-words}
 use Rattle.sql.specs.Schema.{Schema}
 use Rattle.sql.specs.Plan.{Leaf, Node, leaf, over, join, node-size}
 use Rattle.sql.specs.Answer.{Answer, done, _>>=_}
@@ -46,30 +47,30 @@ module _ (n : ℕ) (i : n ≡ 0 → ⊥) {widths x : List ℕ} {t lo tail u : �
   from-again z e b = as-from (passes-go (λ room schema. push-filters room schema n) (sources-from (n - 1)) a z e b)
 
 -- ---- a node of one cell has no source and nothing to push, so it stays as it is
-leaf-same : (room : ℕ) (schema : Schema) (n rest : ℕ) (l : Leaf) → rest + node-size (leaf l) ≤ room
-    → push-filters-from room schema n rest (leaf l) ≡ done (leaf l)
+leaf-same : (room : ℕ) (schema : Schema) (n rest og : ℕ) (l : Leaf) → rest + node-size (leaf og l) ≤ room
+    → push-filters-from room schema n rest (leaf og l) ≡ done (leaf og l)
 unfolding push-filters-from maybe-push-filter maybe-push-join Optimizer.maybe-push-join
-leaf-same room schema zero rest l h = refl
-leaf-same room schema (suc n) rest l h =
-    ap (λ b. if-room b (leaf l) >>= each-source room schema (push-filters-from room schema n) rest) (le-leb (rest + node-size (leaf l)) room h)
+leaf-same room schema zero rest og l h = refl
+leaf-same room schema (suc n) rest og l h =
+    ap (λ b. if-room b (leaf og l) >>= each-source room schema (push-filters-from room schema n) rest) (le-leb (rest + node-size (leaf og l)) room h)
 
 one-same : (room : ℕ) (schema : Schema) (n rest : ℕ) (p : Node) → node-size p ≡ 1 → rest + node-size p ≤ room → push-filters-from room schema n rest p ≡ done p
-one-same room schema n rest (leaf l) e h = leaf-same room schema n rest l h
-one-same room schema n rest (over o source) e h = absurd (omega (arith, nodes-cells (over o source), nodes-positive source))
-one-same room schema n rest (join outer j left right) e h = absurd (omega (arith, nodes-cells (join outer j left right), nodes-positive left))
+one-same room schema n rest (leaf og l) e h = leaf-same room schema n rest og l h
+one-same room schema n rest (over og o source) e h = absurd (omega (arith, nodes-cells (over og o source), nodes-positive source))
+one-same room schema n rest (join og outer j left right) e h = absurd (omega (arith, nodes-cells (join og outer j left right), nodes-positive left))
 
-pub cell-same : {widths x : List ℕ} {t lo tail : ℕ} (n : ℕ) → t - tail - lo ≡ 6 → Passes (λ room schema. push-filters-from room schema n) widths x t lo tail t x
+pub cell-same : {widths x : List ℕ} {t lo tail : ℕ} (n : ℕ) → t - tail - lo ≡ cell-words → Passes (λ room schema. push-filters-from room schema n) widths x t lo tail t x
 cell-same n e schema text tables given =
     edit-same (kept schema text tables) (λ room. push-filters-from room schema n)
     (λ room rest pre post p s k h. one-same room schema n rest p (omega (arith, total h, words-long p)) (omega (arith, total-cells s h, s .all, h .inside)))
 
--- ---- the whole plan: t / 6 is the number of its cells
-pub whole-plan : {widths x : List ℕ} {t r : ℕ} {x′ : List ℕ} → Passes (λ room schema. push-filters-from room schema (t / 6)) widths x t 0 0 r x′
+-- ---- the whole plan: t / 7 is the number of its cells
+pub whole-plan : {widths x : List ℕ} {t r : ℕ} {x′ : List ℕ} → Passes (λ room schema. push-filters-from room schema (t / cell-words)) widths x t 0 0 r x′
     → Passes FilterPushdown widths x t 0 0 r x′
 unfolding FilterPushdown
 whole-plan {x = x} {t = t} =
-    passes-as (λ room schema. push-filters-from room schema (t / 6)) FilterPushdown
+    passes-as (λ room schema. push-filters-from room schema (t / cell-words)) FilterPushdown
     (λ room schema rest pre post p s h. ap (λ (m : ℕ). push-filters-from room schema m rest p) (cells s h))
   where
-    cells : {room rest : ℕ} {pre post : List ℕ} {p : Node} → Shares x 0 0 room rest → Holds x t 0 0 pre post p → t / 6 ≡ node-size p
+    cells : {room rest : ℕ} {pre post : List ℕ} {p : Node} → Shares x 0 0 room rest → Holds x t 0 0 pre post p → t / cell-words ≡ node-size p
     cells s h = omega (arith, total-cells s h, s .outside)

@@ -7,7 +7,7 @@ use Rattle.sql.specs.Schema.{Schema}
 use Rattle.sql.specs.Plan.{Node}
 use Rattle.sql.specs.Answer.{Answer}
 use Rattle.sql.specs.Room.{each-source, push-filters-from}
-use Rattle.cells.specs.Cells.{start-at, Sized}
+use Rattle.cells.specs.Cells.{cell-words, start-at, Sized}
 use Rattle.nodes.specs.Own.{OwnStart, SourceCount}
 use Rattle.edit.specs.Edit.{Reseals}
 use Rattle.edit.proofs.Sources
@@ -39,7 +39,7 @@ module _ {widths x : List ℕ} {t lo tail count : ℕ} (n : ℕ) (c : SourceCoun
         pub source-full : length x₁ < u → EachSource n widths x t lo tail u x₁
         source-full z schema text tables given = Sources.source-stop (kept schema text tables) c one own schema (From n schema) (a schema text tables given) z
 
-        pub source-fits : u ≤ length x₁ → PassAt widths x t lo tail → lo + 6 + tail ≤ u
+        pub source-fits : u ≤ length x₁ → PassAt widths x t lo tail → lo + cell-words + tail ≤ u
         source-fits z g =
             Sources.source-room (kept (g .schema) (g .text) (g .tables)) c one own (g .schema) (From n (g .schema)) (a (g .schema) (g .text) (g .tables) (g .given)) z (g .held)
 
@@ -82,7 +82,7 @@ module _ {widths x : List ℕ} {t lo tail count : ℕ} (n : ℕ) (c : SourceCoun
               right-full j schema text tables given =
                   Sources.right-stopped (kept schema text tables) c (two g) own st schema (From n schema) (a schema text tables given) e i (b schema text tables given) j
 
-              pub both-fit : v ≤ length x₂ → lo + 6 + tail ≤ v
+              pub both-fit : v ≤ length x₂ → lo + cell-words + tail ≤ v
               both-fit j =
                   Sources.both-room (kept (g .schema) (g .text) (g .tables)) c (two g) own st (g .schema) (From n (g .schema)) (a (g .schema) (g .text) (g .tables) (g .given)) e i
                   (b (g .schema) (g .text) (g .tables) (g .given)) j (g .held)

@@ -103,7 +103,7 @@ fn push_filters_from(
     chain::reseal(x, v, lo, v - back, tail)
 }
 
-// The whole plan, which has t / 6 cells, and no more nodes than cells.
+// The whole plan, which has t / 7 cells, and no more nodes than cells.
 pub fn filter_pushdown(
     x: &mut [u32],
     y: &mut [u32],

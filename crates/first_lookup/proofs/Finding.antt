@@ -9,7 +9,7 @@ use lib.ListN.{getD}
 use Rattle.sql.specs.Schema.{Schema}
 use Rattle.sql.specs.Expression.{Expression, ands, is-column-lookup}
 use Rattle.sql.specs.Optimizer.{Found, with-index, found-here, find-lookup}
-use Rattle.cells.specs.Cells.{tag-at, start-at}
+use Rattle.cells.specs.Cells.{cell-words, tag-at, start-at}
 use Rattle.words.specs.Words.{root}
 use Rattle.words.specs.Place.{ExpressionHere}
 use Rattle.words.proofs.Expressions.{tag, by-binary, root-tag, here-in, here-left, here-right}
@@ -77,13 +77,13 @@ later s lo hi mid None xs ys none none h k = k
 later s lo hi mid None xs ys none (some g) h k = k
 
 module _ (marks : List Bool) {s : List ℕ} {lo hi : ℕ} where
-  module _ {mid : ℕ} (st : mid ≡ start-at s (hi - 6)) (h : tag-at s hi ≡ 10) where
+  module _ {mid : ℕ} (st : mid ≡ start-at s (hi - cell-words)) (h : tag-at s hi ≡ 10) where
     in-two : (q : FoundLookup)
-        → ((l r : Expression) → ExpressionHere s lo mid l → ExpressionHere s mid (hi - 6) r → Stands s lo hi q (after (ands l) (ands r) (first-marked marks (ands l)) (first-marked marks (ands r))))
+        → ((l r : Expression) → ExpressionHere s lo mid l → ExpressionHere s mid (hi - cell-words) r → Stands s lo hi q (after (ands l) (ands r) (first-marked marks (ands l)) (first-marked marks (ands r))))
         → FindsFirst marks s lo hi q
     in-two q f e u = by-binary (λ e. ExpressionHere s lo hi e → tag (root e) ≡ 10 → Stands s lo hi q (first-marked marks (ands e)))
-        (λ o l r t z. subst (λ (p : Option Found). Stands s lo hi q p) (sym (ap (first-marked marks) (ands-and o l r z) ∙ first-append marks (ands l) (ands r)))
-        (f l r (here-left st o l r t) (here-right st o l r t)))
+        (λ og o l r t z. subst (λ (p : Option Found). Stands s lo hi q p) (sym (ap (first-marked marks) (ands-and og o l r z) ∙ first-append marks (ands l) (ands r)))
+        (f l r (here-left st og o l r t) (here-right st og o l r t)))
         e (omega (arith, root-tag e u)) (omega (arith, root-tag e u)) u (sym (root-tag e u) ∙ h)
 
     pub first-earlier : {r : FoundLookup} {a b c : ℕ} → r ≡ At a b c → FindsFirst marks s lo mid r → FindsFirst marks s lo hi (At a b c)
@@ -92,7 +92,7 @@ module _ (marks : List Bool) {s : List ℕ} {lo hi : ℕ} where
         (wider s lo hi (omega arith) (omega (arith, here-in y v)) (At a b c) (first-marked marks (ands x))
         (subst (λ (p : FoundLookup). Stands s lo mid p (first-marked marks (ands x))) q (f x u))))
 
-    pub first-later : {r : FoundLookup} (q : FoundLookup) → r ≡ None → FindsFirst marks s lo mid r → FindsFirst marks s mid (hi - 6) q → FindsFirst marks s lo hi q
+    pub first-later : {r : FoundLookup} (q : FoundLookup) → r ≡ None → FindsFirst marks s lo mid r → FindsFirst marks s mid (hi - cell-words) q → FindsFirst marks s lo hi q
     first-later q z f g = in-two q (λ x y u v.
         later s lo hi mid q (ands x) (ands y) (first-marked marks (ands x)) (first-marked marks (ands y))
         (subst (λ (p : FoundLookup). Stands s lo mid p (first-marked marks (ands x))) z (f x u))

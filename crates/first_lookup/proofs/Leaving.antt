@@ -8,7 +8,7 @@ use mathlib.Core.List.{List, [], _∷_, _++_}
 use lib.ListN.{length, getD}
 use Rattle.sql.specs.Expression.{Expression, ands, is-column-lookup, shift-column-down}
 use Rattle.sql.specs.Optimizer.{Found, cons-if}
-use Rattle.cells.specs.Cells.{tag-at, start-at}
+use Rattle.cells.specs.Cells.{cell-words, tag-at, start-at}
 use Rattle.words.specs.Words.{root}
 use Rattle.words.specs.Place.{ExpressionHere, ExpressionAt}
 use Rattle.words.proofs.Expressions.{tag, by-binary, root-tag, here-left, here-right}
@@ -78,44 +78,44 @@ module _ (marks : List Bool) where
 
 -- ---- of two operands, and of one conjunct
 
-module _ (marks : List Bool) (met : Bool) {s : List ℕ} {lo hi : ℕ} {d : List ℕ} {from at : ℕ} where
-  pub leaves-and : {mid : ℕ} → mid ≡ start-at s (hi - 6) → tag-at s hi ≡ 10 → {p r : Rest} {d₁ d₂ : List ℕ} → length d₁ ≡ length d
-      → Leaves marks met s lo mid d from at p d₁ → Leaves marks (p .met) s mid (hi - 6) d₁ from (p .at) r d₂ → Leaves marks met s lo hi d from at r d₂
-  leaves-and st h {p} {r} {d₁} {d₂} k f g e u = by-binary (λ e. ExpressionHere s lo hi e → tag (root e) ≡ 10 → Left d from at (remaining marks met (ands e)) (meets marks met (ands e)) r d₂)
-      (λ o x y t z.
-      let a = f x (here-left st o x y t) in
-      let b = subst (λ (i : Bool). Left d₁ from (p .at) (remaining marks i (ands y)) (meets marks i (ands y)) r d₂) (a .meeting) (g y (here-right st o x y t)) in
-      subst (λ (xs : List Expression). Left d from at (remaining marks met xs) (meets marks met xs) r d₂) (sym (ands-and o x y z))
+module _ (new : ℕ) (marks : List Bool) (met : Bool) {s : List ℕ} {lo hi : ℕ} {d : List ℕ} {from at : ℕ} where
+  pub leaves-and : {mid : ℕ} → mid ≡ start-at s (hi - cell-words) → tag-at s hi ≡ 10 → {p r : Rest} {d₁ d₂ : List ℕ} → length d₁ ≡ length d
+      → Leaves new marks met s lo mid d from at p d₁ → Leaves new marks (p .met) s mid (hi - cell-words) d₁ from (p .at) r d₂ → Leaves new marks met s lo hi d from at r d₂
+  leaves-and st h {p} {r} {d₁} {d₂} k f g e u = by-binary (λ e. ExpressionHere s lo hi e → tag (root e) ≡ 10 → Left new d from at (remaining marks met (ands e)) (meets marks met (ands e)) r d₂)
+      (λ og o x y t z.
+      let a = f x (here-left st og o x y t) in
+      let b = subst (λ (i : Bool). Left new d₁ from (p .at) (remaining marks i (ands y)) (meets marks i (ands y)) r d₂) (a .meeting) (g y (here-right st og o x y t)) in
+      subst (λ (xs : List Expression). Left new d from at (remaining marks met xs) (meets marks met xs) r d₂) (sym (ands-and og o x y z))
       (record {
-        appends = subst (λ (l : List Expression). Appends d from at l (r .at) d₂) (sym (remaining-append marks met (ands x) (ands y)))
-            (appends-then k (remaining marks met (ands x)) (remaining marks (meets marks met (ands x)) (ands y)) (a .appends) (b .appends));
+        appends = subst (λ (l : List Expression). Appends new d from at l (r .at) d₂) (sym (remaining-append marks met (ands x) (ands y)))
+            (appends-then k new (remaining marks met (ands x)) (remaining marks (meets marks met (ands x)) (ands y)) (a .appends) (b .appends));
         meeting = b .meeting ∙ sym (meets-append marks met (ands x) (ands y));
       }))
       e (omega (arith, root-tag e u)) (omega (arith, root-tag e u)) u (sym (root-tag e u) ∙ h)
 
-  pub leaves-one : (tag-at s hi ≡ 10 → ⊥) → {r : Rest} {d′ : List ℕ} → LeavesOne marks met s lo hi d from at r d′ → Leaves marks met s lo hi d from at r d′
-  leaves-one h {r} {d′} f e u = subst (λ (xs : List Expression). Left d from at (remaining marks met xs) (meets marks met xs) r d′)
+  pub leaves-one : (tag-at s hi ≡ 10 → ⊥) → {r : Rest} {d′ : List ℕ} → LeavesOne new marks met s lo hi d from at r d′ → Leaves new marks met s lo hi d from at r d′
+  leaves-one h {r} {d′} f e u = subst (λ (xs : List Expression). Left new d from at (remaining marks met xs) (meets marks met xs) r d′)
       (sym (ands-one e (λ z. h (root-tag e u ∙ z)))) (f e u)
 
-  appended : {m : ℕ} {d′ : List ℕ} → AppendsEach (λ e. shift-column-down 0 e ∷ []) s lo hi d from at m d′ → (e : Expression) → ExpressionHere s lo hi e → Appends d from at (e ∷ []) m d′
-  appended {m} {d′} w e u = subst (λ (x : Expression). Appends d from at (x ∷ []) m d′) (shift-none e) (w e u)
+  appended : {m : ℕ} {d′ : List ℕ} → AppendsEach new (λ e. shift-column-down 0 e ∷ []) s lo hi d from at m d′ → (e : Expression) → ExpressionHere s lo hi e → Appends new d from at (e ∷ []) m d′
+  appended {m} {d′} w e u = subst (λ (x : Expression). Appends new d from at (x ∷ []) m d′) (shift-none e) (w e u)
 
-  pub met-before : met ≡ true → {m : ℕ} {d′ : List ℕ} → AppendsEach (λ e. shift-column-down 0 e ∷ []) s lo hi d from at m d′
-      → LeavesOne marks met s lo hi d from at (record { at = m; met = true }) d′
-  met-before z {m} {d′} w e u = subst (λ (i : Bool). Left d from at (remaining marks i (e ∷ [])) (meets marks i (e ∷ [])) (record { at = m; met = true }) d′) (sym z)
+  pub met-before : met ≡ true → {m : ℕ} {d′ : List ℕ} → AppendsEach new (λ e. shift-column-down 0 e ∷ []) s lo hi d from at m d′
+      → LeavesOne new marks met s lo hi d from at (record { at = m; met = true }) d′
+  met-before z {m} {d′} w e u = subst (λ (i : Bool). Left new d from at (remaining marks i (e ∷ [])) (meets marks i (e ∷ [])) (record { at = m; met = true }) d′) (sym z)
       (record { appends = appended w e u; meeting = refl })
 
   module _ (z : met ≡ false) {r : FoundLookup} (f : FindsOne marks s lo hi r) where
     by-mark-of : {t : Bool} {m : ℕ} {d′ : List ℕ} → ((e : Expression) → ExpressionHere s lo hi e → is-marked marks (is-column-lookup e) ≡ t)
-        → ((e : Expression) → ExpressionHere s lo hi e → Appends d from at (cons-if (not t) e []) m d′) → LeavesOne marks met s lo hi d from at (record { at = m; met = t }) d′
-    by-mark-of {t} {m} {d′} g w e u = subst (λ (i : Bool). Left d from at (remaining marks i (e ∷ [])) (meets marks i (e ∷ [])) (record { at = m; met = t }) d′) (sym z)
+        → ((e : Expression) → ExpressionHere s lo hi e → Appends new d from at (cons-if (not t) e []) m d′) → LeavesOne new marks met s lo hi d from at (record { at = m; met = t }) d′
+    by-mark-of {t} {m} {d′} g w e u = subst (λ (i : Bool). Left new d from at (remaining marks i (e ∷ [])) (meets marks i (e ∷ [])) (record { at = m; met = t }) d′) (sym z)
         (record {
-          appends = subst (λ (i : Bool). Appends d from at (cons-if (not i) e []) m d′) (sym (g e u)) (w e u);
+          appends = subst (λ (i : Bool). Appends new d from at (cons-if (not i) e []) m d′) (sym (g e u)) (w e u);
           meeting = sym (g e u);
         })
 
-    pub met-here : {a b c : ℕ} → r ≡ At a b c → LeavesOne marks met s lo hi d from at (record { at = at; met = true }) d
-    met-here {a} {b} {c} q = by-mark-of (λ e u. marked (is-column-lookup e) (sym (f e u) ∙ q)) (λ e u. appends-none)
+    pub met-here : {a b c : ℕ} → r ≡ At a b c → LeavesOne new marks met s lo hi d from at (record { at = at; met = true }) d
+    met-here {a} {b} {c} q = by-mark-of (λ e u. marked (is-column-lookup e) (sym (f e u) ∙ q)) (λ e u. appends-none new)
       where
         test : (i : ℕ) (t : Bool) → cond t (At lo hi i) None ≡ At a b c → t ≡ true
         test i true k = refl
@@ -125,8 +125,8 @@ module _ (marks : List Bool) (met : Bool) {s : List ℕ} {lo hi : ℕ} {d : List
         marked none k = no-place k
         marked (some i) k = test i (getD marks i false) k
 
-    pub not-met : r ≡ None → {m : ℕ} {d′ : List ℕ} → AppendsEach (λ e. shift-column-down 0 e ∷ []) s lo hi d from at m d′
-        → LeavesOne marks met s lo hi d from at (record { at = m; met = false }) d′
+    pub not-met : r ≡ None → {m : ℕ} {d′ : List ℕ} → AppendsEach new (λ e. shift-column-down 0 e ∷ []) s lo hi d from at m d′
+        → LeavesOne new marks met s lo hi d from at (record { at = m; met = false }) d′
     not-met q w = by-mark-of (λ e u. unmarked (is-column-lookup e) (sym (f e u) ∙ q)) (appended w)
       where
         test : (i : ℕ) (t : Bool) → cond t (At lo hi i) None ≡ None → t ≡ false
@@ -138,6 +138,6 @@ module _ (marks : List Bool) (met : Bool) {s : List ℕ} {lo hi : ℕ} {d : List
         unmarked (some i) k = test i (getD marks i false) k
 
 -- What the call for the left operand left, as the call for the right one asks for it.
-pub left-gathered : (marks : List Bool) (met : Bool) {s : List ℕ} {lo hi : ℕ} {d : List ℕ} {from at : ℕ} {r : Rest} {d₁ : List ℕ} → GatheredAt d from at → length d₁ ≡ length d
-    → ExpressionAt s lo hi → Leaves marks met s lo hi d from at r d₁ → GatheredAt d₁ from (r .at)
-left-gathered marks met g k t f = gathered-more g k (remaining marks met (ands (t .e))) (f (t .e) (t .here) .appends)
+pub left-gathered : (new : ℕ) (marks : List Bool) (met : Bool) {s : List ℕ} {lo hi : ℕ} {d : List ℕ} {from at : ℕ} {r : Rest} {d₁ : List ℕ} → GatheredAt d from at → length d₁ ≡ length d
+    → ExpressionAt s lo hi → Leaves new marks met s lo hi d from at r d₁ → GatheredAt d₁ from (r .at)
+left-gathered new marks met g k t f = gathered-more g k new (remaining marks met (ands (t .e))) (f (t .e) (t .here) .appends)

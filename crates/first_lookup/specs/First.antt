@@ -74,14 +74,14 @@ abbrev pub meets : List Bool → Bool → List Expression → Bool
 meets marks met [] = met
 meets marks met (e ∷ es) = meets marks (met || is-marked marks (is-column-lookup e)) es
 
--- what the functions leave in d, behind the conjuncts that stood there from word `from` up to `at`
-pub record Left (d : List ℕ) (from at : ℕ) (xs : List Expression) (met : Bool) (r : Rest) (d′ : List ℕ) : Type 0 where
-  pub appends : Appends d from at xs (r .at) d′
+-- what the functions leave in d, behind the conjuncts that stood there from word `from` up to `at`; the Ands have the origin `new`
+pub record Left (new : ℕ) (d : List ℕ) (from at : ℕ) (xs : List Expression) (met : Bool) (r : Rest) (d′ : List ℕ) : Type 0 where
+  pub appends : Appends new d from at xs (r .at) d′
   pub meeting : r .met ≡ met
 
-abbrev pub LeavesOne : List Bool → Bool → List ℕ → ℕ → ℕ → List ℕ → ℕ → ℕ → Rest → List ℕ → Type 0
-LeavesOne marks met s lo hi d from at r d′ =
-    (e : Expression) → ExpressionHere s lo hi e → Left d from at (remaining marks met (e ∷ [])) (meets marks met (e ∷ [])) r d′
+abbrev pub LeavesOne : ℕ → List Bool → Bool → List ℕ → ℕ → ℕ → List ℕ → ℕ → ℕ → Rest → List ℕ → Type 0
+LeavesOne new marks met s lo hi d from at r d′ =
+    (e : Expression) → ExpressionHere s lo hi e → Left new d from at (remaining marks met (e ∷ [])) (meets marks met (e ∷ [])) r d′
 
-abbrev pub Leaves : List Bool → Bool → List ℕ → ℕ → ℕ → List ℕ → ℕ → ℕ → Rest → List ℕ → Type 0
-Leaves marks met s lo hi d from at r d′ = (e : Expression) → ExpressionHere s lo hi e → Left d from at (remaining marks met (ands e)) (meets marks met (ands e)) r d′
+abbrev pub Leaves : ℕ → List Bool → Bool → List ℕ → ℕ → ℕ → List ℕ → ℕ → ℕ → Rest → List ℕ → Type 0
+Leaves new marks met s lo hi d from at r d′ = (e : Expression) → ExpressionHere s lo hi e → Left new d from at (remaining marks met (ands e)) (meets marks met (ands e)) r d′

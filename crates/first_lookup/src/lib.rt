@@ -65,7 +65,8 @@ pub fn find_lookup(s: &[u32], lo: usize, hi: usize, key: usize, columns: &[u8]) 
     find_one(s, lo, hi, key, columns)
 }
 
-// The conjunct from lo to hi, unless it is the first that looks up a marked column, as one more conjunct in d (crate conjuncts).
+// The conjunct from lo to hi, unless it is the first that looks up a marked column, as one more conjunct in d (crate conjuncts). The
+// Ands over the conjuncts have the origin that the caller gives.
 fn remaining_one(
     s: &[u32],
     lo: usize,
@@ -76,20 +77,21 @@ fn remaining_one(
     key: usize,
     columns: &[u8],
     met: bool,
+    origin: u32,
 ) -> Rest
     requires { ⌜ ExpressionAt (now s) lo hi ⌝ }
     requires { ⌜ GatheredAt (now d) from at ⌝ }
-    ensures { λ r. ⌜ LeavesOne (marks-in key (now (columns .entry))) met (now (s .entry)) lo hi (now (d .entry)) from at r (now (d .exit)) ⌝ }
+    ensures { λ r. ⌜ LeavesOne origin (marks-in key (now (columns .entry))) met (now (s .entry)) lo hi (now (d .entry)) from at r (now (d .exit)) ⌝ }
 {
     if met {
-        let m = conjuncts::append(s, lo, hi, d, from, at, 0);
+        let m = conjuncts::append(s, lo, hi, d, from, at, 0, origin);
         return Rest { at: m, met: true };
     }
     let here = find_one(s, lo, hi, key, columns);
     let FoundLookup::None = here else {
         return Rest { at, met: true };
     };
-    let m = conjuncts::append(s, lo, hi, d, from, at, 0);
+    let m = conjuncts::append(s, lo, hi, d, from, at, 0, origin);
     Rest { at: m, met: false }
 }
 
@@ -104,16 +106,17 @@ pub fn remaining(
     key: usize,
     columns: &[u8],
     met: bool,
+    origin: u32,
 ) -> Rest
     requires { ⌜ ExpressionAt (now s) lo hi ⌝ }
     requires { ⌜ GatheredAt (now d) from at ⌝ }
-    ensures { λ r. ⌜ Leaves (marks-in key (now (columns .entry))) met (now (s .entry)) lo hi (now (d .entry)) from at r (now (d .exit)) ⌝ }
+    ensures { λ r. ⌜ Leaves origin (marks-in key (now (columns .entry))) met (now (s .entry)) lo hi (now (d .entry)) from at r (now (d .exit)) ⌝ }
 {
     if cells::tag_at(s, hi) == tags::AND {
         let end = hi - cells::CELL_WORDS;
         let mid = cells::start(s, end);
-        let l = remaining(s, lo, mid, d, from, at, key, columns, met);
-        return remaining(s, mid, end, d, from, l.at, key, columns, l.met);
+        let l = remaining(s, lo, mid, d, from, at, key, columns, met, origin);
+        return remaining(s, mid, end, d, from, l.at, key, columns, l.met, origin);
     }
-    remaining_one(s, lo, hi, d, from, at, key, columns, met)
+    remaining_one(s, lo, hi, d, from, at, key, columns, met, origin)
 }

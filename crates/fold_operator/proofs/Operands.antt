@@ -6,10 +6,10 @@ use mathlib.Core.Path.{_≡_, refl, sym, ap, _∙_}
 use mathlib.Core.Bool.{Bool, true, false, _&&_, _||_}
 use lib.Dec.{eqb}
 use Rattle.value.specs.Value.{Truth, False, Unknown, True, Datum, integer, float, string, Value, truth, datum}
-use Rattle.sql.specs.Expression.{Logical, And, Or, Unary, Binary, logical, Equal, function, Expression, constant, column, unary, binary, contains-column}
+use Rattle.sql.specs.Expression.{origin, Logical, And, Or, Unary, Binary, logical, Equal, function, Expression, constant, column, unary, binary, contains-column}
 use Rattle.sql.specs.Answer.{done, refused}
 use Rattle.sql.specs.Optimizer.{Operand, deciding, neutral, undetermined, operand, decided, simplify-logical, simplify, fold-by, fold}
-use Rattle.sheet.specs.Content.{binary-tag}
+use Rattle.sheet.specs.Content.{binary-tag, constant-cell}
 use Rattle.cells.specs.declared.Cell.{Cell}
 use Rattle.words.specs.Words.{cell, root}
 use Rattle.words.proofs.Expressions.{tag, unary-range, binary-range, by-and, by-or}
@@ -21,37 +21,37 @@ clash h = absurd (let z : _≡_ {A = ℕ} 0 1 = cc in omega arith)
 -- ---- by the cell
 
 -- a test that is true of one Boolean at most, whose number is b
-module _ (f : Expression → Bool) (b : ℕ) (on-false : eqb 0 b ≡ f (constant (truth False))) (on-true : eqb 1 b ≡ f (constant (truth True)))
-    (on-null : f (constant (truth Unknown)) ≡ false) (on-datum : (g : Datum) → f (constant (datum g)) ≡ false) (on-column : (i : ℕ) → f (column i) ≡ false)
-    (on-unary : (o : Unary) (x : Expression) → f (unary o x) ≡ false) (on-binary : (o : Binary) (l r : Expression) → f (binary o l r) ≡ false) where
-  boolean-test : (e : Expression) → boolean-cell (cell (root e)) b ≡ f e
+module _ (f : Expression → Bool) (b : ℕ) (on-false : (og : ℕ) → eqb 0 b ≡ f (constant og (truth False))) (on-true : (og : ℕ) → eqb 1 b ≡ f (constant og (truth True)))
+    (on-null : (og : ℕ) → f (constant og (truth Unknown)) ≡ false) (on-datum : (og : ℕ) (g : Datum) → f (constant og (datum g)) ≡ false) (on-column : (og i : ℕ) → f (column og i) ≡ false)
+    (on-unary : (og : ℕ) (o : Unary) (x : Expression) → f (unary og o x) ≡ false) (on-binary : (og : ℕ) (o : Binary) (l r : Expression) → f (binary og o l r) ≡ false) where
+  boolean-test : (e : Expression) → boolean-cell (cell (origin e) (root e)) b ≡ f e
   unfolding cell
-  boolean-test (constant (truth False)) = on-false
-  boolean-test (constant (truth Unknown)) = sym on-null
-  boolean-test (constant (truth True)) = on-true
-  boolean-test (constant (datum (integer n))) = sym (on-datum (integer n))
-  boolean-test (constant (datum (float n))) = sym (on-datum (float n))
-  boolean-test (constant (datum (string r s))) = sym (on-datum (string r s))
-  boolean-test (column i) = sym (on-column i)
-  boolean-test (unary o x) = ap (λ (t : Bool). t && eqb 0 b) (ne-eqb (tag (root (unary o x))) 2 (λ z. omega (arith, unary-range o))) ∙ sym (on-unary o x)
-  boolean-test (binary o l r) = ap (λ (t : Bool). t && eqb 0 b) (ne-eqb (tag (root (binary o l r))) 2 (λ z. omega (arith, binary-range o .0))) ∙ sym (on-binary o l r)
+  boolean-test (constant og (truth False)) = on-false og
+  boolean-test (constant og (truth Unknown)) = sym (on-null og)
+  boolean-test (constant og (truth True)) = on-true og
+  boolean-test (constant og (datum (integer n))) = sym (on-datum og (integer n))
+  boolean-test (constant og (datum (float n))) = sym (on-datum og (float n))
+  boolean-test (constant og (datum (string r s))) = sym (on-datum og (string r s))
+  boolean-test (column og i) = sym (on-column og i)
+  boolean-test (unary og o x) = ap (λ (t : Bool). t && eqb 0 b) (ne-eqb (tag (root (unary og o x))) 2 (λ z. omega (arith, unary-range o))) ∙ sym (on-unary og o x)
+  boolean-test (binary og o l r) = ap (λ (t : Bool). t && eqb 0 b) (ne-eqb (tag (root (binary og o l r))) 2 (λ z. omega (arith, binary-range o .0))) ∙ sym (on-binary og o l r)
 
-module _ (e : Expression) {k : Cell} (q : k ≡ cell (root e)) where
+module _ (e : Expression) {k : Cell} (q : k ≡ cell (origin e) (root e)) where
   pub and-deciding : (p : Binary) → binary-tag p ≡ 10 → boolean-cell k 0 ≡ is-deciding (operand-of p e)
   and-deciding = by-and (λ p. boolean-cell k 0 ≡ is-deciding (operand-of p e))
-      (rw q (boolean-test (λ x. is-deciding (operand And x)) 0 refl refl refl (λ g. refl) (λ i. refl) (λ o x. refl) (λ o l r. refl) e))
+      (rw q (boolean-test (λ x. is-deciding (operand And x)) 0 (λ og. refl) (λ og. refl) (λ og. refl) (λ og g. refl) (λ og i. refl) (λ og o x. refl) (λ og o l r. refl) e))
 
   pub or-deciding : (p : Binary) → binary-tag p ≡ 11 → boolean-cell k 1 ≡ is-deciding (operand-of p e)
   or-deciding = by-or (λ p. boolean-cell k 1 ≡ is-deciding (operand-of p e))
-      (rw q (boolean-test (λ x. is-deciding (operand Or x)) 1 refl refl refl (λ g. refl) (λ i. refl) (λ o x. refl) (λ o l r. refl) e))
+      (rw q (boolean-test (λ x. is-deciding (operand Or x)) 1 (λ og. refl) (λ og. refl) (λ og. refl) (λ og g. refl) (λ og i. refl) (λ og o x. refl) (λ og o l r. refl) e))
 
   pub and-neutral : (p : Binary) → binary-tag p ≡ 10 → boolean-cell k 1 ≡ is-neutral (operand-of p e)
   and-neutral = by-and (λ p. boolean-cell k 1 ≡ is-neutral (operand-of p e))
-      (rw q (boolean-test (λ x. is-neutral (operand And x)) 1 refl refl refl (λ g. refl) (λ i. refl) (λ o x. refl) (λ o l r. refl) e))
+      (rw q (boolean-test (λ x. is-neutral (operand And x)) 1 (λ og. refl) (λ og. refl) (λ og. refl) (λ og g. refl) (λ og i. refl) (λ og o x. refl) (λ og o l r. refl) e))
 
   pub or-neutral : (p : Binary) → binary-tag p ≡ 11 → boolean-cell k 0 ≡ is-neutral (operand-of p e)
   or-neutral = by-or (λ p. boolean-cell k 0 ≡ is-neutral (operand-of p e))
-      (rw q (boolean-test (λ x. is-neutral (operand Or x)) 0 refl refl refl (λ g. refl) (λ i. refl) (λ o x. refl) (λ o l r. refl) e))
+      (rw q (boolean-test (λ x. is-neutral (operand Or x)) 0 (λ og. refl) (λ og. refl) (λ og. refl) (λ og g. refl) (λ og i. refl) (λ og o x. refl) (λ og o l r. refl) e))
 
 pub not-logical : (p : Binary) (e : Expression) → (binary-tag p ≡ 10 → ⊥) → (binary-tag p ≡ 11 → ⊥) → operand-of p e ≡ undetermined
 not-logical (logical And) e g h = absurd (g refl)
@@ -61,131 +61,144 @@ not-logical (function f) e g h = refl
 
 -- ---- simplify
 
--- An operand that decides is the constant that the operator becomes.
-decider : (o : Logical) (e : Expression) → is-deciding (operand o e) ≡ true → e ≡ constant (truth (decided o))
-decider And (constant (truth False)) h = refl
-decider And (constant (truth Unknown)) h = clash h
-decider And (constant (truth True)) h = clash h
-decider Or (constant (truth False)) h = clash h
-decider Or (constant (truth Unknown)) h = clash h
-decider Or (constant (truth True)) h = refl
-decider o (constant (datum g)) h = clash h
-decider o (column c) h = clash h
-decider o (unary p x) h = clash h
-decider o (binary p l r) h = clash h
+-- what And or Or becomes where an operand decides
+abbrev pub decision : Binary → Truth
+decision (logical o) = decided o
+decision Equal = Unknown
+decision (function f) = Unknown
 
-module _ (o : Logical) (x y : Expression) where
-  by-left : (a b : Operand) → is-deciding a ≡ true → x ≡ constant (truth (decided o)) → simplify-logical o a b x y ≡ x
-  by-left deciding b h e = sym e
-  by-left neutral b h e = clash h
-  by-left undetermined b h e = clash h
+-- An operand that decides is the constant that the operator becomes, with an origin of its own.
+decider : (o : Logical) (e : Expression) → is-deciding (operand o e) ≡ true → root e ≡ constant-cell (truth (decided o))
+decider And (constant og (truth False)) h = refl
+decider And (constant og (truth Unknown)) h = clash h
+decider And (constant og (truth True)) h = clash h
+decider Or (constant og (truth False)) h = clash h
+decider Or (constant og (truth Unknown)) h = clash h
+decider Or (constant og (truth True)) h = refl
+decider o (constant og (datum g)) h = clash h
+decider o (column og c) h = clash h
+decider o (unary og p x) h = clash h
+decider o (binary og p l r) h = clash h
 
-  by-right : (a b : Operand) → is-deciding a ≡ false → is-neutral a ≡ false → is-deciding b ≡ true → y ≡ constant (truth (decided o)) → simplify-logical o a b x y ≡ y
-  by-right deciding b g k h e = clash (sym g)
-  by-right neutral b g k h e = clash (sym k)
-  by-right undetermined deciding g k h e = sym e
-  by-right undetermined neutral g k h e = clash h
-  by-right undetermined undetermined g k h e = clash h
+pub deciding-root : (p : Binary) (e : Expression) → is-deciding (operand-of p e) ≡ true → root e ≡ constant-cell (truth (decision p))
+deciding-root (logical o) e h = decider o e h
+deciding-root Equal e h = clash h
+deciding-root (function f) e h = clash h
 
-  without-right : (a b : Operand) → is-deciding a ≡ false → is-neutral a ≡ false → is-neutral b ≡ true → simplify-logical o a b x y ≡ x
+-- What has a Column doesn't decide.
+undecided : (o : Logical) (e : Expression) → contains-column (λ c. true) e ≡ true → is-deciding (operand o e) ≡ false
+undecided o (constant og v) h = clash h
+undecided o (column og c) h = refl
+undecided o (unary og p x) h = refl
+undecided o (binary og p l r) h = refl
+
+module _ (og : ℕ) (o : Logical) (x y : Expression) where
+  by-left : (a b : Operand) → is-deciding a ≡ true → simplify-logical og o a b x y ≡ constant og (truth (decided o))
+  by-left deciding b h = refl
+  by-left neutral b h = clash h
+  by-left undetermined b h = clash h
+
+  by-right : (a b : Operand) → is-deciding a ≡ false → is-neutral a ≡ false → is-deciding b ≡ true → simplify-logical og o a b x y ≡ constant og (truth (decided o))
+  by-right deciding b g k h = clash (sym g)
+  by-right neutral b g k h = clash (sym k)
+  by-right undetermined deciding g k h = refl
+  by-right undetermined neutral g k h = clash h
+  by-right undetermined undetermined g k h = clash h
+
+  without-right : (a b : Operand) → is-deciding a ≡ false → is-neutral a ≡ false → is-neutral b ≡ true → simplify-logical og o a b x y ≡ x
   without-right deciding b g k h = clash (sym g)
   without-right neutral b g k h = clash (sym k)
   without-right undetermined deciding g k h = clash h
   without-right undetermined neutral g k h = refl
   without-right undetermined undetermined g k h = clash h
 
-  by-neither : (a b : Operand) → is-deciding a ≡ false → is-neutral a ≡ false → is-deciding b ≡ false → is-neutral b ≡ false → simplify-logical o a b x y ≡ binary (logical o) x y
+  by-neither : (a b : Operand) → is-deciding a ≡ false → is-neutral a ≡ false → is-deciding b ≡ false → is-neutral b ≡ false → simplify-logical og o a b x y ≡ binary og (logical o) x y
   by-neither deciding b g k h i = clash (sym g)
   by-neither neutral b g k h i = clash (sym k)
   by-neither undetermined deciding g k h i = clash (sym h)
   by-neither undetermined neutral g k h i = clash (sym i)
   by-neither undetermined undetermined g k h i = refl
 
-  -- a neutral left operand leaves the right one, also where that is a constant
-  without-left : (a b : Operand) → is-neutral a ≡ true → (is-deciding b ≡ true → y ≡ constant (truth (decided o))) → simplify-logical o a b x y ≡ y
-  without-left deciding b h e = clash h
-  without-left neutral deciding h e = sym (e refl)
-  without-left neutral neutral h e = refl
-  without-left neutral undetermined h e = refl
-  without-left undetermined b h e = clash h
+  -- a neutral left operand leaves the right one, if that doesn't decide
+  without-left : (a b : Operand) → is-neutral a ≡ true → is-deciding b ≡ false → simplify-logical og o a b x y ≡ y
+  without-left deciding b h k = clash h
+  without-left neutral deciding h k = clash (sym k)
+  without-left neutral neutral h k = refl
+  without-left neutral undetermined h k = refl
+  without-left undetermined b h k = clash h
 
-pub left-decides : (p : Binary) (x y : Expression) → is-deciding (operand-of p x) ≡ true → simplify (binary p x y) ≡ x
-left-decides (logical o) x y h = by-left o x y (operand o x) (operand o y) h (decider o x h)
-left-decides Equal x y h = clash h
-left-decides (function f) x y h = clash h
+module _ (og : ℕ) where
+  pub left-decides : (p : Binary) (x y : Expression) → is-deciding (operand-of p x) ≡ true → simplify (binary og p x y) ≡ constant og (truth (decision p))
+  left-decides (logical o) x y h = by-left og o x y (operand o x) (operand o y) h
+  left-decides Equal x y h = clash h
+  left-decides (function f) x y h = clash h
 
-pub right-decides : (p : Binary) (x y : Expression) → is-deciding (operand-of p x) ≡ false → is-neutral (operand-of p x) ≡ false → is-deciding (operand-of p y) ≡ true
-    → simplify (binary p x y) ≡ y
-right-decides (logical o) x y g k h = by-right o x y (operand o x) (operand o y) g k h (decider o y h)
-right-decides Equal x y g k h = clash h
-right-decides (function f) x y g k h = clash h
+  pub right-decides : (p : Binary) (x y : Expression) → is-deciding (operand-of p x) ≡ false → is-neutral (operand-of p x) ≡ false → is-deciding (operand-of p y) ≡ true
+      → simplify (binary og p x y) ≡ constant og (truth (decision p))
+  right-decides (logical o) x y g k h = by-right og o x y (operand o x) (operand o y) g k h
+  right-decides Equal x y g k h = clash h
+  right-decides (function f) x y g k h = clash h
 
-pub right-is-neutral : (p : Binary) (x y : Expression) → is-deciding (operand-of p x) ≡ false → is-neutral (operand-of p x) ≡ false → is-neutral (operand-of p y) ≡ true
-    → simplify (binary p x y) ≡ x
-right-is-neutral (logical o) x y g k h = without-right o x y (operand o x) (operand o y) g k h
-right-is-neutral Equal x y g k h = clash h
-right-is-neutral (function f) x y g k h = clash h
+  pub right-is-neutral : (p : Binary) (x y : Expression) → is-deciding (operand-of p x) ≡ false → is-neutral (operand-of p x) ≡ false → is-neutral (operand-of p y) ≡ true
+      → simplify (binary og p x y) ≡ x
+  right-is-neutral (logical o) x y g k h = without-right og o x y (operand o x) (operand o y) g k h
+  right-is-neutral Equal x y g k h = clash h
+  right-is-neutral (function f) x y g k h = clash h
 
-pub neither : (p : Binary) (x y : Expression) → is-deciding (operand-of p x) ≡ false → is-neutral (operand-of p x) ≡ false → is-deciding (operand-of p y) ≡ false
-    → is-neutral (operand-of p y) ≡ false → simplify (binary p x y) ≡ binary p x y
-neither (logical o) x y g k h i = by-neither o x y (operand o x) (operand o y) g k h i
-neither Equal x y g k h i = refl
-neither (function f) x y g k h i = refl
-
--- An operand that decides is a constant.
-pub by-deciding : (P : Expression → Type 0) → ((v : Value) → P (constant v)) → (p : Binary) (e : Expression) → is-deciding (operand-of p e) ≡ true → P e
-by-deciding P f (logical o) (constant v) h = f v
-by-deciding P f (logical o) (column c) h = clash h
-by-deciding P f (logical o) (unary q x) h = clash h
-by-deciding P f (logical o) (binary q l r) h = clash h
-by-deciding P f Equal e h = clash h
-by-deciding P f (function g) e h = clash h
+  pub neither : (p : Binary) (x y : Expression) → is-deciding (operand-of p x) ≡ false → is-neutral (operand-of p x) ≡ false → is-deciding (operand-of p y) ≡ false
+      → is-neutral (operand-of p y) ≡ false → simplify (binary og p x y) ≡ binary og p x y
+  neither (logical o) x y g k h i = by-neither og o x y (operand o x) (operand o y) g k h i
+  neither Equal x y g k h i = refl
+  neither (function f) x y g k h i = refl
 
 -- ---- a neutral left operand
 
-pub neutral-simplified : (p : Binary) (x y : Expression) → is-neutral (operand-of p x) ≡ true → simplify (binary p x y) ≡ y
-neutral-simplified (logical o) x y h = without-left o x y (operand o x) (operand o y) h (decider o y)
-neutral-simplified Equal x y h = clash h
-neutral-simplified (function f) x y h = clash h
+pub neutral-simplified : (og : ℕ) (p : Binary) (x y : Expression) → is-neutral (operand-of p x) ≡ true → contains-column (λ c. true) y ≡ true → simplify (binary og p x y) ≡ y
+neutral-simplified og (logical o) x y h k = without-left og o x y (operand o x) (operand o y) h (undecided o y k)
+neutral-simplified og Equal x y h k = clash h
+neutral-simplified og (function f) x y h k = clash h
 
-module _ (P : Binary → Expression → Type 0) (on-and : P (logical And) (constant (truth True))) (on-or : P (logical Or) (constant (truth False))) where
+module _ (P : Binary → Expression → Type 0) (on-and : (og : ℕ) → P (logical And) (constant og (truth True))) (on-or : (og : ℕ) → P (logical Or) (constant og (truth False))) where
   pub by-neutral : (p : Binary) (x : Expression) → is-neutral (operand-of p x) ≡ true → P p x
-  by-neutral (logical And) (constant (truth False)) h = clash h
-  by-neutral (logical And) (constant (truth Unknown)) h = clash h
-  by-neutral (logical And) (constant (truth True)) h = on-and
-  by-neutral (logical Or) (constant (truth False)) h = on-or
-  by-neutral (logical Or) (constant (truth Unknown)) h = clash h
-  by-neutral (logical Or) (constant (truth True)) h = clash h
-  by-neutral (logical o) (constant (datum g)) h = clash h
-  by-neutral (logical o) (column c) h = clash h
-  by-neutral (logical o) (unary q x) h = clash h
-  by-neutral (logical o) (binary q l r) h = clash h
+  by-neutral (logical And) (constant og (truth False)) h = clash h
+  by-neutral (logical And) (constant og (truth Unknown)) h = clash h
+  by-neutral (logical And) (constant og (truth True)) h = on-and og
+  by-neutral (logical Or) (constant og (truth False)) h = on-or og
+  by-neutral (logical Or) (constant og (truth Unknown)) h = clash h
+  by-neutral (logical Or) (constant og (truth True)) h = clash h
+  by-neutral (logical o) (constant og (datum g)) h = clash h
+  by-neutral (logical o) (column og c) h = clash h
+  by-neutral (logical o) (unary og q x) h = clash h
+  by-neutral (logical o) (binary og q l r) h = clash h
   by-neutral Equal x h = clash h
   by-neutral (function f) x h = clash h
 
-pub neutral-truth : (place : ℕ) (t : Truth) (p : Binary) (x : Expression) → is-neutral (operand-of p x) ≡ true
-    → fold place (binary p x (constant (truth t))) ≡ done (constant (truth t))
-neutral-truth place t = by-neutral (λ p x. fold place (binary p x (constant (truth t))) ≡ done (constant (truth t))) refl refl
+module _ (place og own : ℕ) where
+  -- without a Column the operator is evaluated: the constant has the operator's origin, not its own
+  pub neutral-truth : (t : Truth) (p : Binary) (x : Expression) → is-neutral (operand-of p x) ≡ true
+      → fold place (binary og p x (constant own (truth t))) ≡ done (constant og (truth t))
+  neutral-truth t = by-neutral (λ p x. fold place (binary og p x (constant own (truth t))) ≡ done (constant og (truth t))) (λ _. refl) (λ _. refl)
 
-pub neutral-datum : (place : ℕ) (g : Datum) (p : Binary) (x : Expression) → is-neutral (operand-of p x) ≡ true
-    → fold place (binary p x (constant (datum g))) ≡ refused 13 place
-neutral-datum place g = by-neutral (λ p x. fold place (binary p x (constant (datum g))) ≡ refused 13 place) refl refl
+  pub neutral-datum : (g : Datum) (p : Binary) (x : Expression) → is-neutral (operand-of p x) ≡ true
+      → fold place (binary og p x (constant own (datum g))) ≡ refused 13 place
+  neutral-datum g = by-neutral (λ p x. fold place (binary og p x (constant own (datum g))) ≡ refused 13 place) (λ _. refl) (λ _. refl)
 
 -- ---- fold where a Column is left, and where none is
 
-pub fold-unary-kept : (place : ℕ) (p : Unary) (y : Expression) → contains-column (λ c. true) y ≡ true → fold place (unary p y) ≡ done (unary p y)
-fold-unary-kept place p y h = ap (λ (b : Bool). fold-by b place (unary p y)) h
+module _ (place og : ℕ) where
+  pub fold-unary-kept : (p : Unary) (y : Expression) → contains-column (λ c. true) y ≡ true → fold place (unary og p y) ≡ done (unary og p y)
+  fold-unary-kept p y h = ap (λ (b : Bool). fold-by b place (unary og p y)) h
 
-fold-kept : (place : ℕ) (p : Binary) (x y : Expression) → (contains-column (λ c. true) x || contains-column (λ c. true) y) ≡ true
-    → fold place (binary p x y) ≡ done (simplify (binary p x y))
-fold-kept place p x y h = ap (λ (b : Bool). fold-by b place (binary p x y)) h
+  fold-kept : (p : Binary) (x y : Expression) → (contains-column (λ c. true) x || contains-column (λ c. true) y) ≡ true
+      → fold place (binary og p x y) ≡ done (simplify (binary og p x y))
+  fold-kept p x y h = ap (λ (b : Bool). fold-by b place (binary og p x y)) h
 
-pub fold-left-kept : (place : ℕ) (p : Binary) (x y : Expression) → contains-column (λ c. true) x ≡ true → fold place (binary p x y) ≡ done (simplify (binary p x y))
-fold-left-kept place p x y h = fold-kept place p x y (ap (λ (b : Bool). b || contains-column (λ c. true) y) h)
+  pub fold-left-kept : (p : Binary) (x y : Expression) → contains-column (λ c. true) x ≡ true → fold place (binary og p x y) ≡ done (simplify (binary og p x y))
+  fold-left-kept p x y h = fold-kept p x y (ap (λ (b : Bool). b || contains-column (λ c. true) y) h)
 
-pub fold-right-kept : (place : ℕ) (p : Binary) (x y : Expression) → contains-column (λ c. true) y ≡ true → fold place (binary p x y) ≡ done (simplify (binary p x y))
-fold-right-kept place p x y h = fold-kept place p x y (go (contains-column (λ c. true) x) (contains-column (λ c. true) y) h)
-  where
-    go : (a b : Bool) → b ≡ true → (a || b) ≡ true
-    go true b k = refl
-    go false b k = k
+  pub fold-right-kept : (p : Binary) (x y : Expression) → contains-column (λ c. true) y ≡ true → fold place (binary og p x y) ≡ done (simplify (binary og p x y))
+  fold-right-kept p x y h = fold-kept p x y (go (contains-column (λ c. true) x) (contains-column (λ c. true) y) h)
+    where
+      go : (a b : Bool) → b ≡ true → (a || b) ≡ true
+      go true b k = refl
+      go false b k = k

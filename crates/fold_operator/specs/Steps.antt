@@ -8,7 +8,7 @@ use lib.ListN.{length}
 use Rattle.value.specs.Value.{ok}
 use Rattle.value.specs.Meaning.{result}
 use Rattle.value.specs.declared.Result.{Result}
-use Rattle.sql.specs.Expression.{Unary, Binary, logical, Equal, function, Expression, constant, unary, binary, bind}
+use Rattle.sql.specs.Expression.{origin, Unary, Binary, logical, Equal, function, Expression, constant, unary, binary, bind}
 use Rattle.sql.specs.Answer.{at-place}
 use Rattle.sql.specs.Optimizer.{Operand, deciding, neutral, undetermined, operand, fold, simplify}
 use Rattle.sheet.specs.Content.{unary-tag, binary-tag}
@@ -48,14 +48,14 @@ is-neutral undetermined = false
 pub record OperandOf (o : ℕ) (k : Cell) : Type 0 where
   pub operator : BinaryTag o
   pub e : Expression
-  pub is : k ≡ cell (root e)
+  pub is : k ≡ cell (origin e) (root e)
 
 -- of the operator with tag o and the operand with cell k
 abbrev pub Deciding : ℕ → Cell → Bool → Type 0
-Deciding o k r = (p : Binary) (e : Expression) → binary-tag p ≡ o → k ≡ cell (root e) → r ≡ is-deciding (operand-of p e)
+Deciding o k r = (p : Binary) (e : Expression) → binary-tag p ≡ o → k ≡ cell (origin e) (root e) → r ≡ is-deciding (operand-of p e)
 
 abbrev pub Neutral : ℕ → Cell → Bool → Type 0
-Neutral o k r = (p : Binary) (e : Expression) → binary-tag p ≡ o → k ≡ cell (root e) → r ≡ is-neutral (operand-of p e)
+Neutral o k r = (p : Binary) (e : Expression) → binary-tag p ≡ o → k ≡ cell (origin e) (root e) → r ≡ is-neutral (operand-of p e)
 
 -- ---- an operator over its operands
 
@@ -87,35 +87,35 @@ pub record BinaryAt (text d : List ℕ) (at m n o : ℕ) : Type 0 where
   pub few : Short d
   pub room : n + cell-words ≤ length d
 
--- What some expression folds to ends before word n.
-pub record OperandAt (d : List ℕ) (n : ℕ) : Type 0 where
+-- What some expression folds to stands in d from `at` up to n.
+pub record OperandAt (d : List ℕ) (at n : ℕ) : Type 0 where
   pub text : List ℕ
-  pub at : ℕ
   pub operand : SettledAt text d at n
+  pub few : Short d
 
--- the value of an operator, or the refusal for its error
-abbrev pub Writes : List ℕ → ℕ → Result → ℕ → Folded → List ℕ → Type 0
-Writes d at r place answer d′ =
-    (text : List ℕ) → Short d → at + cell-words ≤ length d → Leaves d at (at-place place (bind (result text r) (λ v. ok (constant v)))) answer d′
+-- the value of an operator with origin og, or the refusal for its error
+abbrev pub Writes : List ℕ → ℕ → Result → (place og : ℕ) → Folded → List ℕ → Type 0
+Writes d at r place og answer d′ =
+    (text : List ℕ) → Short d → at + cell-words ≤ length d → Leaves d at (at-place place (bind (result text r) (λ v. ok (constant og v)))) answer d′
 
-abbrev pub FoldsUnary : List ℕ → ℕ → ℕ → ℕ → ℕ → Folded → List ℕ → Type 0
-FoldsUnary d at n o place answer d′ =
+abbrev pub FoldsUnary : List ℕ → (at n o place og : ℕ) → Folded → List ℕ → Type 0
+FoldsUnary d at n o place og answer d′ =
     (text : List ℕ) (p : Unary) (y : Expression) → unary-tag p ≡ o → ExpressionHere d at n y → Settled text y
-    → Leaves d at (fold place (unary p y)) answer d′
+    → Leaves d at (fold place (unary og p y)) answer d′
 
 -- The left operand isn't neutral: where it is, the right one alone is written.
-abbrev pub Simplifies : List ℕ → ℕ → ℕ → ℕ → ℕ → ℕ → List ℕ → Type 0
-Simplifies d at m n o r d′ =
+abbrev pub Simplifies : List ℕ → (at m n o og r : ℕ) → List ℕ → Type 0
+Simplifies d at m n o og r d′ =
     (p : Binary) (x y : Expression) → binary-tag p ≡ o → ExpressionHere d at m x → ExpressionHere d m n y → is-neutral (operand-of p x) ≡ false → Short d → n + cell-words ≤ length d
-    → Appended d at (expression-words (simplify (binary p x y))) r d′
+    → Appended d at (expression-words (simplify (binary og p x y))) r d′
 
-abbrev pub FoldsBinary : List ℕ → List ℕ → ℕ → ℕ → ℕ → ℕ → ℕ → Folded → List ℕ → Type 0
-FoldsBinary text d at m n o place answer d′ =
+abbrev pub FoldsBinary : (text d : List ℕ) → (at m n o place og : ℕ) → Folded → List ℕ → Type 0
+FoldsBinary text d at m n o place og answer d′ =
     (p : Binary) (x y : Expression) → binary-tag p ≡ o → ExpressionHere d at m x → ExpressionHere d m n y → Settled text x → Settled text y
-    → is-neutral (operand-of p x) ≡ false → Leaves d at (fold place (binary p x y)) answer d′
+    → is-neutral (operand-of p x) ≡ false → Leaves d at (fold place (binary og p x y)) answer d′
 
 -- The left operand is neutral, and isn't in d.
-abbrev pub FoldsNeutral : List ℕ → ℕ → ℕ → Folded → Type 0
-FoldsNeutral d n place answer =
-    (text : List ℕ) (at : ℕ) (p : Binary) (x y : Expression) → is-neutral (operand-of p x) ≡ true → ExpressionHere d at n y → Settled text y
-    → Leaves d at (fold place (binary p x y)) answer d
+abbrev pub FoldsNeutral : List ℕ → (at n place og : ℕ) → Folded → List ℕ → Type 0
+FoldsNeutral d at n place og answer d′ =
+    (text : List ℕ) (p : Binary) (x y : Expression) → is-neutral (operand-of p x) ≡ true → ExpressionHere d at n y → Settled text y
+    → Leaves d at (fold place (binary og p x y)) answer d′

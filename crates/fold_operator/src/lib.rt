@@ -51,10 +51,11 @@ pub fn is_neutral(o: u32, k: Cell) -> bool
 }
 
 // The cell of the operator with tag o.
-fn operator(o: u32) -> Cell
-    ensures { λ r. ⌜ r ≡ record { tag = o; flag = 0; a = 0; b = 0; c = 0 } ⌝ }
+fn operator(o: u32, origin: u32) -> Cell
+    ensures { λ r. ⌜ r ≡ record { origin = origin; tag = o; flag = 0; a = 0; b = 0; c = 0 } ⌝ }
 {
     Cell {
+        origin,
         tag: o,
         flag: 0,
         a: 0,
@@ -63,49 +64,66 @@ fn operator(o: u32) -> Cell
     }
 }
 
-// An operator's value after the first `at` words of d, or the refusal for its error.
-fn write(d: &mut [u32], at: usize, r: Result, place: usize) -> Folded
-    ensures { λ f. ⌜ Writes (now (d .entry)) at r place f (now (d .exit)) ⌝ }
+// The cell k with another origin.
+fn with_origin(k: Cell, origin: u32) -> Cell
+    ensures { λ r. ⌜ r ≡ record { origin = origin; tag = k .tag; flag = k .flag; a = k .a; b = k .b; c = k .c } ⌝ }
+{
+    Cell {
+        origin,
+        tag: k.tag,
+        flag: k.flag,
+        a: k.a,
+        b: k.b,
+        c: k.c,
+    }
+}
+
+// An operator's value, as a constant with the operator's origin, after the first `at` words of d, or the refusal for its error.
+fn write(d: &mut [u32], at: usize, r: Result, place: usize, origin: u32) -> Folded
+    ensures { λ f. ⌜ Writes (now (d .entry)) at r place origin f (now (d .exit)) ⌝ }
 {
     match r {
-        Result::Ok(v) => Folded::Done(cells::put(d, at, at, evaluate::cell_of(v))),
+        Result::Ok(v) => Folded::Done(cells::put(d, at, at, evaluate::cell_of(v, origin))),
         Result::Err(e) => Folded::Refused(value::number(e), place),
     }
 }
 
 // `fold` of the operator with tag o, whose operand stands in d from `at` to n.
-pub fn fold_unary(d: &mut [u32], at: usize, n: usize, o: u32, place: usize) -> Folded
+pub fn fold_unary(d: &mut [u32], at: usize, n: usize, o: u32, place: usize, origin: u32) -> Folded
     requires { ⌜ UnaryAt (now d) at n o ⌝ }
-    ensures { λ r. ⌜ FoldsUnary (now (d .entry)) at n o place r (now (d .exit)) ⌝ }
+    ensures { λ r. ⌜ FoldsUnary (now (d .entry)) at n o place origin r (now (d .exit)) ⌝ }
 {
     let k = cells::cell_at(d, n);
     if tags::COLUMN <= k.tag {
-        return Folded::Done(cells::put(d, at, n, operator(o)));
+        return Folded::Done(cells::put(d, at, n, operator(o, origin)));
     }
     write(
         d,
         at,
         evaluate::evaluate_unary(o, evaluate::value_of(k)),
         place,
+        origin,
     )
 }
 
-// And and Or with a constant side, the left one not neutral: `simplify` of the operator with tag o, whose operands stand in d from `at` to m and to n.
-fn simplify(d: &mut [u32], at: usize, m: usize, n: usize, o: u32) -> usize
+// And and Or with a constant side, the left one not neutral: `simplify` of the operator with tag o, whose operands stand in d from `at` to m and to n. An operand
+// that decides becomes the operator's constant, with the operator's origin; one that is left alone keeps its own.
+fn simplify(d: &mut [u32], at: usize, m: usize, n: usize, o: u32, origin: u32) -> usize
     requires { ⌜ OperandsAt (now d) at m n o ⌝ }
-    ensures { λ r. ⌜ Simplifies (now (d .entry)) at m n o r (now (d .exit)) ⌝ }
+    ensures { λ r. ⌜ Simplifies (now (d .entry)) at m n o origin r (now (d .exit)) ⌝ }
 {
-    if is_deciding(o, cells::cell_at(d, m)) {
-        return m;
+    let j = cells::cell_at(d, m);
+    if is_deciding(o, j) {
+        return cells::put(d, at, at, with_origin(j, origin));
     }
     let k = cells::cell_at(d, n);
     if is_deciding(o, k) {
-        return cells::put(d, at, at, k);
+        return cells::put(d, at, at, with_origin(k, origin));
     }
     if is_neutral(o, k) {
         return m;
     }
-    cells::put(d, at, n, operator(o))
+    cells::put(d, at, n, operator(o, origin))
 }
 
 // `fold` of the operator with tag o, whose operands stand in d from `at` to m and to n, the left one not neutral.
@@ -117,36 +135,39 @@ pub fn fold_binary(
     n: usize,
     o: u32,
     place: usize,
+    origin: u32,
 ) -> Folded
     requires { ⌜ BinaryAt (now text) (now d) at m n o ⌝ }
-    ensures { λ r. ⌜ FoldsBinary (now (text .entry)) (now (d .entry)) at m n o place r (now (d .exit)) ⌝ }
+    ensures { λ r. ⌜ FoldsBinary (now (text .entry)) (now (d .entry)) at m n o place origin r (now (d .exit)) ⌝ }
 {
     let left = cells::cell_at(d, m);
     if tags::COLUMN <= left.tag {
-        return Folded::Done(simplify(d, at, m, n, o));
+        return Folded::Done(simplify(d, at, m, n, o, origin));
     }
     let right = cells::cell_at(d, n);
     if tags::COLUMN <= right.tag {
-        return Folded::Done(simplify(d, at, m, n, o));
+        return Folded::Done(simplify(d, at, m, n, o, origin));
     }
     write(
         d,
         at,
         evaluate::evaluate_binary(text, o, evaluate::value_of(left), evaluate::value_of(right)),
         place,
+        origin,
     )
 }
 
-// `fold` of And or Or, whose left operand is neutral, and whose right one ends at n in d: that operand, if it is no constant but Null or a Boolean.
-pub fn fold_neutral(d: &[u32], n: usize, place: usize) -> Folded
-    requires { ⌜ OperandAt (now d) n ⌝ }
-    ensures { λ r. ⌜ FoldsNeutral (now (d .entry)) n place r ⌝ }
+// `fold` of And or Or, whose left operand is neutral, and whose right one stands in d from `at` to n: that operand, if it is no constant but Null or a Boolean. A
+// constant takes the operator's origin.
+pub fn fold_neutral(d: &mut [u32], at: usize, n: usize, place: usize, origin: u32) -> Folded
+    requires { ⌜ OperandAt (now d) at n ⌝ }
+    ensures { λ r. ⌜ FoldsNeutral (now (d .entry)) at n place origin r (now (d .exit)) ⌝ }
 {
-    let t = cells::tag_at(d, n);
-    if t < tags::INTEGER {
-        return Folded::Done(n);
+    let k = cells::cell_at(d, n);
+    if k.tag < tags::INTEGER {
+        return Folded::Done(cells::put(d, at, at, with_origin(k, origin)));
     }
-    if t < tags::COLUMN {
+    if k.tag < tags::COLUMN {
         return Folded::Refused(value::number(Error::Mismatch), place);
     }
     Folded::Done(n)

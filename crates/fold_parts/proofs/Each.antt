@@ -4,6 +4,7 @@ use native.Mathlib.Omega.{arith}
 use mathlib.Core.Path.{_≡_, refl, sym, ap, _∙_, subst}
 use mathlib.Core.List.{List, [], _∷_, _++_, map, append-assoc, append-nil}
 use lib.ListN.{length, length-append}
+use Rattle.cells.specs.Cells.{cell-words}
 use Rattle.sql.specs.Plan.{sum}
 use Rattle.sql.specs.Answer.{Answer, done, refused, _>>=_}
 use Rattle.sql.specs.Optimizer.{fold-each}
@@ -39,7 +40,7 @@ module _ {A : Type 0} (f : A → List ℕ) where
   words-last [] x = append-nil (f x)
   words-last (y ∷ ys) x = ap (λ (w : List ℕ). f y ++ w) (words-last ys x) ∙ sym (append-assoc (f y) (all-words f ys) (f x))
 
-  pub words-long : (g : A → ℕ) → ((x : A) → length (f x) ≡ 6 * g x) → (xs : List A) → length (all-words f xs) ≡ 6 * sum g xs
+  pub words-long : (g : A → ℕ) → ((x : A) → length (f x) ≡ cell-words * g x) → (xs : List A) → length (all-words f xs) ≡ cell-words * sum g xs
   words-long g h [] = refl
   words-long g h (x ∷ xs) = omega (arith, length-append (f x) (all-words f xs), h x, words-long g h xs)
 

@@ -4,14 +4,14 @@ use native.Mathlib.Omega.{arith}
 use mathlib.Core.Path.{_≡_, refl, sym, ap, _∙_, subst}
 use mathlib.Core.List.{List, [], _∷_, _++_, map, append-nil}
 use lib.ListN.{length, take, length-append}
-use Rattle.sql.specs.Expression.{IsNull, IsNaN, Identity, Negate, Unary, Not, function, Expression, constant, column, unary, binary, size}
+use Rattle.sql.specs.Expression.{origin, IsNull, IsNaN, Identity, Negate, Unary, Not, function, Expression, constant, column, unary, binary, size}
 use Rattle.sql.specs.Plan.{sum, row-size}
 use Rattle.sql.specs.Answer.{Answer, done, refused, _>>=_}
-use Rattle.sql.specs.Optimizer.{fold-expression, fold-each, fold-row}
+use Rattle.sql.specs.Optimizer.{fold-expression, fold-each}
 use Rattle.sheet.specs.Content.{Content, cell-of, unary-tag}
 use Rattle.sheet_laws.specs.Fits.{All}
 use Rattle.cells.specs.declared.Cell.{Cell}
-use Rattle.cells.specs.Cells.{sized, cell-at, tag-at, start-at, Part, Sized}
+use Rattle.cells.specs.Cells.{cell-words, sized, cell-at, tag-at, start-at, Part, Sized}
 use Rattle.cells.specs.Room.{Short, Wrote, Seals}
 use Rattle.cells.proofs.Laws.{part-left, part-right, part-in, body-part, cell-in, tag-is, start-is, has-size, seam}
 use Rattle.cells.proofs.Laws as cells
@@ -35,41 +35,45 @@ use Rattle.fold_parts.proofs.Each.{Last-of, last-of, all-those, all-las
 
 abbrev part-root : Own-part → Content
 part-root (alone e) = root e
-part-root (under es k) = k
+part-root (under og es k) = k
+
+abbrev part-origin : Own-part → ℕ
+part-origin (alone e) = origin e
+part-origin (under og es k) = og
 
 abbrev below : Own-part → List ℕ
 below (alone e) = operand-words e
-below (under es k) = all-words expression-words es
+below (under og es k) = all-words expression-words es
 
-part-shape : (p : Own-part) → part-words p ≡ sized (below p) (cell (part-root p))
+part-shape : (p : Own-part) → part-words p ≡ sized (below p) (cell (part-origin p) (part-root p))
 part-shape (alone e) = shape e
-part-shape (under es k) = refl
+part-shape (under og es k) = refl
 
-pub part-long : (p : Own-part) → length (part-words p) ≡ 6 * part-size p
+pub part-long : (p : Own-part) → length (part-words p) ≡ cell-words * part-size p
 part-long (alone e) = expression-long e
-part-long (under es k) = omega (arith, sized-long (all-words expression-words es) (cell k), words-long expression-words size expression-long es)
+part-long (under og es k) = omega (arith, sized-long (all-words expression-words es) (cell og k), words-long expression-words size expression-long es)
 
-pub parts-long : (ps : List Own-part) → length (all-words part-words ps) ≡ 6 * sum part-size ps
+pub parts-long : (ps : List Own-part) → length (all-words part-words ps) ≡ cell-words * sum part-size ps
 parts-long ps = words-long part-words part-size part-long ps
 
 module _ {s : List ℕ} {lo hi : ℕ} (p : Own-part) (u : Part s lo hi (part-words p)) where
-  shaped : Part s lo hi (sized (below p) (cell (part-root p)))
+  shaped : Part s lo hi (sized (below p) (cell (part-origin p) (part-root p)))
   shaped = subst (λ (w : List ℕ). Part s lo hi w) (part-shape p) u
 
-  pub stands-in : (lo + 6 ≤ hi) × (hi ≤ length s)
-  stands-in = cell-in (below p) (cell (part-root p)) shaped
+  pub stands-in : (lo + cell-words ≤ hi) × (hi ≤ length s)
+  stands-in = cell-in (below p) (cell (part-origin p) (part-root p)) shaped
 
   stands-tag : tag-at s hi ≡ tag (part-root p)
-  stands-tag = tag-is (below p) (cell (part-root p)) shaped ∙ tag-cell (part-root p)
+  stands-tag = tag-is (below p) (cell (part-origin p) (part-root p)) shaped ∙ tag-cell (part-origin p) (part-root p)
 
-  stands-cell : cell-at s hi ≡ cell (part-root p)
-  stands-cell = cells.cell-is (below p) (cell (part-root p)) shaped
+  stands-cell : cell-at s hi ≡ cell (part-origin p) (part-root p)
+  stands-cell = cells.cell-is (below p) (cell (part-origin p) (part-root p)) shaped
 
   stands-from : start-at s hi ≡ lo
-  stands-from = start-is (below p) (cell (part-root p)) shaped
+  stands-from = start-is (below p) (cell (part-origin p) (part-root p)) shaped
 
   stands-sized : Sized s hi
-  stands-sized = has-size (below p) (cell (part-root p)) shaped
+  stands-sized = has-size (below p) (cell (part-origin p) (part-root p)) shaped
 
 -- ---- the last part, and those before it
 
@@ -94,7 +98,7 @@ module _ {text s : List ℕ} {lo hi : ℕ} where
       last-here : PartHere text s mid hi p
       last-here = record { stand = subst (λ (n : ℕ). Part s n hi (part-words p)) mid-is last-raw; fit = all-last (Part-fits text) ps p (u .fit) }
 
-      mid-number : (first : ℕ) → lo ≡ 6 * first → mid ≡ 6 * (first + sum part-size ps)
+      mid-number : (first : ℕ) → lo ≡ cell-words * first → mid ≡ cell-words * (first + sum part-size ps)
       mid-number first e = omega (arith, mid-is, parts-long ps)
 
   -- Something that follows for every list with a last part, for one that isn't empty.
@@ -129,10 +133,10 @@ module _ {text s : List ℕ} {lo hi : ℕ} {d : List ℕ} {at : ℕ} where
   pub parts-none : hi ≤ lo → FoldsParts text s lo hi d at (Folded.Done at) d
   parts-none h = record { leaves = go; within = record { ends = omega arith } }
     where
-      go : (first : ℕ) (ps : List Own-part) → lo ≡ 6 * first → PartsHere text s lo hi ps → Leaves (all-words part-words) d at (fold-own-parts first ps) (Folded.Done at) d
+      go : (first : ℕ) (ps : List Own-part) → lo ≡ cell-words * first → PartsHere text s lo hi ps → Leaves (all-words part-words) d at (fold-own-parts first ps) (Folded.Done at) d
       go first [] e u = record { left = appended-none d at }
       go first (p ∷ ps) e u =
-          absurd (omega (arith, u .stand .high, length-append (part-words p) (all-words part-words ps), ap length (part-shape p), sized-long (below p) (cell (part-root p))))
+          absurd (omega (arith, u .stand .high, length-append (part-words p) (all-words part-words ps), ap length (part-shape p), sized-long (below p) (cell (part-origin p) (part-root p))))
 
   module _ (h : lo < hi) {mid : ℕ} (st : mid ≡ start-at s hi) {d₁ : List ℕ} {q : Folded} (g : FoldsParts text s lo mid d at q d₁) where
     pub parts-refused : {j p : ℕ} → q ≡ Folded.Refused j p → FoldsParts text s lo hi d at (Folded.Refused j p) d₁
@@ -158,27 +162,27 @@ module _ {text s : List ℕ} {lo hi : ℕ} {d : List ℕ} {at : ℕ} where
 -- ---- fold_part
 
 root-tag : (e : Expression) → tag (root e) < 40
-root-tag (constant v) = omega (arith, constant-tag v)
-root-tag (column i) = omega arith
-root-tag (unary Not x) = omega arith
-root-tag (unary (function IsNull) x) = omega arith
-root-tag (unary (function IsNaN) x) = omega arith
-root-tag (unary (function Identity) x) = omega arith
-root-tag (unary (function Negate) x) = omega arith
-root-tag (binary o l r) = omega (arith, binary-range o .1)
+root-tag (constant og v) = omega (arith, constant-tag v)
+root-tag (column og i) = omega arith
+root-tag (unary og Not x) = omega arith
+root-tag (unary og (function IsNull) x) = omega arith
+root-tag (unary og (function IsNaN) x) = omega arith
+root-tag (unary og (function Identity) x) = omega arith
+root-tag (unary og (function Negate) x) = omega arith
+root-tag (binary og o l r) = omega (arith, binary-range o .1)
 
 module _ {text s : List ℕ} {lo hi : ℕ} where
   -- A part by its tag.
   by-alone : (Q : Own-part → Type 0) → ((e : Expression) → Foldable text s lo hi e → Q (alone e)) → tag-at s hi < 40 → (p : Own-part) → PartHere text s lo hi p → Q p
   by-alone Q f h (alone e) u = f e (record { here = record { part = u .stand }; fits = u .fit })
-  by-alone Q f h (under es k) u = absurd (omega (arith, stands-tag (under es k) (u .stand), u .fit .1))
+  by-alone Q f h (under og es k) u = absurd (omega (arith, stands-tag (under og es k) (u .stand), u .fit .1))
 
-  by-under : (Q : Own-part → Type 0) → ((es : List Expression) (k : Content) → PartHere text s lo hi (under es k) → Q (under es k)) → 40 ≤ tag-at s hi
+  by-under : (Q : Own-part → Type 0) → ((og : ℕ) (es : List Expression) (k : Content) → PartHere text s lo hi (under og es k) → Q (under og es k)) → 40 ≤ tag-at s hi
       → (p : Own-part) → PartHere text s lo hi p → Q p
   by-under Q f h (alone e) u = absurd (omega (arith, stands-tag (alone e) (u .stand), root-tag e))
-  by-under Q f h (under es k) u = f es k u
+  by-under Q f h (under og es k) u = f og es k u
 
-  pub part-at-in : PartAt text s lo hi → (lo + 6 ≤ hi) × (hi ≤ length s)
+  pub part-at-in : PartAt text s lo hi → (lo + cell-words ≤ hi) × (hi ≤ length s)
   part-at-in t = stands-in (t .p) (t .here .stand)
 
   pub alone-at : tag-at s hi < 40 → PartAt text s lo hi → FoldableAt text s lo hi
@@ -204,30 +208,30 @@ alone-fit : (text : List ℕ) (es : List Expression) → All (Constants-fit text
 alone-fit text [] h = tt
 alone-fit text (e ∷ es) h = (h .0, alone-fit text es (h .1))
 
-fold-alone : (es : List Expression) (first : ℕ) → fold-own-parts first (map alone es) ≡ (fold-row first es >>= λ xs. done (map alone xs))
+fold-alone : (es : List Expression) (first : ℕ) → fold-own-parts first (map alone es) ≡ (fold-each fold-expression size first es >>= λ xs. done (map alone xs))
 fold-alone es first = each-made fold-expression size fold-own-part part-size alone (λ n e. refl) (λ e. refl) es first
 
 module _ {text s : List ℕ} {lo hi : ℕ} where
-  under-here : (es : List Expression) (k : Content) → PartHere text s lo hi (under es k) → PartsHere text s lo (hi - 6) (map alone es)
-  under-here es k u = record {
-    stand = subst (λ (w : List ℕ). Part s lo (hi - 6) w) (sym (alone-words es)) (body-part (all-words expression-words es) (cell k) (u .stand));
+  under-here : (og : ℕ) (es : List Expression) (k : Content) → PartHere text s lo hi (under og es k) → PartsHere text s lo (hi - cell-words) (map alone es)
+  under-here og es k u = record {
+    stand = subst (λ (w : List ℕ). Part s lo (hi - cell-words) w) (sym (alone-words es)) (body-part (all-words expression-words es) (cell og k) (u .stand));
     fit = alone-fit text es (u .fit .0);
   }
 
-  pub under-at : 40 ≤ tag-at s hi → PartAt text s lo hi → PartsAt text s lo (hi - 6)
-  under-at h t = by-under (λ p. PartsAt text s lo (hi - 6))
-      (λ es k u. record { ps = map alone es; here = under-here es k u; first = t .first; numbered = t .numbered; short = t .short }) h (t .p) (t .here)
+  pub under-at : 40 ≤ tag-at s hi → PartAt text s lo hi → PartsAt text s lo (hi - cell-words)
+  under-at h t = by-under (λ p. PartsAt text s lo (hi - cell-words))
+      (λ og es k u. record { ps = map alone es; here = under-here og es k u; first = t .first; numbered = t .numbered; short = t .short }) h (t .p) (t .here)
 
   -- the tag of the last expression under a cell
-  pub under-tag : 40 ≤ tag-at s hi → PartAt text s lo hi → lo < hi - 6 → tag-at s (hi - 6) < 40
-  under-tag h t i = by-under (λ p. tag-at s (hi - 6) < 40) (λ es k u. go es (body-part (all-words expression-words es) (cell k) (u .stand))) h (t .p) (t .here)
+  pub under-tag : 40 ≤ tag-at s hi → PartAt text s lo hi → lo < hi - cell-words → tag-at s (hi - cell-words) < 40
+  under-tag h t i = by-under (λ p. tag-at s (hi - cell-words) < 40) (λ og es k u. go es (body-part (all-words expression-words es) (cell og k) (u .stand))) h (t .p) (t .here)
     where
-      go : (es : List Expression) → Part s lo (hi - 6) (all-words expression-words es) → tag-at s (hi - 6) < 40
+      go : (es : List Expression) → Part s lo (hi - cell-words) (all-words expression-words es) → tag-at s (hi - cell-words) < 40
       go [] w = absurd (omega (arith, w .high))
       go (x ∷ xs) w =
           let l = last-of x xs in
-          let v : Part s lo (hi - 6) (all-words expression-words (l .those) ++ expression-words (l .last)) =
-          subst (λ (z : List ℕ). Part s lo (hi - 6) z) (ap (all-words expression-words) (l .is) ∙ words-last expression-words (l .those) (l .last)) w in
+          let v : Part s lo (hi - cell-words) (all-words expression-words (l .those) ++ expression-words (l .last)) =
+          subst (λ (z : List ℕ). Part s lo (hi - cell-words) z) (ap (all-words expression-words) (l .is) ∙ words-last expression-words (l .those) (l .last)) w in
           omega (arith, stands-tag (alone (l .last)) (part-right (all-words expression-words (l .those)) (expression-words (l .last)) v), root-tag (l .last))
 
   module _ {d : List ℕ} {at : ℕ} {d₁ : List ℕ} where
@@ -254,15 +258,15 @@ module _ {text s : List ℕ} {lo hi : ℕ} where
     parts-one h st t k n room long g =
         parts-done h st (parts-none (omega arith)) refl (omega arith) (omega arith) (part-alone (last-at h st t) k n room long g)
 
-    module _ (h : 40 ≤ tag-at s hi) {q : Folded} (g : FoldsParts text s lo (hi - 6) d at q d₁) where
+    module _ (h : 40 ≤ tag-at s hi) {q : Folded} (g : FoldsParts text s lo (hi - cell-words) d at q d₁) where
       -- what stands below the cell
-      row-left : (first : ℕ) (es : List Expression) (k : Content) → lo ≡ 6 * first → PartHere text s lo hi (under es k) → Leaves (all-words expression-words) d at (fold-row first es) q d₁
-      row-left first es k e u = made-of (fold-row first es) (map alone) alone-words (answer-as (fold-alone es first) (g .leaves first (map alone es) e (under-here es k u)))
+      row-left : (first og : ℕ) (es : List Expression) (k : Content) → lo ≡ cell-words * first → PartHere text s lo hi (under og es k) → Leaves (all-words expression-words) d at (fold-each fold-expression size first es) q d₁
+      row-left first og es k e u = made-of (fold-each fold-expression size first es) (map alone) alone-words (answer-as (fold-alone es first) (g .leaves first (map alone es) e (under-here og es k u)))
 
       pub under-refused : {j p : ℕ} → q ≡ Folded.Refused j p → FoldsPart text s lo hi d at (Folded.Refused j p) d₁
       under-refused {j} {p} z = record {
         leaves = λ first x e u. by-under (λ x. Leaves part-words d at (fold-own-part first x) (Folded.Refused j p) d₁)
-            (λ es k v. refused-on (fold-row first es) (λ xs. done (under xs k)) (said-as z (row-left first es k e v)))
+            (λ og es k v. refused-on (fold-each fold-expression size first es) (λ xs. done (under og xs k)) (said-as z (row-left first og es k e v)))
             h x u;
         within = record { ends = tt };
       }
@@ -272,32 +276,32 @@ module _ {text s : List ℕ} {lo hi : ℕ} where
           → FoldsPart text s lo hi d at (Folded.Done n) d₂
       under-done {m} {n} {c} {d₂} t z (room, few) long ce w = record {
         leaves = λ first x e u. by-under (λ x. Leaves part-words d at (fold-own-part first x) (Folded.Done n) d₂)
-            (λ es k v. done-on (fold-row first es) (λ xs. done (under xs k)) (said-as z (row-left first es k e v))
-            (λ xs f a. record { left = sealed-on es k v xs a }))
+            (λ og es k v. done-on (fold-each fold-expression size first es) (λ xs. done (under og xs k)) (said-as z (row-left first og es k e v))
+            (λ xs f a. record { left = sealed-on og es k v xs a }))
             h x u;
-        within = by-under (λ x. Up-to (at + (hi - lo)) (Folded.Done n)) (λ es k v. ended (t .first) es k (t .numbered) v) h (t .p) (t .here);
+        within = by-under (λ x. Up-to (at + (hi - lo)) (Folded.Done n)) (λ og es k v. ended (t .first) og es k (t .numbered) v) h (t .p) (t .here);
       }
         where
-          sealed-on : (es : List Expression) (k : Content) → PartHere text s lo hi (under es k) → (xs : List Expression) → Appended d at (all-words expression-words xs) m d₁
-              → Appended d at (sized (all-words expression-words xs) (cell k)) n d₂
-          sealed-on es k v xs a =
-              let (i, j) = stands-in (under es k) (v .stand) in
+          sealed-on : (og : ℕ) (es : List Expression) (k : Content) → PartHere text s lo hi (under og es k) → (xs : List Expression) → Appended d at (all-words expression-words xs) m d₁
+              → Appended d at (sized (all-words expression-words xs) (cell og k)) n d₂
+          sealed-on og es k v xs a =
+              let (i, j) = stands-in (under og es k) (v .stand) in
               let b = parts-bound z g in
-              let l = sized-long (all-words expression-words xs) (cell k) in
+              let l = sized-long (all-words expression-words xs) (cell og k) in
               let o = a .ends in
-              subst (λ (x : Cell). Appended d at (sized (all-words expression-words xs) x) n d₂) (ce ∙ stands-cell (under es k) (v .stand))
+              subst (λ (x : Cell). Appended d at (sized (all-words expression-words xs) x) n d₂) (ce ∙ stands-cell (under og es k) (v .stand))
               (appended (w d (all-words expression-words xs) long (wrote a (omega arith))) few (sealed-room c xs a i b))
             where
-              sealed-room : (c : Cell) (xs : List Expression) → Appended d at (all-words expression-words xs) m d₁ → lo + 6 ≤ hi → m ≤ at + (hi - 6 - lo)
+              sealed-room : (c : Cell) (xs : List Expression) → Appended d at (all-words expression-words xs) m d₁ → lo + cell-words ≤ hi → m ≤ at + (hi - cell-words - lo)
                   → at + length (sized (all-words expression-words xs) c) ≤ length d
               sealed-room c xs a i b = omega (arith, sized-long (all-words expression-words xs) c, a .ends)
 
-          ended : (first : ℕ) (es : List Expression) (k : Content) → lo ≡ 6 * first → PartHere text s lo hi (under es k) → Up-to (at + (hi - lo)) (Folded.Done n)
-          ended first es k e v = go (fold-row first es) (said-as z (row-left first es k e v))
+          ended : (first og : ℕ) (es : List Expression) (k : Content) → lo ≡ cell-words * first → PartHere text s lo hi (under og es k) → Up-to (at + (hi - lo)) (Folded.Done n)
+          ended first og es k e v = go (fold-each fold-expression size first es) (said-as z (row-left first og es k e v))
             where
               go : (a : Answer (List Expression)) → Leaves (all-words expression-words) d at a (Folded.Done m) d₁ → Up-to (at + (hi - lo)) (Folded.Done n)
               go (done xs) l =
-                  let (i, j) = stands-in (under es k) (v .stand) in
-                  let y = sealed-on es k v xs (l .left) in
-                  record { ends = omega (arith, y .ends, sized-long (all-words expression-words xs) (cell k), l .left .ends, parts-bound z g) }
+                  let (i, j) = stands-in (under og es k) (v .stand) in
+                  let y = sealed-on og es k v xs (l .left) in
+                  record { ends = omega (arith, y .ends, sized-long (all-words expression-words xs) (cell og k), l .left .ends, parts-bound z g) }
               go (refused i p) l = absurd (l .left)

@@ -5,7 +5,7 @@ use mathlib.Core.Path.{_≡_}
 use mathlib.Core.List.{List, [], _∷_, map}
 use mathlib.Core.Option.{Option, none, some}
 use lib.ListN.{length}
-use Rattle.sql.specs.Expression.{Expression}
+use Rattle.sql.specs.Expression.{Marked, Expression}
 use Rattle.sql.specs.Plan.{Label, Leaf, scan, lookup, nothing, values, limit, offset, order, projection, remap, aggregate, Over, filter, other, Join, nested-loop, hash, Node, leaf, over, join}
 use Rattle.sql.specs.Optimizer.{fold-leaf, fold-over, fold-join}
 use Rattle.sheet.specs.Content.{item-cell, key-cell, row-cell}
@@ -20,14 +20,14 @@ use Rattle.cells.specs.Cells.{cell-words}
 
 -- ---- those that are visited
 
-abbrev pub key-part : Expression × Bool → Own-part
-key-part k = under (k .0 ∷ []) (key-cell (k .1))
+abbrev pub key-part : Expression × Bool × ℕ → Own-part
+key-part k = under (k .2) (k .0 ∷ []) (key-cell (k .1))
 
-abbrev pub item-part : Expression × Label → Own-part
-item-part i = under (i .0 ∷ []) (item-cell (i .1))
+abbrev pub item-part : Expression × Label × ℕ → Own-part
+item-part i = under (i .2) (i .0 ∷ []) (item-cell (i .1))
 
-abbrev pub row-part : List Expression → Own-part
-row-part es = under es (row-cell (length es))
+abbrev pub row-part : Marked (List Expression) → Own-part
+row-part es = under (es .1) (es .0) (row-cell (length (es .0)))
 
 abbrev pub optional-parts : Option Expression → List Own-part
 optional-parts none = []
@@ -53,9 +53,9 @@ join-parts (nested-loop q) = optional-parts q
 join-parts (hash i j) = []
 
 abbrev pub own-parts : Node → List Own-part
-own-parts (leaf l) = leaf-parts l
-own-parts (over o n) = over-parts o
-own-parts (join outer j l r) = join-parts j
+own-parts (leaf og l) = leaf-parts l
+own-parts (over og o n) = over-parts o
+own-parts (join og outer j l r) = join-parts j
 
 -- 1 for a node whose own expressions are visited, 0 for one without any, and for Aggregate
 abbrev pub leaf-visited : Leaf → ℕ
@@ -78,9 +78,9 @@ join-visited (nested-loop q) = 1
 join-visited (hash i j) = 0
 
 abbrev pub visited : Node → ℕ
-visited (leaf l) = leaf-visited l
-visited (over o n) = over-visited o
-visited (join outer j l r) = join-visited j
+visited (leaf og l) = leaf-visited l
+visited (over og o n) = over-visited o
+visited (join og outer j l r) = join-visited j
 
 -- ---- contracts
 
@@ -103,9 +103,9 @@ pub record OwnAt (text s : List ℕ) (lo hi m : ℕ) : Type 0 where
 
 -- what folding a node's own parts leaves, where the first one's cell has the number `first`
 abbrev pub Own-left : List ℕ → ℕ → ℕ → Node → Folded → List ℕ → Type 0
-Own-left d at first (leaf l) r d′ = Leaves leaf-own d at (fold-leaf first l) r d′
-Own-left d at first (over o n) r d′ = Leaves over-own d at (fold-over first o) r d′
-Own-left d at first (join outer j a b) r d′ = Leaves join-own d at (fold-join first j) r d′
+Own-left d at first (leaf og l) r d′ = Leaves leaf-own d at (fold-leaf first l) r d′
+Own-left d at first (over og o n) r d′ = Leaves over-own d at (fold-over first o) r d′
+Own-left d at first (join og outer j a b) r d′ = Leaves join-own d at (fold-join first j) r d′
 
 pub record FoldsOwn (text s : List ℕ) (lo hi : ℕ) (d : List ℕ) (at m : ℕ) (r : Folded) (d′ : List ℕ) : Type 0 where
   pub leaves : (first : ℕ) (p : Node) → m ≡ cell-words * first → OwnHere text s lo hi p → Own-left d at first p r d′

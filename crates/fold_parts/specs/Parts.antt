@@ -6,7 +6,7 @@ use lib.ListN.{length}
 use Rattle.sql.specs.Expression.{Expression, size}
 use Rattle.sql.specs.Plan.{row-size}
 use Rattle.sql.specs.Answer.{Answer, done, _>>=_}
-use Rattle.sql.specs.Optimizer.{fold-expression, fold-each, fold-row}
+use Rattle.sql.specs.Optimizer.{fold-expression, fold-each}
 use Rattle.sheet.specs.Content.{Content, cell-of}
 use Rattle.sheet_laws.specs.Fits.{All}
 use Rattle.cells.specs.Cells.{cell-words, sized, Part}
@@ -16,26 +16,26 @@ use Rattle.fold_operator.specs.Left.{Constants-fit}
 use Rattle.fold_parts.specs.Leaves.{Leaves, Up-to}
 use Rattle.sheet.specs.Tags
 
--- an expression alone, or expressions under a cell: that of an Item, a Key or a Row
+-- an expression alone, or expressions under a cell with an origin: that of an Item, a Key or a Row
 pub data Own-part : Type 0 where
   alone : Expression → Own-part
-  under : (es : List Expression) (k : Content) → Own-part
+  under : (og : ℕ) (es : List Expression) (k : Content) → Own-part
 
 abbrev pub part-words : Own-part → List ℕ
 part-words (alone e) = expression-words e
-part-words (under es k) = sized (all-words expression-words es) (cell k)
+part-words (under og es k) = sized (all-words expression-words es) (cell og k)
 
 abbrev pub part-size : Own-part → ℕ
 part-size (alone e) = size e
-part-size (under es k) = row-size es
+part-size (under og es k) = row-size (es, og)
 
 abbrev pub fold-own-part : ℕ → Own-part → Answer Own-part
 fold-own-part first (alone e) = do
   x ← fold-expression first e
   done (alone x)
-fold-own-part first (under es k) = do
-  xs ← fold-row first es
-  done (under xs k)
+fold-own-part first (under og es k) = do
+  xs ← fold-each fold-expression size first es
+  done (under og xs k)
 
 abbrev pub fold-own-parts : ℕ → List Own-part → Answer (List Own-part)
 fold-own-parts first ps = fold-each fold-own-part part-size first ps
@@ -43,7 +43,7 @@ fold-own-parts first ps = fold-each fold-own-part part-size first ps
 -- The constants fit, and the tag of a cell over expressions is not one of an expression.
 abbrev pub Part-fits : List ℕ → Own-part → Type 0
 Part-fits text (alone e) = Constants-fit text e
-Part-fits text (under es k) = All (Constants-fit text) es × (Tags.parts ≤ cell-of k .tag)
+Part-fits text (under og es k) = All (Constants-fit text) es × (Tags.parts ≤ cell-of k .tag)
 
 -- ---- contracts
 

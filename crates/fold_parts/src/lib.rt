@@ -1,5 +1,5 @@
 // optimizer.rs, ConstantFolding of a node's own parts in their working form: they are read from one slice, and what they fold to is appended to another.
-// The slice that is read holds the given sheet's plan from its first word on, so that a cell's number is a sixth of the word that it starts at.
+// The slice that is read holds the given sheet's plan from its first word on, so that a cell's number is a seventh of the word that it starts at.
 use fold_operator::Folded;
 ghost use Prim.Native.Nat.{ℕ, _+_, _-_, _≤_, _<_};
 ghost use mathlib.Core.Path.{_≡_};

@@ -24,7 +24,7 @@ pub record FoldableAt (text s : List ℕ) (lo hi : ℕ) : Type 0 where
   pub foldable : Foldable text s lo hi e
   pub short : length text < 65536
 
--- r cells of six words stand from word lo up to hi.
+-- r cells of seven words stand from word lo up to hi.
 abbrev pub Counts : ℕ → ℕ → ℕ → Type 0
 Counts lo hi r = (n : ℕ) → hi ≡ lo + cell-words * n → r ≡ n
 
@@ -47,5 +47,5 @@ pub record RightAt (text s : List ℕ) (lo hi : ℕ) (d : List ℕ) (at first mi
 
 abbrev pub FoldsRight : List ℕ → List ℕ → ℕ → ℕ → List ℕ → ℕ → ℕ → ℕ → ℕ → Folded → List ℕ → Type 0
 FoldsRight text s lo hi d at first mid m answer d′ =
-    (o : Binary) (l r x : Expression) → Foldable text s lo hi (binary o l r) → ExpressionHere d at m x → Settled text x
-    → Leaves d at (fold-expression (first + size l) r >>= λ y. fold (first + (size l + size r)) (binary o x y)) answer d′
+    (og : ℕ) (o : Binary) (l r x : Expression) → Foldable text s lo hi (binary og o l r) → ExpressionHere d at m x → Settled text x
+    → Leaves d at (fold-expression (first + size l) r >>= λ y. fold (first + (size l + size r)) (binary og o x y)) answer d′

@@ -36,7 +36,9 @@ pub fn fold_expression(
     let end = hi - cells::CELL_WORDS;
     if tags::UNARY <= k.tag {
         return match fold_operand(text, s, lo, end, d, at, first) {
-            Folded::Done(n) => fold_operator::fold_unary(d, at, n, k.tag, first + count(lo, end)),
+            Folded::Done(n) => {
+                fold_operator::fold_unary(d, at, n, k.tag, first + count(lo, end), k.origin)
+            }
             Folded::Refused(number, place) => Folded::Refused(number, place),
         };
     }
@@ -86,17 +88,18 @@ fn fold_right(
     ensures { λ r. ⌜ FoldsRight (now (text .entry)) (now (s .entry)) lo hi (now (d .entry)) at first mid m r (now (d .exit)) ⌝ }
 {
     let o = cells::tag_at(s, hi);
+    let origin = cells::origin_at(s, hi);
     let end = hi - cells::CELL_WORDS;
     let next = first + count(lo, mid);
     let place = first + count(lo, end);
     if fold_operator::is_neutral(o, cells::cell_at(d, m)) {
         return match fold_operand(text, s, mid, end, d, at, next) {
-            Folded::Done(n) => fold_operator::fold_neutral(d, n, place),
+            Folded::Done(n) => fold_operator::fold_neutral(d, at, n, place, origin),
             Folded::Refused(number, p) => Folded::Refused(number, p),
         };
     }
     match fold_operand(text, s, mid, end, d, m, next) {
-        Folded::Done(n) => fold_operator::fold_binary(text, d, at, m, n, o, place),
+        Folded::Done(n) => fold_operator::fold_binary(text, d, at, m, n, o, place, origin),
         Folded::Refused(number, p) => Folded::Refused(number, p),
     }
 }

@@ -25,6 +25,7 @@ use Rattle.decode.proofs.Laws.{whole}
 use Rattle.encode.specs.Encode.{PlanLong, Lengths, Encodable, Encodes}
 use Rattle.checker.specs.Checker.{numbers}
 use Rattle.checker.specs.declared.Answer as Code
+use Rattle.cells.specs.Cells.{cell-words}
 use Rattle.cells.specs.Room.{most-words}
 use Rattle.fold_operator.specs.declared.Folded.{Folded}
 use Rattle.fold_operator.specs.declared.Folded.the-variants as Folded
@@ -44,7 +45,7 @@ module _ {s x : List ℕ} {n : ℕ} {node m : Node} (w : Written-in s x n node m
   pub needed-is : {r : ℕ} → Lengths s n r → r ≡ length (write s m)
   needed-is l = l m words-count
 
-  size-is : n / 6 ≡ node-size m
+  size-is : n / cell-words ≡ node-size m
   size-is = omega (arith, words-count, words-long m)
 
   written-by : (out : List ℕ) (b c : Bool) → b ≡ c → written s out m (write s m) b ≡ written s out m (write s m) c
@@ -60,6 +61,7 @@ encodable {s} {x} {n} {out} at l h =
       node = at .m;
       here = here (at .there);
       fits = sound-fits (schema s) (text s) (table-count s) (at .m) (at .there .fit .0);
+      origins-are = at .origins-are;
       room = omega (arith, h, needed-is (at .there) l);
     }
 
@@ -74,23 +76,30 @@ made : (len cells count : ℕ) → List ℕ → Outcome
 made len cells count out = record { numbers = record { number = 0; place = 0; length = len; cells = cells; columns = count }; output = out }
 
 pub long-enough : (s x : List ℕ) (n count needed len : ℕ) (out out′ : List ℕ) → Lengths s n needed → needed ≤ length out → Encodes s x n out len out′
-    → Writes s x n count out (record { number = 0; place = 0; length = len; cells = n / 6; columns = count }) out′
+    → Writes s x n count out (record { number = 0; place = 0; length = len; cells = n / cell-words; columns = count }) out′
 unfolding made
 long-enough s x n count needed len out out′ l h e node m w k =
     let sheet = write s m in
     let (f, g) = e m (here w) in
-    ap (λ (z : ℕ). made z (n / 6) count out′) f ∙ ap (λ (z : ℕ). made (length sheet) z count out′) (size-is w)
+    ap (λ (z : ℕ). made z (n / cell-words) count out′) f ∙ ap (λ (z : ℕ). made (length sheet) z count out′) (size-is w)
     ∙ ap (λ (z : ℕ). made (length sheet) (node-size m) z out′) (k ∙ sym (w .fit .1)) ∙ ap (made (length sheet) (node-size m) (columns (schema s) m)) g
     ∙ written-by w out true (leb (length sheet) (length out)) (sym (le-leb (length sheet) (length out) (omega (arith, h, needed-is w l))))
 
 -- ---- what a run has left
 
 pub left-written : {s x : List ℕ} {n : ℕ} → AnsweredAt s x (Folded.Done n) → WrittenAt s x n
-left-written {s} {x} {n} at = go (at .answer) (at .leaves .is)
+left-written {s} {x} {n} at = go (at .answer) refl (at .leaves .is)
   where
-    go : (answer : Answer Node) → Left (Fit s (at .node)) x answer (Folded.Done n) → WrittenAt s x n
-    go (done m) h = record { node = at .node; m = m; there = record { is = at .is; fit = h .1 .1; words-are = h .1 .0; inside = h .0 }; short = at .short }
-    go (refused number place) h = absurd h
+    go : (answer : Answer Node) → at .answer ≡ answer → Left (Fit s (at .node)) x answer (Folded.Done n) → WrittenAt s x n
+    go (done m) e h =
+        record {
+          node = at .node;
+          m = m;
+          there = record { is = at .is; fit = h .1 .1; words-are = h .1 .0; inside = h .0 };
+          origins-are = at .origins-are m e;
+          short = at .short;
+        }
+    go (refused number place) e h = absurd h
 
 hands-done : (s x : List ℕ) (n count : ℕ) (out out′ : List ℕ) (a : Code.Answer) → Writes s x n count out a out′ → HandsOut s x (Folded.Done n) count out a out′
 hands-done s x n count out out′ a w node answer is l k = go answer (l .is)

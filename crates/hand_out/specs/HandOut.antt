@@ -7,9 +7,11 @@ use lib.ListN.{length, take}
 use Rattle.sql.specs.Plan.{Node, columns}
 use Rattle.sql.specs.Answer.{Answer, done}
 use Rattle.sheet.specs.Parts.{table-count}
+use Rattle.sheet.specs.Cell.{origins}
 use Rattle.sheet.specs.Check.{text, schema, plan}
 use Rattle.sheet.specs.Write.{write}
 use Rattle.sheet.specs.Operations.{Outcome, written, hand-out}
+use Rattle.sheet_laws.specs.Fits.{Origins-below}
 use Rattle.words.specs.Words.{node-words}
 use Rattle.kept.specs.Kept.{Kept}
 use Rattle.checker.specs.Checker.{numbers}
@@ -37,6 +39,7 @@ pub record WrittenAt (s x : List ℕ) (n : ℕ) : Type 0 where
   pub node : Node
   pub m : Node
   pub there : Written-in s x n node m
+  pub origins-are : Origins-below (origins s) m
   pub short : length x ≤ most-words
 
 abbrev pub Writes : (s x : List ℕ) (n count : ℕ) (out : List ℕ) → Code.Answer → List ℕ → Type 0
@@ -56,6 +59,7 @@ pub record AnsweredAt (s x : List ℕ) (r : Folded) : Type 0 where
   pub is : plan s ≡ done node
   pub answer : Answer Node
   pub leaves : Leaves (Fit s node) x answer r
+  pub origins-are : (m : Node) → answer ≡ done m → Origins-below (origins s) m
   pub short : length x ≤ most-words
 
 abbrev pub HandsOut : (s x : List ℕ) → Folded → (count : ℕ) (out : List ℕ) → Code.Answer → List ℕ → Type 0

@@ -7,7 +7,7 @@ use mathlib.Core.List.{List, _++_, append-nil}
 use mathlib.Core.Option.{Option, none, some}
 use lib.Dec.{ltb}
 use lib.ListN.{length}
-use Rattle.sql.specs.Expression.{Expression}
+use Rattle.sql.specs.Expression.{Expression, origin}
 use Rattle.sql.specs.Plan.{Over, filter, other, limit, offset, order, projection, remap, aggregate, Join, nested-loop, hash, Node, leaf, over, join, columns}
 use Rattle.sql.specs.Answer.{done}
 use Rattle.sql.specs.Optimizer.{equijoin, hash-pair, hash-join, HashJoin}
@@ -15,7 +15,7 @@ use Rattle.room.specs.Smaller.{hash-smaller}
 use Rattle.sound.specs.Hash.{hash-keeps}
 use Rattle.sheet.specs.Content.{hash-join-cell, nested-loop-join-cell}
 use Rattle.cells.specs.declared.Cell.{Cell}
-use Rattle.cells.specs.Cells.{sized, cell-at, tag-at, start-at}
+use Rattle.cells.specs.Cells.{cell-words, sized, cell-at, tag-at, start-at}
 use Rattle.cells.specs.Room.{Wrote, Seals, Copies}
 use Rattle.cells.proofs.Laws.{then}
 use Rattle.words.specs.Words.{cell, join-own, operand-words, root, node-words}
@@ -103,84 +103,84 @@ pair-by-sides n e (some p) = go (ltb (p .0) n && not (ltb (p .1) n))
     go true = refl
     go false = refl
 
-hash-cell-is : (outer : Bool) (a b : ℕ) → hash-cell (cell (nested-loop-join-cell true outer)) a b ≡ cell (hash-join-cell outer a b)
+hash-cell-is : (og : ℕ) (outer : Bool) (a b : ℕ) → hash-cell (cell og (nested-loop-join-cell true outer)) a b ≡ cell og (hash-join-cell outer a b)
 unfolding cell
-hash-cell-is true a b = refl
-hash-cell-is false a b = refl
+hash-cell-is og true a b = refl
+hash-cell-is og false a b = refl
 
-hash-words : (outer : Bool) (a b : ℕ) (p q : Node) → node-words (join outer (hash a b) p q) ≡ sized (node-words p ++ node-words q) (cell (hash-join-cell outer a b))
-hash-words outer a b p q =
-    node-shape (join outer (hash a b) p q) ∙ ap (λ (w : List ℕ). sized w (cell (hash-join-cell outer a b))) (append-nil (node-words p ++ node-words q))
+hash-words : (og : ℕ) (outer : Bool) (a b : ℕ) (p q : Node) → node-words (join og outer (hash a b) p q) ≡ sized (node-words p ++ node-words q) (cell og (hash-join-cell outer a b))
+hash-words og outer a b p q =
+    node-shape (join og outer (hash a b) p q) ∙ ap (λ (w : List ℕ). sized w (cell og (hash-join-cell outer a b))) (append-nil (node-words p ++ node-words q))
 
 module _ {x : List ℕ} {m hi : ℕ} where
-  module _ {lo : ℕ} {outer : Bool} (j : Join) {l r : Node} (u : NodeHere x lo hi (join outer j l r)) (own : OwnStart x lo hi m) where
-    own-length : m + length (join-own j) + 6 ≡ hi
-    own-length = omega (arith, own (join outer j l r) u, node-long (join outer j l r) u)
+  module _ {lo og : ℕ} {outer : Bool} (j : Join) {l r : Node} (u : NodeHere x lo hi (join og outer j l r)) (own : OwnStart x lo hi m) where
+    own-length : m + length (join-own j) + cell-words ≡ hi
+    own-length = omega (arith, own (join og outer j l r) u, node-long (join og outer j l r) u)
 
   -- a join without own words stays
-  alone : (n : ℕ) {lo : ℕ} {outer : Bool} (j : Join) {l r : Node} → NodeHere x lo hi (join outer j l r) → OwnStart x lo hi m → m ≡ hi - 6 → hash-join n j ≡ j
+  alone : (n : ℕ) {lo og : ℕ} {outer : Bool} (j : Join) {l r : Node} → NodeHere x lo hi (join og outer j l r) → OwnStart x lo hi m → m ≡ hi - cell-words → hash-join n j ≡ j
   alone n (nested-loop none) u own z = refl
   alone n (nested-loop (some e)) u own z =
-      absurd (omega (arith, own-length (nested-loop (some e)) u own, ap length (shape e), sized-long (operand-words e) (cell (root e))))
+      absurd (omega (arith, own-length (nested-loop (some e)) u own, ap length (shape e), sized-long (operand-words e) (cell (origin e) (root e))))
   alone n (hash a b) u own z = refl
 
   -- one with own words has a predicate
-  with-predicate : {lo : ℕ} {outer : Bool} (j : Join) {l r : Node} (P : Join → Type 0) → NodeHere x lo hi (join outer j l r) → OwnStart x lo hi m → (m ≡ hi - 6 → ⊥)
-      → ((e : Expression) → NodeHere x lo hi (join outer (nested-loop (some e)) l r) → P (nested-loop (some e))) → P j
+  with-predicate : {lo og : ℕ} {outer : Bool} (j : Join) {l r : Node} (P : Join → Type 0) → NodeHere x lo hi (join og outer j l r) → OwnStart x lo hi m → (m ≡ hi - cell-words → ⊥)
+      → ((e : Expression) → NodeHere x lo hi (join og outer (nested-loop (some e)) l r) → P (nested-loop (some e))) → P j
   with-predicate (nested-loop none) P u own z f = absurd (z (omega (arith, own-length (nested-loop none) u own)))
   with-predicate (nested-loop (some e)) P u own z f = f e u
   with-predicate (hash a b) P u own z f = absurd (z (omega (arith, own-length (hash a b) u own)))
 
-  predicate-here : {lo : ℕ} {outer : Bool} (e : Expression) {l r : Node} → NodeHere x lo hi (join outer (nested-loop (some e)) l r) → OwnStart x lo hi m
-      → ExpressionHere x m (hi - 6) e
-  predicate-here {outer = outer} e {l} {r} u own =
-      record { part = own-part (join outer (nested-loop (some e)) l r) u (own (join outer (nested-loop (some e)) l r) u) }
+  predicate-here : {lo og : ℕ} {outer : Bool} (e : Expression) {l r : Node} → NodeHere x lo hi (join og outer (nested-loop (some e)) l r) → OwnStart x lo hi m
+      → ExpressionHere x m (hi - cell-words) e
+  predicate-here {og = og} {outer = outer} e {l} {r} u own =
+      record { part = own-part (join og outer (nested-loop (some e)) l r) u (own (join og outer (nested-loop (some e)) l r) u) }
 
-  pub join-in : JoinAt x m hi → (m + 6 ≤ hi) × (hi ≤ length x)
+  pub join-in : JoinAt x m hi → (m + cell-words ≤ hi) × (hi ≤ length x)
   join-in g =
-      (omega (arith, own-length (g .j) (g .here) (g .own)), node-in (join (g .outer) (g .j) (g .l) (g .r)) (g .here) .1)
+      (omega (arith, own-length (g .j) (g .here) (g .own)), node-in (join (g .og) (g .outer) (g .j) (g .l) (g .r)) (g .here) .1)
 
-  pub predicate-at : JoinAt x m hi → (m ≡ hi - 6 → ⊥) → ExpressionAt x m (hi - 6)
+  pub predicate-at : JoinAt x m hi → (m ≡ hi - cell-words → ⊥) → ExpressionAt x m (hi - cell-words)
   predicate-at g z =
-      with-predicate (g .j) (λ j. ExpressionAt x m (hi - 6)) (g .here) (g .own) z (λ e u. record { e = e; here = predicate-here e u (g .own) })
+      with-predicate (g .j) (λ j. ExpressionAt x m (hi - cell-words)) (g .here) (g .own) z (λ e u. record { e = e; here = predicate-here e u (g .own) })
 
   -- the join stays as it is
-  stays : (n : ℕ) {lo : ℕ} {outer : Bool} (j : Join) {l r : Node} → NodeHere x lo hi (join outer j l r) → OwnStart x lo hi m → hash-join n j ≡ j
+  stays : (n : ℕ) {lo og : ℕ} {outer : Bool} (j : Join) {l r : Node} → NodeHere x lo hi (join og outer j l r) → OwnStart x lo hi m → hash-join n j ≡ j
       → {y : List ℕ} {at u k : ℕ} {y′ : List ℕ} → Finishes x m hi y at u k y′ → (y₀ : List ℕ) (p q : Node) → length y ≡ length y₀
-      → Wrote y₀ at (node-words p ++ node-words q) u y → Wrote y₀ at (node-words (join outer (hash-join n j) p q)) k y′
-  stays n {lo} {outer} j {l} {r} v own e {at = at} {k = k} {y′ = y′} f y₀ p q g w =
-      subst (λ (i : Join). Wrote y₀ at (node-words (join outer i p q)) k y′) (sym e)
-      (subst (λ (z : List ℕ). Wrote y₀ at z k y′) (sym (node-shape (join outer j p q))) (finishes-node f lo (join outer j l r) v own y₀ (node-words p ++ node-words q) g w))
+      → Wrote y₀ at (node-words p ++ node-words q) u y → Wrote y₀ at (node-words (join og outer (hash-join n j) p q)) k y′
+  stays n {lo} {og} {outer} j {l} {r} v own e {at = at} {k = k} {y′ = y′} f y₀ p q g w =
+      subst (λ (i : Join). Wrote y₀ at (node-words (join og outer i p q)) k y′) (sym e)
+      (subst (λ (z : List ℕ). Wrote y₀ at z k y′) (sym (node-shape (join og outer j p q))) (finishes-node f lo (join og outer j l r) v own y₀ (node-words p ++ node-words q) g w))
 
-  pub rewrites-alone : (n : ℕ) → m ≡ hi - 6 → {y : List ℕ} {at u k : ℕ} {y′ : List ℕ} → Finishes x m hi y at u k y′ → Rewrites n x m hi y at u k y′
-  rewrites-alone n z f lo outer j l r v own = stays n j v own (alone n j v own z) f
+  pub rewrites-alone : (n : ℕ) → m ≡ hi - cell-words → {y : List ℕ} {at u k : ℕ} {y′ : List ℕ} → Finishes x m hi y at u k y′ → Rewrites n x m hi y at u k y′
+  rewrites-alone n z f lo og outer j l r v own = stays n j v own (alone n j v own z) f
 
-  module _ (n : ℕ) (z : m ≡ hi - 6 → ⊥) {equal : Option (ℕ × ℕ)} (s : (e : Expression) → ExpressionHere x m (hi - 6) e → equal ≡ equijoin e) where
-    rewritten-as : {lo : ℕ} {outer : Bool} (e : Expression) {l r : Node} → NodeHere x lo hi (join outer (nested-loop (some e)) l r) → OwnStart x lo hi m
+  module _ (n : ℕ) (z : m ≡ hi - cell-words → ⊥) {equal : Option (ℕ × ℕ)} (s : (e : Expression) → ExpressionHere x m (hi - cell-words) e → equal ≡ equijoin e) where
+    rewritten-as : {lo og : ℕ} {outer : Bool} (e : Expression) {l r : Node} → NodeHere x lo hi (join og outer (nested-loop (some e)) l r) → OwnStart x lo hi m
         → {o : Option (ℕ × ℕ)} → o ≡ hash-sides n equal → hash-join n (nested-loop (some e)) ≡ by-sides e o
     rewritten-as e u own i =
         pair-by-sides n e (equijoin e) ∙ ap (λ (o : Option (ℕ × ℕ)). by-sides e (hash-sides n o)) (sym (s e (predicate-here e u own))) ∙ ap (by-sides e) (sym i)
 
     pub rewrites-nested : none ≡ hash-sides n equal → {y : List ℕ} {at u k : ℕ} {y′ : List ℕ} → Finishes x m hi y at u k y′ → Rewrites n x m hi y at u k y′
     unfolding by-sides
-    rewrites-nested i {y} {at} {u} {k} {y′} f lo outer j l r v own =
+    rewrites-nested i {y} {at} {u} {k} {y′} f lo og outer j l r v own =
         with-predicate j
         (λ j. (y₀ : List ℕ) (p q : Node) → length y ≡ length y₀ → Wrote y₀ at (node-words p ++ node-words q) u y
-        → Wrote y₀ at (node-words (join outer (hash-join n j) p q)) k y′)
+        → Wrote y₀ at (node-words (join og outer (hash-join n j) p q)) k y′)
         v own z (λ e v. stays n (nested-loop (some e)) v own (rewritten-as e v own i) f)
 
     pub rewrites-hash : {a b : ℕ} → some (a, b) ≡ hash-sides n equal → {d : Cell} → d ≡ cell-at x hi → {h : Cell} → h ≡ hash-cell d a b
         → {y : List ℕ} {at u k : ℕ} {y′ : List ℕ} → Seals y at u h k y′ → Rewrites n x m hi y at u k y′
     unfolding by-sides
-    rewrites-hash {a} {b} i {d} e′ {h} g {y} {at} {u} {k} {y′} f lo outer j l r v own =
+    rewrites-hash {a} {b} i {d} e′ {h} g {y} {at} {u} {k} {y′} f lo og outer j l r v own =
         with-predicate j
         (λ j. (y₀ : List ℕ) (p q : Node) → length y ≡ length y₀ → Wrote y₀ at (node-words p ++ node-words q) u y
-        → Wrote y₀ at (node-words (join outer (hash-join n j) p q)) k y′)
+        → Wrote y₀ at (node-words (join og outer (hash-join n j) p q)) k y′)
         v own z
         (λ e v y₀ p q k₀ w.
-        let c = g ∙ ap (λ (k : Cell). hash-cell k a b) (e′ ∙ node-cell-is (join outer (nested-loop (some e)) l r) v) ∙ hash-cell-is outer a b in
-        subst (λ (i : Join). Wrote y₀ at (node-words (join outer i p q)) k y′) (sym (rewritten-as e v own i))
-        (subst (λ (z : List ℕ). Wrote y₀ at z k y′) (sym (hash-words outer a b p q ∙ ap (sized (node-words p ++ node-words q)) (sym c)))
+        let c = g ∙ ap (λ (k : Cell). hash-cell k a b) (e′ ∙ node-cell-is (join og outer (nested-loop (some e)) l r) v) ∙ hash-cell-is og outer a b in
+        subst (λ (i : Join). Wrote y₀ at (node-words (join og outer i p q)) k y′) (sym (rewritten-as e v own i))
+        (subst (λ (z : List ℕ). Wrote y₀ at z k y′) (sym (hash-words og outer a b p q ∙ ap (sized (node-words p ++ node-words q)) (sym c)))
         (f y₀ (node-words p ++ node-words q) k₀ w)))
 
 -- ---- the recursion
@@ -188,36 +188,36 @@ module _ {x : List ℕ} {m hi : ℕ} where
 module _ {widths x : List ℕ} {lo hi g : ℕ} (c : SourceCount x lo hi g) where
   pub writes-leaf : g ≡ 0 → {y : List ℕ} {at n : ℕ} {y′ : List ℕ} → Copies x lo hi y at n y′ → Writes widths x lo hi y at n y′
   writes-leaf z {y} {at} {n} {y′} f schema p w u =
-      by-leaf (λ p. NodeHere x lo hi p → Wrote y at (node-words (HashJoin schema p)) n y′) (λ l u. f (node-words (leaf l)) (u .part)) p (sym (c p u) ∙ z) u
+      by-leaf (λ p. NodeHere x lo hi p → Wrote y at (node-words (HashJoin schema p)) n y′) (λ og l u. f (node-words (leaf og l)) (u .part)) p (sym (c p u) ∙ z) u
 
   module _ {m : ℕ} (own : OwnStart x lo hi m) where
     pub writes-over : g ≡ 1 → {y : List ℕ} {at u n : ℕ} {y₁ y₂ : List ℕ} → length y₁ ≡ length y → Writes widths x lo m y at u y₁ → Finishes x m hi y₁ at u n y₂
         → Writes widths x lo hi y at n y₂
     writes-over z {y} {at} {u} {n} {y₁} {y₂} k a f schema p w h =
         by-over (λ p. NodeHere x lo hi p → Wrote y at (node-words (HashJoin schema p)) n y₂)
-        (λ o s v. subst (λ (w : List ℕ). Wrote y at w n y₂) (sym (node-shape (over o (HashJoin schema s))))
-        (finishes-node f lo (over o s) v own y (node-words (HashJoin schema s)) k (a schema s w (over-source o s v (own (over o s) v)))))
+        (λ og o s v. subst (λ (w : List ℕ). Wrote y at w n y₂) (sym (node-shape (over og o (HashJoin schema s))))
+        (finishes-node f lo (over og o s) v own y (node-words (HashJoin schema s)) k (a schema s w (over-source og o s v (own (over og o s) v)))))
         p (sym (c p h) ∙ z) h
 
     -- a node whose columns are its source's, by its tag
     pub columns-through : g ≡ 1 → {n : ℕ} → ColumnCount widths x lo m n → {t : ℕ} → t ≡ tag-at x hi → (t ≡ 50 → ⊥) → t < 60 → ColumnCount widths x lo hi n
     columns-through z {n} a {t} e i j schema p w h =
         by-over (λ p. NodeHere x lo hi p → n ≡ columns schema p)
-        (λ o s v. a schema s w (over-source o s v (own (over o s) v)) ∙ go o s (e ∙ node-tag (over o s) v ∙ tagged (over o s))) p (sym (c p h) ∙ z) h
+        (λ og o s v. a schema s w (over-source og o s v (own (over og o s) v)) ∙ go og o s (e ∙ node-tag (over og o s) v ∙ tagged (over og o s))) p (sym (c p h) ∙ z) h
       where
-        go : (o : Over) (s : Node) → t ≡ over-tag o → columns schema s ≡ columns schema (over o s)
-        go (filter e) s q = refl
-        go (other (limit n)) s q = refl
-        go (other (offset n)) s q = refl
-        go (other (order ks)) s q = refl
-        go (other (projection is)) s q = absurd (omega arith)
-        go (other (remap ts)) s q = absurd (omega arith)
-        go (other (aggregate es gs)) s q = absurd (i q)
+        go : (og : ℕ) (o : Over) (s : Node) → t ≡ over-tag o → columns schema s ≡ columns schema (over og o s)
+        go og (filter e) s q = refl
+        go og (other (limit n)) s q = refl
+        go og (other (offset n)) s q = refl
+        go og (other (order ks)) s q = refl
+        go og (other (projection is)) s q = absurd (omega arith)
+        go og (other (remap ts)) s q = absurd (omega arith)
+        go og (other (aggregate es gs)) s q = absurd (i q)
 
     module _ (two : g ≡ 2) where
       pub join-at : ColumnsAt widths x lo hi → JoinAt x m hi
       join-at t =
-          by-join (λ p. NodeHere x lo hi p → JoinAt x m hi) (λ outer j l r v. record { lo = lo; outer = outer; j = j; l = l; r = r; here = v; own = own }) (t .p)
+          by-join (λ p. NodeHere x lo hi p → JoinAt x m hi) (λ og outer j l r v. record { lo = lo; og = og; outer = outer; j = j; l = l; r = r; here = v; own = own }) (t .p)
           (sym (c (t .p) (t .here)) ∙ two) (t .here)
 
       module _ {mid : ℕ} (st : mid ≡ start-at x m) {i : ℕ} (d : ColumnCount widths x lo mid i) where
@@ -225,19 +225,19 @@ module _ {widths x : List ℕ} {lo hi g : ℕ} (c : SourceCount x lo hi g) where
             → Writes widths x mid m y₁ u v y₂ → Rewrites i x m hi y₂ at v n y₃ → Writes widths x lo hi y at n y₃
         writes-join {y} {at} {u} {v} {n} {y₁} {y₂} {y₃} k₁ k₂ a b f schema p w h =
             by-join (λ p. NodeHere x lo hi p → Wrote y at (node-words (HashJoin schema p)) n y₃)
-            (λ outer j l r h.
-            let e = own (join outer j l r) h in
-            let a₁ = join-left outer j l r h e st in
-            subst (λ (i : ℕ). Wrote y at (node-words (join outer (hash-join i j) (HashJoin schema l) (HashJoin schema r))) n y₃) (d schema l w a₁)
-            (f lo outer j l r h own y (HashJoin schema l) (HashJoin schema r) (k₂ ∙ k₁) (then k₁ (a schema l w a₁) (b schema r w (join-right outer j l r h e st)))))
+            (λ og outer j l r h.
+            let e = own (join og outer j l r) h in
+            let a₁ = join-left og outer j l r h e st in
+            subst (λ (i : ℕ). Wrote y at (node-words (join og outer (hash-join i j) (HashJoin schema l) (HashJoin schema r))) n y₃) (d schema l w a₁)
+            (f lo og outer j l r h own y (HashJoin schema l) (HashJoin schema r) (k₂ ∙ k₁) (then k₁ (a schema l w a₁) (b schema r w (join-right og outer j l r h e st)))))
             p (sym (c p h) ∙ two) h
 
         pub columns-both : {k : ℕ} → ColumnCount widths x mid m k → ColumnCount widths x lo hi (i + k)
         columns-both {k} a schema p w h =
             by-join (λ p. NodeHere x lo hi p → i + k ≡ columns schema p)
-            (λ outer j l r h.
-            let e = own (join outer j l r) h in
-            omega (arith, d schema l w (join-left outer j l r h e st), a schema r w (join-right outer j l r h e st)))
+            (λ og outer j l r h.
+            let e = own (join og outer j l r) h in
+            omega (arith, d schema l w (join-left og outer j l r h e st), a schema r w (join-right og outer j l r h e st)))
             p (sym (c p h) ∙ two) h
 
 pub count-few : {widths x : List ℕ} {lo hi n : ℕ} → ColumnsAt widths x lo hi → ColumnCount widths x lo hi n → n ≤ 4294967296

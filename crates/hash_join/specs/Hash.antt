@@ -30,23 +30,24 @@ hash-sides n (some pair) = cond (ltb (pair .0) n && not (ltb (pair .1) n)) (some
 
 -- a HashJoin's cell from a NestedLoopJoin's
 abbrev pub hash-cell : Cell → ℕ → ℕ → Cell
-hash-cell nested left right = record { tag = Tags.hash-join; flag = nested .flag / 2; a = left; b = right; c = 0 }
+hash-cell nested left right = record { origin = nested .origin; tag = Tags.hash-join; flag = nested .flag / 2; a = left; b = right; c = 0 }
 
 -- Some join ends before hi, and its own words start at m.
 pub record JoinAt (x : List ℕ) (m hi : ℕ) : Type 0 where
   pub lo : ℕ
+  pub og : ℕ
   pub outer : Bool
   pub j : Join
   pub l : Node
   pub r : Node
-  pub here : NodeHere x lo hi (join outer j l r)
+  pub here : NodeHere x lo hi (join og outer j l r)
   pub own : OwnStart x lo hi m
 
 -- The join's own part after hash_join is written behind whatever became of its sources.
 abbrev pub Rewrites : ℕ → List ℕ → ℕ → ℕ → List ℕ → ℕ → ℕ → ℕ → List ℕ → Type 0
 Rewrites n x m hi y at u k y′ =
-    (lo : ℕ) (outer : Bool) (j : Join) (l r : Node) → NodeHere x lo hi (join outer j l r) → OwnStart x lo hi m → (y₀ : List ℕ) (p q : Node) → length y ≡ length y₀
-    → Wrote y₀ at (node-words p ++ node-words q) u y → Wrote y₀ at (node-words (join outer (hash-join n j) p q)) k y′
+    (lo og : ℕ) (outer : Bool) (j : Join) (l r : Node) → NodeHere x lo hi (join og outer j l r) → OwnStart x lo hi m → (y₀ : List ℕ) (p q : Node) → length y ≡ length y₀
+    → Wrote y₀ at (node-words p ++ node-words q) u y → Wrote y₀ at (node-words (join og outer (hash-join n j) p q)) k y′
 
 -- The node after pass 4 is appended to the first `at` words of y, or has no room.
 abbrev pub Writes : List ℕ → List ℕ → ℕ → ℕ → List ℕ → ℕ → ℕ → List ℕ → Type 0

@@ -40,6 +40,7 @@ fn hash_join_cell(
     ensures { λ r. ⌜ r ≡ hash-cell nested (left .0) (right .0) ⌝ }
 {
     cells::Cell {
+        origin: nested.origin,
         tag: tags::HASH_JOIN,
         flag: nested.flag / 2,
         a: left.0,

@@ -5,6 +5,7 @@ use mathlib.Core.Path.{_≡_, refl, sym, _∙_, subst}
 use mathlib.Core.List.{List}
 use lib.ListN.{length}
 use Rattle.sql.specs.Schema.{Schema}
+use Rattle.sql.specs.Expression.{Marked}
 use Rattle.sql.specs.Plan.{Other, Node, over}
 use Rattle.sql.specs.Answer.{Answer, done, refused, _>>=_}
 use Rattle.sql.specs.Room.{IndexLookup}
@@ -16,10 +17,10 @@ use Rattle.kept.specs.Kept.{Kept, kept}
 use Rattle.stream.specs.Stream.{Reading, StreamAt, Streamed, Streams}
 use Rattle.stream.proofs.Streams.{written-done, done-long, done-wrote, done-here, streamed-stop}
 
-lookup-chain : (room : ℕ) (schema : Schema) (rest : ℕ) (os : List Other) (p : Node)
+lookup-chain : (room : ℕ) (schema : Schema) (rest : ℕ) (os : List (Marked Other)) (p : Node)
     → IndexLookup room schema rest (chain os p) ≡ (IndexLookup room schema (rest + sizes os) p >>= λ q. done (chain os q))
 unfolding IndexLookup
-lookup-chain room schema rest os p = chain-left {P = λ o. Unit {0}} (IndexLookup room schema) (λ rest o h p. refl) rest os (each (λ o. tt) os) p
+lookup-chain room schema rest os p = chain-left {P = λ o. Unit {0}} (IndexLookup room schema) (λ rest og o h p. refl) rest os (each (λ o. tt) os) p
 
 -- what a streamed function hands out stands there, if it isn't refused
 pub stream-stands : {Lent : Schema → Type 0} {f : ℕ → Schema → ℕ → Node → Answer Node} {x : List ℕ} {lo hi tail : ℕ} {y : List ℕ} {at u : ℕ} {y₁ : List ℕ}
@@ -33,13 +34,13 @@ stream-stands {f = f} {tail = tail} {y = y} {at = at} {u = u} {y₁ = y₁} g a 
 
 module _ {x : List ℕ} {n lo hi left end : ℕ} (d : GoesDown x n lo hi left end) where
   by-chain : {schema : Schema} {text : List ℕ} {tables tail : ℕ} {y : List ℕ} {at room rest : ℕ} (P : Node → Type 0)
-      → ((os : List Other) (p : Node) → NodeHere x lo end p → Reading schema text tables x lo hi tail y at room rest (chain os p) → P (chain os p))
+      → ((os : List (Marked Other)) (p : Node) → NodeHere x lo end p → Reading schema text tables x lo hi tail y at room rest (chain os p) → P (chain os p))
       → (p : Node) → Reading schema text tables x lo hi tail y at room rest p → P p
   by-chain {schema} {text} {tables} {tail} {y} {at} {room} {rest} P f p h =
       let r = d p (h .here) in
       subst (λ (q : Node). Reading schema text tables x lo hi tail y at room rest q → P q) (sym (r .is)) (f (r .above) (r .q) (r .here)) h
 
-  module _ {schema : Schema} {text : List ℕ} {tables tail : ℕ} {y : List ℕ} {at room rest : ℕ} (os : List Other) (p : Node) (v : NodeHere x lo end p)
+  module _ {schema : Schema} {text : List ℕ} {tables tail : ℕ} {y : List ℕ} {at room rest : ℕ} (os : List (Marked Other)) (p : Node) (v : NodeHere x lo end p)
       (h : Reading schema text tables x lo hi tail y at room rest (chain os p)) where
     below-reading : Reading schema text tables x lo end (tail + (hi - end)) y at room (rest + sizes os) p
     below-reading =
@@ -89,7 +90,7 @@ module _ {x : List ℕ} {n lo hi left end : ℕ} (d : GoesDown x n lo hi left en
         (go os p v h (IndexLookup room schema (rest + sizes os) p) (a schema text tables lent room (rest + sizes os) p (below-reading os p v h))))
         p h
       where
-        go : (os : List Other) (p : Node) → NodeHere x lo end p → Reading schema text tables x lo hi tail y at room rest (chain os p)
+        go : (os : List (Marked Other)) (p : Node) → NodeHere x lo end p → Reading schema text tables x lo hi tail y at room rest (chain os p)
             → (o : Answer Node) → Streamed (Kept schema text tables p) y at (tail + (hi - end)) u y₁ o
             → Streamed (Kept schema text tables (chain os p)) y at tail r y₂ (o >>= λ q. done (chain os q))
         go os p v h (done q) s =

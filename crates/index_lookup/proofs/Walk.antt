@@ -7,10 +7,11 @@ use mathlib.Core.List.{List}
 use mathlib.Core.Option.{none, some}
 use lib.ListN.{length}
 use Rattle.sql.specs.Schema.{Schema}
+use Rattle.sql.specs.Expression.{origin}
 use Rattle.sql.specs.Plan.{scan, lookup, nothing, values, Over, Join, Node, leaf, over, join, over-size, join-size, node-size}
 use Rattle.sql.specs.Answer.{Answer, done, _>>=_}
 use Rattle.sql.specs.Room.{IndexLookup}
-use Rattle.cells.specs.Cells.{start-at}
+use Rattle.cells.specs.Cells.{cell-words, start-at}
 use Rattle.cells.specs.Room.{Copies}
 use Rattle.words.specs.Words.{cell, operand-words, root}
 use Rattle.words.proofs.Expressions.{shape}
@@ -22,22 +23,22 @@ use Rattle.stream.proofs.Sources.{one-cell, source-stop, source-go, over-done, 
 use Rattle.lookup_step.specs.Lookup.{Lent, HasFilter}
 use Rattle.lookup_step.proofs.Steps.{leaf-copied}
 
-after-source : ℕ → Schema → ℕ → Over → Node → Node → Answer Node
-after-source room schema rest o n q = done (over o q)
+after-source : ℕ → Schema → ℕ → ℕ → Over → Node → Node → Answer Node
+after-source room schema rest og o n q = done (over og o q)
 
-after-sources : ℕ → Schema → ℕ → Bool → Join → Node → Node → Node → Node → Answer Node
-after-sources room schema rest outer j l r p q = done (join outer j p q)
+after-sources : ℕ → Schema → ℕ → ℕ → Bool → Join → Node → Node → Node → Node → Answer Node
+after-sources room schema rest og outer j l r p q = done (join og outer j p q)
 
-over-shape : (room : ℕ) (schema : Schema) (rest : ℕ) (o : Over) (n : Node)
-    → IndexLookup room schema rest (over o n) ≡ (IndexLookup room schema (rest + over-size o) n >>= after-source room schema rest o n)
+over-shape : (room : ℕ) (schema : Schema) (rest og : ℕ) (o : Over) (n : Node)
+    → IndexLookup room schema rest (over og o n) ≡ (IndexLookup room schema (rest + over-size o) n >>= after-source room schema rest og o n)
 unfolding IndexLookup after-source
-over-shape room schema rest o n = refl
+over-shape room schema rest og o n = refl
 
-join-shape : (room : ℕ) (schema : Schema) (rest : ℕ) (outer : Bool) (j : Join) (l r : Node)
-    → IndexLookup room schema rest (join outer j l r)
-    ≡ (IndexLookup room schema (rest + (node-size r + join-size j)) l >>= λ p. IndexLookup room schema (rest + (node-size p + join-size j)) r >>= after-sources room schema rest outer j l r p)
+join-shape : (room : ℕ) (schema : Schema) (rest og : ℕ) (outer : Bool) (j : Join) (l r : Node)
+    → IndexLookup room schema rest (join og outer j l r)
+    ≡ (IndexLookup room schema (rest + (node-size r + join-size j)) l >>= λ p. IndexLookup room schema (rest + (node-size p + join-size j)) r >>= after-sources room schema rest og outer j l r p)
 unfolding IndexLookup after-sources
-join-shape room schema rest outer j l r = refl
+join-shape room schema rest og outer j l r = refl
 
 module _ (widths keys columns : List ℕ) {x : List ℕ} {lo hi tail g m : ℕ} {y : List ℕ} {at : ℕ} (c : SourceCount x lo hi g) (own : OwnStart x lo hi m) where
   module _ (one : g ≡ 1) {u : ℕ} {y₁ : List ℕ} (a : Streams (Lent widths keys columns) IndexLookup x lo m (tail + (hi - m)) y at u y₁) where
@@ -49,7 +50,7 @@ module _ (widths keys columns : List ℕ) {x : List ℕ} {lo hi tail g m : ℕ} 
     unfolding after-source
     one-go z k₁ k₂ f =
         source-go c one own IndexLookup IndexLookup after-source over-shape a z
-        (λ schema text tables lent room rest o n h q s. over-done own o n h k₁ q s k₂ f)
+        (λ schema text tables lent room rest og o n h q s. over-done own og o n h k₁ q s k₂ f)
 
   module _ (two : g ≡ 2) {mid : ℕ} (st : mid ≡ start-at x m) {u : ℕ} {y₁ : List ℕ}
       (a : Streams (Lent widths keys columns) IndexLookup x lo mid (tail + (hi - mid)) y at u y₁) where
@@ -65,21 +66,21 @@ module _ (widths keys columns : List ℕ) {x : List ℕ} {lo hi tail g m : ℕ} 
       unfolding after-sources
       two-go i k₂ k₃ f =
           both-go c two own st IndexLookup a IndexLookup after-sources join-shape k₁ z b i
-          (λ schema text tables lent room rest outer j l r h p s q t. join-done own st outer j l r h k₁ p s k₂ q t k₃ f)
+          (λ schema text tables lent room rest og outer j l r h p s q t. join-done own st og outer j l r h k₁ p s k₂ q t k₃ f)
 
 pub no-source : {x : List ℕ} {lo hi g : ℕ} → g ≡ 0 → SourceCount x lo hi g → SourceCount x lo hi 0
 no-source e c p u = sym e ∙ c p u
 
 -- ---- a node of one cell
 
-no-filter : {x : List ℕ} {lo hi : ℕ} → hi - lo ≡ 6 → HasFilter x lo hi false
-no-filter e (scan t al none) u = refl
-no-filter e (scan t al (some q)) u =
-    absurd (omega (arith, node-long (leaf (scan t al (some q))) u, ap length (shape q), sized-long (operand-words q) (cell (root q))))
-no-filter e (lookup a t al vs) u = refl
-no-filter e (nothing ls) u = refl
-no-filter e (values rs) u = refl
+no-filter : {x : List ℕ} {lo hi : ℕ} → hi - lo ≡ cell-words → HasFilter x lo hi false
+no-filter e og (scan t al none) u = refl
+no-filter e og (scan t al (some q)) u =
+    absurd (omega (arith, node-long (leaf og (scan t al (some q))) u, ap length (shape q), sized-long (operand-words q) (cell (origin q) (root q))))
+no-filter e og (lookup a t al vs) u = refl
+no-filter e og (nothing ls) u = refl
+no-filter e og (values rs) u = refl
 
-pub one-cell-copied : {widths keys columns : List ℕ} {x : List ℕ} {lo hi tail : ℕ} {y : List ℕ} {at : ℕ} → hi - lo ≡ 6 → {r : ℕ} {y′ : List ℕ} → length y′ ≡ length y
+pub one-cell-copied : {widths keys columns : List ℕ} {x : List ℕ} {lo hi tail : ℕ} {y : List ℕ} {at : ℕ} → hi - lo ≡ cell-words → {r : ℕ} {y′ : List ℕ} → length y′ ≡ length y
     → Copies x lo hi y at r y′ → Streams (Lent widths keys columns) IndexLookup x lo hi tail y at r y′
 one-cell-copied e k v = leaf-copied (no-filter e) (one-cell e) refl k v

@@ -14,7 +14,7 @@ use Rattle.sql.specs.Plan.{by-key, by-index, Leaf, scan, lookup, nothing, value
 use Rattle.sql.specs.Optimizer.{verdict, optional-verdict, is-never, is-nothing, is-empty-join, is-empty}
 use Rattle.sheet.specs.Content.{row-cell}
 use Rattle.cells.specs.declared.Cell.{Cell}
-use Rattle.cells.specs.Cells.{cell-at, tag-at, start-at, Part}
+use Rattle.cells.specs.Cells.{cell-words, cell-at, tag-at, start-at, Part}
 use Rattle.words.specs.Words.{cell, all-words, expression-words, optional-words, constant-words, row-words, source-words, join-own}
 use Rattle.words.specs.Place.{NodeHere, NodeAt}
 use Rattle.words.proofs.Nodes.{node-tag, node-in, node-long, own-part, over-source, join-left, join-right}
@@ -32,20 +32,20 @@ pub nothing-told : {s : List ℕ} {lo hi t : ℕ} → t ≡ tag-at s hi → (n :
 nothing-told {t = t} e n u = go n (e ∙ node-tag n u ∙ tagged n)
   where
     go : (n : Node) → t ≡ tag-of n → eqb t 57 ≡ is-nothing n
-    go (leaf (scan i al q)) h = ap (λ (x : ℕ). eqb x 57) h
-    go (leaf (lookup by-key i al vs)) h = ap (λ (x : ℕ). eqb x 57) h
-    go (leaf (lookup (by-index j) i al vs)) h = ap (λ (x : ℕ). eqb x 57) h
-    go (leaf (nothing ls)) h = ap (λ (x : ℕ). eqb x 57) h
-    go (leaf (values rs)) h = ap (λ (x : ℕ). eqb x 57) h
-    go (over (filter x) m) h = ap (λ (x : ℕ). eqb x 57) h
-    go (over (other (limit x)) m) h = ap (λ (x : ℕ). eqb x 57) h
-    go (over (other (offset x)) m) h = ap (λ (x : ℕ). eqb x 57) h
-    go (over (other (order ks)) m) h = ap (λ (x : ℕ). eqb x 57) h
-    go (over (other (projection is)) m) h = ap (λ (x : ℕ). eqb x 57) h
-    go (over (other (remap ts)) m) h = ap (λ (x : ℕ). eqb x 57) h
-    go (over (other (aggregate es gs)) m) h = ap (λ (x : ℕ). eqb x 57) h
-    go (join outer (nested-loop q) l r) h = ap (λ (x : ℕ). eqb x 57) h
-    go (join outer (hash i j) l r) h = ap (λ (x : ℕ). eqb x 57) h
+    go (leaf og (scan i al q)) h = ap (λ (x : ℕ). eqb x 57) h
+    go (leaf og (lookup by-key i al vs)) h = ap (λ (x : ℕ). eqb x 57) h
+    go (leaf og (lookup (by-index j) i al vs)) h = ap (λ (x : ℕ). eqb x 57) h
+    go (leaf og (nothing ls)) h = ap (λ (x : ℕ). eqb x 57) h
+    go (leaf og (values rs)) h = ap (λ (x : ℕ). eqb x 57) h
+    go (over og (filter x) m) h = ap (λ (x : ℕ). eqb x 57) h
+    go (over og (other (limit x)) m) h = ap (λ (x : ℕ). eqb x 57) h
+    go (over og (other (offset x)) m) h = ap (λ (x : ℕ). eqb x 57) h
+    go (over og (other (order ks)) m) h = ap (λ (x : ℕ). eqb x 57) h
+    go (over og (other (projection is)) m) h = ap (λ (x : ℕ). eqb x 57) h
+    go (over og (other (remap ts)) m) h = ap (λ (x : ℕ). eqb x 57) h
+    go (over og (other (aggregate es gs)) m) h = ap (λ (x : ℕ). eqb x 57) h
+    go (join og outer (nested-loop q) l r) h = ap (λ (x : ℕ). eqb x 57) h
+    go (join og outer (hash i j) l r) h = ap (λ (x : ℕ). eqb x 57) h
 
 -- tests of two sides
 either-first : (a b : Bool) → true ≡ a → true ≡ (a || b)
@@ -70,157 +70,157 @@ empty-predicate (hash a b) = refl
 module _ {s : List ℕ} {lo hi : ℕ} where
   -- ---- no source
 
-  pub scan-predicate : tag-at s hi ≡ 62 → NodeAt s lo hi → OptionalAt s lo (hi - 6)
+  pub scan-predicate : tag-at s hi ≡ 62 → NodeAt s lo hi → OptionalAt s lo (hi - cell-words)
   scan-predicate z t =
-      by-scan (λ p. NodeHere s lo hi p → OptionalAt s lo (hi - 6))
-      (λ i al q u. record { predicate = q; part = own-part (leaf (scan i al q)) u {m = lo} (omega arith) }) (t .p) (tag-is (t .p) (t .here) z) (t .here)
+      by-scan (λ p. NodeHere s lo hi p → OptionalAt s lo (hi - cell-words))
+      (λ og i al q u. record { predicate = q; part = own-part (leaf og (scan i al q)) u {m = lo} (omega arith) }) (t .p) (tag-is (t .p) (t .here) z) (t .here)
 
-  pub scan-empty : tag-at s hi ≡ 62 → (r : Bool) → OptionalNever s lo (hi - 6) r → IsEmpty s lo hi r
+  pub scan-empty : tag-at s hi ≡ 62 → (r : Bool) → OptionalNever s lo (hi - cell-words) r → IsEmpty s lo hi r
   scan-empty z r f p u =
-      by-scan (λ p. NodeHere s lo hi p → r ≡ is-empty p) (λ i al q u. f q (own-part (leaf (scan i al q)) u {m = lo} (omega arith))) p (tag-is p u z) u
+      by-scan (λ p. NodeHere s lo hi p → r ≡ is-empty p) (λ og i al q u. f q (own-part (leaf og (scan i al q)) u {m = lo} (omega arith))) p (tag-is p u z) u
 
   pub nothing-empty : tag-at s hi ≡ 57 → IsEmpty s lo hi false
-  nothing-empty z p u = by-nothing (λ p. false ≡ is-empty p) (λ ls. refl) p (tag-is p u z)
+  nothing-empty z p u = by-nothing (λ p. false ≡ is-empty p) (λ og ls. refl) p (tag-is p u z)
 
-  pub list-empty : SourceCount s lo hi 0 → (tag-at s hi ≡ 62 → ⊥) → (tag-at s hi ≡ 57 → ⊥) → IsEmpty s lo hi (eqb (hi - lo) 6)
-  list-empty c y z p u = by-leaf (λ p. NodeHere s lo hi p → eqb (hi - lo) 6 ≡ is-empty p) go p (sym (c p u)) u
+  pub list-empty : SourceCount s lo hi 0 → (tag-at s hi ≡ 62 → ⊥) → (tag-at s hi ≡ 57 → ⊥) → IsEmpty s lo hi (eqb (hi - lo) cell-words)
+  list-empty c y z p u = by-leaf (λ p. NodeHere s lo hi p → eqb (hi - lo) cell-words ≡ is-empty p) go p (sym (c p u)) u
     where
-      go : (l : Leaf) → NodeHere s lo hi (leaf l) → eqb (hi - lo) 6 ≡ is-empty (leaf l)
-      go (scan i al q) u = absurd (y (node-tag (leaf (scan i al q)) u ∙ tagged (leaf (scan i al q))))
-      go (lookup x i al []) u = eq-eqb (hi - lo) 6 (omega (arith, node-long (leaf (lookup x i al [])) u))
-      go (lookup x i al (v ∷ vs)) u =
-          ne-eqb (hi - lo) 6 (λ h. omega (arith, node-long (leaf (lookup x i al (v ∷ vs))) u, all-single constant-words (λ v. refl) (v ∷ vs)))
-      go (nothing ls) u = absurd (z (node-tag (leaf (nothing ls)) u ∙ tagged (leaf (nothing ls))))
-      go (values []) u = eq-eqb (hi - lo) 6 (omega (arith, node-long (leaf (values [])) u))
-      go (values (r ∷ rs)) u =
-          ne-eqb (hi - lo) 6
-          (λ h. omega (arith, node-long (leaf (values (r ∷ rs))) u, length-append (row-words r) (all-words row-words rs), sized-long (all-words expression-words r) (cell (row-cell (length r)))))
+      go : (og : ℕ) (l : Leaf) → NodeHere s lo hi (leaf og l) → eqb (hi - lo) cell-words ≡ is-empty (leaf og l)
+      go og (scan i al q) u = absurd (y (node-tag (leaf og (scan i al q)) u ∙ tagged (leaf og (scan i al q))))
+      go og (lookup x i al []) u = eq-eqb (hi - lo) cell-words (omega (arith, node-long (leaf og (lookup x i al [])) u))
+      go og (lookup x i al (v ∷ vs)) u =
+          ne-eqb (hi - lo) cell-words (λ h. omega (arith, node-long (leaf og (lookup x i al (v ∷ vs))) u, all-single constant-words (λ v. refl) (v ∷ vs)))
+      go og (nothing ls) u = absurd (z (node-tag (leaf og (nothing ls)) u ∙ tagged (leaf og (nothing ls))))
+      go og (values []) u = eq-eqb (hi - lo) cell-words (omega (arith, node-long (leaf og (values [])) u))
+      go og (values (r ∷ rs)) u =
+          ne-eqb (hi - lo) cell-words
+          (λ h. omega (arith, node-long (leaf og (values (r ∷ rs))) u, length-append (row-words r) (all-words row-words rs), sized-long (all-words expression-words (r .0)) (cell (r .1) (row-cell (length (r .0))))))
 
   -- ---- one source
 
   pub source-told : SourceCount s lo hi 1 → {m : ℕ} → OwnStart s lo hi m → {t : ℕ} → t ≡ tag-at s m → SourceNothing s lo hi (eqb t 57)
-  source-told c own e o n u = nothing-told e n (over-source o n u (own (over o n) u))
+  source-told c own e og o n u = nothing-told e n (over-source og o n u (own (over og o n) u))
 
   module _ (z : tag-at s hi ≡ 51) where
-    pub filter-ends : NodeAt s lo hi → ExpressionEnds s (hi - 6)
+    pub filter-ends : NodeAt s lo hi → ExpressionEnds s (hi - cell-words)
     filter-ends t =
-        by-filter (λ p. NodeHere s lo hi p → ExpressionEnds s (hi - 6))
-        (λ e n u. record { lo = lo + length (source-words (over (filter e) n)); e = e; part = own-part (over (filter e) n) u refl }) (t .p) (tag-is (t .p) (t .here) z) (t .here)
+        by-filter (λ p. NodeHere s lo hi p → ExpressionEnds s (hi - cell-words))
+        (λ og e n u. record { lo = lo + length (source-words (over og (filter e) n)); e = e; part = own-part (over og (filter e) n) u refl }) (t .p) (tag-is (t .p) (t .here) z) (t .here)
 
-    pub filter-never : NeverTrue s (hi - 6) true → IsEmpty s lo hi true
+    pub filter-never : NeverTrue s (hi - cell-words) true → IsEmpty s lo hi true
     filter-never f p u =
         by-filter (λ p. NodeHere s lo hi p → true ≡ is-empty p)
-        (λ e n u. either-first (is-never (verdict e)) (is-nothing n) (f (lo + length (source-words (over (filter e) n))) e (own-part (over (filter e) n) u refl))) p (tag-is p u z) u
+        (λ og e n u. either-first (is-never (verdict e)) (is-nothing n) (f (lo + length (source-words (over og (filter e) n))) e (own-part (over og (filter e) n) u refl))) p (tag-is p u z) u
 
-    pub filter-source : NeverTrue s (hi - 6) false → (r : Bool) → SourceNothing s lo hi r → IsEmpty s lo hi r
+    pub filter-source : NeverTrue s (hi - cell-words) false → (r : Bool) → SourceNothing s lo hi r → IsEmpty s lo hi r
     filter-source f r g p u =
         by-filter (λ p. NodeHere s lo hi p → r ≡ is-empty p)
-        (λ e n u. either-second (is-never (verdict e)) (is-nothing n) (f (lo + length (source-words (over (filter e) n))) e (own-part (over (filter e) n) u refl)) (g (filter e) n u)) p (tag-is p u z) u
+        (λ og e n u. either-second (is-never (verdict e)) (is-nothing n) (f (lo + length (source-words (over og (filter e) n))) e (own-part (over og (filter e) n) u refl)) (g og (filter e) n u)) p (tag-is p u z) u
 
   module _ (z : tag-at s hi ≡ 55) {c : Cell} (e : c ≡ cell-at s hi) where
-    a-limit : (P : Node → Type 0) → ((a : ℕ) (n : Node) → c .a ≡ a % 4294967296 → c .b ≡ a / 4294967296 → P (over (other (limit a)) n)) → (p : Node) → NodeHere s lo hi p → P p
+    a-limit : (P : Node → Type 0) → ((og a : ℕ) (n : Node) → c .a ≡ a % 4294967296 → c .b ≡ a / 4294967296 → P (over og (other (limit a)) n)) → (p : Node) → NodeHere s lo hi p → P p
     a-limit P f p u =
-        by-limit (λ p. NodeHere s lo hi p → P p) (λ a n u. f a n (a-here e (over (other (limit a)) n) u) (b-here e (over (other (limit a)) n) u)) p (tag-is p u z) u
+        by-limit (λ p. NodeHere s lo hi p → P p) (λ og a n u. f og a n (a-here e (over og (other (limit a)) n) u) (b-here e (over og (other (limit a)) n) u)) p (tag-is p u z) u
 
     pub limit-empty : c .a ≡ 0 → IsEmpty s lo hi (eqb (c .b) 0)
     limit-empty h p u = a-limit (λ p. eqb (c .b) 0 ≡ is-empty p) go p u
       where
-        go : (a : ℕ) (n : Node) → c .a ≡ a % 4294967296 → c .b ≡ a / 4294967296 → eqb (c .b) 0 ≡ is-empty (over (other (limit a)) n)
-        go zero n i j = eq-eqb (c .b) 0 j
-        go (suc a) n i j = ne-eqb (c .b) 0 (λ k. omega (arith, div-add-mod' (suc a) 4294967296))
+        go : (og a : ℕ) (n : Node) → c .a ≡ a % 4294967296 → c .b ≡ a / 4294967296 → eqb (c .b) 0 ≡ is-empty (over og (other (limit a)) n)
+        go og zero n i j = eq-eqb (c .b) 0 j
+        go og (suc a) n i j = ne-eqb (c .b) 0 (λ k. omega (arith, div-add-mod' (suc a) 4294967296))
 
     pub limit-more : (c .a ≡ 0 → ⊥) → IsEmpty s lo hi false
     limit-more h p u = a-limit (λ p. false ≡ is-empty p) go p u
       where
-        go : (a : ℕ) (n : Node) → c .a ≡ a % 4294967296 → c .b ≡ a / 4294967296 → false ≡ is-empty (over (other (limit a)) n)
-        go zero n i j = absurd (h i)
-        go (suc a) n i j = refl
+        go : (og a : ℕ) (n : Node) → c .a ≡ a % 4294967296 → c .b ≡ a / 4294967296 → false ≡ is-empty (over og (other (limit a)) n)
+        go og zero n i j = absurd (h i)
+        go og (suc a) n i j = refl
 
   module _ (c : SourceCount s lo hi 1) where
-    an-over : (P : Node → Type 0) → ((o : Over) (n : Node) → NodeHere s lo hi (over o n) → tag-at s hi ≡ tag-of (over o n) → P (over o n)) → (p : Node) → NodeHere s lo hi p → P p
-    an-over P f p u = by-over (λ p. NodeHere s lo hi p → P p) (λ o n u. f o n u (node-tag (over o n) u ∙ tagged (over o n))) p (sym (c p u)) u
+    an-over : (P : Node → Type 0) → ((og : ℕ) (o : Over) (n : Node) → NodeHere s lo hi (over og o n) → tag-at s hi ≡ tag-of (over og o n) → P (over og o n)) → (p : Node) → NodeHere s lo hi p → P p
+    an-over P f p u = by-over (λ p. NodeHere s lo hi p → P p) (λ og o n u. f og o n u (node-tag (over og o n) u ∙ tagged (over og o n))) p (sym (c p u)) u
 
     pub aggregate-stays : tag-at s hi ≡ 50 → IsEmpty s lo hi false
     aggregate-stays z p u = an-over (λ p. false ≡ is-empty p) go p u
       where
-        go : (o : Over) (n : Node) → NodeHere s lo hi (over o n) → tag-at s hi ≡ tag-of (over o n) → false ≡ is-empty (over o n)
-        go (filter x) n u h = absurd (omega arith)
-        go (other (limit x)) n u h = absurd (omega arith)
-        go (other (offset x)) n u h = absurd (omega arith)
-        go (other (order ks)) n u h = absurd (omega arith)
-        go (other (projection is)) n u h = absurd (omega arith)
-        go (other (remap ts)) n u h = absurd (omega arith)
-        go (other (aggregate es gs)) n u h = refl
+        go : (og : ℕ) (o : Over) (n : Node) → NodeHere s lo hi (over og o n) → tag-at s hi ≡ tag-of (over og o n) → false ≡ is-empty (over og o n)
+        go og (filter x) n u h = absurd (omega arith)
+        go og (other (limit x)) n u h = absurd (omega arith)
+        go og (other (offset x)) n u h = absurd (omega arith)
+        go og (other (order ks)) n u h = absurd (omega arith)
+        go og (other (projection is)) n u h = absurd (omega arith)
+        go og (other (remap ts)) n u h = absurd (omega arith)
+        go og (other (aggregate es gs)) n u h = refl
 
     pub remap-stays : tag-at s hi ≡ 61 → IsEmpty s lo hi false
     remap-stays z p u = an-over (λ p. false ≡ is-empty p) go p u
       where
-        go : (o : Over) (n : Node) → NodeHere s lo hi (over o n) → tag-at s hi ≡ tag-of (over o n) → false ≡ is-empty (over o n)
-        go (filter x) n u h = absurd (omega arith)
-        go (other (limit x)) n u h = absurd (omega arith)
-        go (other (offset x)) n u h = absurd (omega arith)
-        go (other (order ks)) n u h = absurd (omega arith)
-        go (other (projection is)) n u h = absurd (omega arith)
-        go (other (remap ts)) n u h = refl
-        go (other (aggregate es gs)) n u h = absurd (omega arith)
+        go : (og : ℕ) (o : Over) (n : Node) → NodeHere s lo hi (over og o n) → tag-at s hi ≡ tag-of (over og o n) → false ≡ is-empty (over og o n)
+        go og (filter x) n u h = absurd (omega arith)
+        go og (other (limit x)) n u h = absurd (omega arith)
+        go og (other (offset x)) n u h = absurd (omega arith)
+        go og (other (order ks)) n u h = absurd (omega arith)
+        go og (other (projection is)) n u h = absurd (omega arith)
+        go og (other (remap ts)) n u h = refl
+        go og (other (aggregate es gs)) n u h = absurd (omega arith)
 
     pub source-empty : (tag-at s hi ≡ 51 → ⊥) → (tag-at s hi ≡ 55 → ⊥) → (tag-at s hi ≡ 50 → ⊥) → (tag-at s hi ≡ 61 → ⊥) → (r : Bool) → SourceNothing s lo hi r → IsEmpty s lo hi r
     source-empty a b d e r f p u = an-over (λ p. r ≡ is-empty p) go p u
       where
-        go : (o : Over) (n : Node) → NodeHere s lo hi (over o n) → tag-at s hi ≡ tag-of (over o n) → r ≡ is-empty (over o n)
-        go (filter x) n u h = absurd (a h)
-        go (other (limit x)) n u h = absurd (b h)
-        go (other (offset x)) n u h = f (other (offset x)) n u
-        go (other (order ks)) n u h = f (other (order ks)) n u
-        go (other (projection is)) n u h = f (other (projection is)) n u
-        go (other (remap ts)) n u h = absurd (e h)
-        go (other (aggregate es gs)) n u h = absurd (d h)
+        go : (og : ℕ) (o : Over) (n : Node) → NodeHere s lo hi (over og o n) → tag-at s hi ≡ tag-of (over og o n) → r ≡ is-empty (over og o n)
+        go og (filter x) n u h = absurd (a h)
+        go og (other (limit x)) n u h = absurd (b h)
+        go og (other (offset x)) n u h = f og (other (offset x)) n u
+        go og (other (order ks)) n u h = f og (other (order ks)) n u
+        go og (other (projection is)) n u h = f og (other (projection is)) n u
+        go og (other (remap ts)) n u h = absurd (e h)
+        go og (other (aggregate es gs)) n u h = absurd (d h)
 
   -- ---- two sources
 
   module _ (c : SourceCount s lo hi 2) {m : ℕ} (own : OwnStart s lo hi m) where
     a-join : (P : Node → Type 0)
-        → ((outer : Bool) (j : Join) (l r : Node) → NodeHere s lo hi (join outer j l r) → Part s m (hi - 6) (optional-words (predicate-of j)) → P (join outer j l r))
+        → ((og : ℕ) (outer : Bool) (j : Join) (l r : Node) → NodeHere s lo hi (join og outer j l r) → Part s m (hi - cell-words) (optional-words (predicate-of j)) → P (join og outer j l r))
         → (p : Node) → NodeHere s lo hi p → P p
     a-join P f p u =
         by-join (λ p. NodeHere s lo hi p → P p)
-        (λ outer j l r u. f outer j l r u
-        (subst (λ (w : List ℕ). Part s m (hi - 6) w) (own-predicate j) (own-part (join outer j l r) u (own (join outer j l r) u)))) p (sym (c p u)) u
+        (λ og outer j l r u. f og outer j l r u
+        (subst (λ (w : List ℕ). Part s m (hi - cell-words) w) (own-predicate j) (own-part (join og outer j l r) u (own (join og outer j l r) u)))) p (sym (c p u)) u
 
-    pub join-predicate : NodeAt s lo hi → OptionalAt s m (hi - 6)
-    join-predicate t = a-join (λ p. OptionalAt s m (hi - 6)) (λ outer j l r u q. record { predicate = predicate-of j; part = q }) (t .p) (t .here)
+    pub join-predicate : NodeAt s lo hi → OptionalAt s m (hi - cell-words)
+    join-predicate t = a-join (λ p. OptionalAt s m (hi - cell-words)) (λ og outer j l r u q. record { predicate = predicate-of j; part = q }) (t .p) (t .here)
 
-    pub join-never : OptionalNever s m (hi - 6) true → IsEmpty s lo hi true
+    pub join-never : OptionalNever s m (hi - cell-words) true → IsEmpty s lo hi true
     join-never f p u =
-        a-join (λ p. true ≡ is-empty p) (λ outer j l r u q. either-first (is-empty-join j) (is-nothing l || is-nothing r) (f (predicate-of j) q ∙ empty-predicate j)) p u
+        a-join (λ p. true ≡ is-empty p) (λ og outer j l r u q. either-first (is-empty-join j) (is-nothing l || is-nothing r) (f (predicate-of j) q ∙ empty-predicate j)) p u
 
-    module _ (f : OptionalNever s m (hi - 6) false) {mid : ℕ} (st : mid ≡ start-at s m) {t : ℕ} (e : t ≡ tag-at s mid) where
-      left-told : (outer : Bool) (j : Join) (l r : Node) → NodeHere s lo hi (join outer j l r) → eqb t 57 ≡ is-nothing l
-      left-told outer j l r u = nothing-told e l (join-left outer j l r u (own (join outer j l r) u) st)
+    module _ (f : OptionalNever s m (hi - cell-words) false) {mid : ℕ} (st : mid ≡ start-at s m) {t : ℕ} (e : t ≡ tag-at s mid) where
+      left-told : (og : ℕ) (outer : Bool) (j : Join) (l r : Node) → NodeHere s lo hi (join og outer j l r) → eqb t 57 ≡ is-nothing l
+      left-told og outer j l r u = nothing-told e l (join-left og outer j l r u (own (join og outer j l r) u) st)
 
       pub join-left-empty : t ≡ 57 → IsEmpty s lo hi true
       join-left-empty h p u =
           a-join (λ p. true ≡ is-empty p)
-          (λ outer j l r u q. either-second (is-empty-join j) (is-nothing l || is-nothing r) (f (predicate-of j) q ∙ empty-predicate j) (either-first (is-nothing l) (is-nothing r) (sym (eq-eqb t 57 h) ∙ left-told outer j l r u))) p u
+          (λ og outer j l r u q. either-second (is-empty-join j) (is-nothing l || is-nothing r) (f (predicate-of j) q ∙ empty-predicate j) (either-first (is-nothing l) (is-nothing r) (sym (eq-eqb t 57 h) ∙ left-told og outer j l r u))) p u
 
       pub join-right-empty : (t ≡ 57 → ⊥) → {v : ℕ} → v ≡ tag-at s m → IsEmpty s lo hi (eqb v 57)
       join-right-empty h {v} g p u =
           a-join (λ p. eqb v 57 ≡ is-empty p)
-          (λ outer j l r u q. either-second (is-empty-join j) (is-nothing l || is-nothing r) (f (predicate-of j) q ∙ empty-predicate j)
-          (either-second (is-nothing l) (is-nothing r) (sym (ne-eqb t 57 h) ∙ left-told outer j l r u) (nothing-told g r (join-right outer j l r u (own (join outer j l r) u) st)))) p u
+          (λ og outer j l r u q. either-second (is-empty-join j) (is-nothing l || is-nothing r) (f (predicate-of j) q ∙ empty-predicate j)
+          (either-second (is-nothing l) (is-nothing r) (sym (ne-eqb t 57 h) ∙ left-told og outer j l r u) (nothing-told g r (join-right og outer j l r u (own (join og outer j l r) u) st)))) p u
 
 -- ---- where the sources end
 
-pub source-end : {s : List ℕ} {lo hi m : ℕ} → SourceCount s lo hi 1 → OwnStart s lo hi m → NodeAt s lo hi → (6 ≤ m) × (m ≤ length s)
+pub source-end : {s : List ℕ} {lo hi m : ℕ} → SourceCount s lo hi 1 → OwnStart s lo hi m → NodeAt s lo hi → (cell-words ≤ m) × (m ≤ length s)
 source-end {s} {lo} {hi} {m} c own t =
-    by-over (λ p. NodeHere s lo hi p → (6 ≤ m) × (m ≤ length s))
-    (λ o n u. let (a, b) = node-in n (over-source o n u (own (over o n) u)) in (omega arith, b)) (t .p) (sym (c (t .p) (t .here))) (t .here)
+    by-over (λ p. NodeHere s lo hi p → (cell-words ≤ m) × (m ≤ length s))
+    (λ og o n u. let (a, b) = node-in n (over-source og o n u (own (over og o n) u)) in (omega arith, b)) (t .p) (sym (c (t .p) (t .here))) (t .here)
 
 pub source-ends : {s : List ℕ} {lo hi m mid : ℕ} → SourceCount s lo hi 2 → OwnStart s lo hi m → mid ≡ start-at s m → NodeAt s lo hi
-    → ((6 ≤ mid) × (mid ≤ length s)) × ((6 ≤ m) × (m ≤ length s))
+    → ((cell-words ≤ mid) × (mid ≤ length s)) × ((cell-words ≤ m) × (m ≤ length s))
 source-ends {s} {lo} {hi} {m} {mid} c own st t =
-    by-join (λ p. NodeHere s lo hi p → ((6 ≤ mid) × (mid ≤ length s)) × ((6 ≤ m) × (m ≤ length s)))
-    (λ outer j l r u.
-    let (a, b) = node-in l (join-left outer j l r u (own (join outer j l r) u) st) in
-    let (d, e) = node-in r (join-right outer j l r u (own (join outer j l r) u) st) in
+    by-join (λ p. NodeHere s lo hi p → ((cell-words ≤ mid) × (mid ≤ length s)) × ((cell-words ≤ m) × (m ≤ length s)))
+    (λ og outer j l r u.
+    let (a, b) = node-in l (join-left og outer j l r u (own (join og outer j l r) u) st) in
+    let (d, e) = node-in r (join-right og outer j l r u (own (join og outer j l r) u) st) in
     ((omega arith, b), (omega arith, e))) (t .p) (sym (c (t .p) (t .here))) (t .here)

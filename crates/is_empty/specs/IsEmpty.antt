@@ -20,7 +20,7 @@ OptionalNever s lo hi r = (e : Option Expression) → Part s lo hi (optional-wor
 
 -- r says whether the source of the node there is a Nothing.
 abbrev pub SourceNothing : List ℕ → ℕ → ℕ → Bool → Type 0
-SourceNothing s lo hi r = (o : Over) (n : Node) → NodeHere s lo hi (over o n) → r ≡ is-nothing n
+SourceNothing s lo hi r = (og : ℕ) (o : Over) (n : Node) → NodeHere s lo hi (over og o n) → r ≡ is-nothing n
 
 abbrev pub IsEmpty : List ℕ → ℕ → ℕ → Bool → Type 0
 IsEmpty s lo hi r = (p : Node) → NodeHere s lo hi p → r ≡ is-empty p

@@ -5,6 +5,7 @@ use mathlib.Core.Path.{_≡_, refl, _∙_}
 use mathlib.Core.List.{List, [], _∷_}
 use mathlib.Core.Option.{Option, none, some}
 use Rattle.sql.specs.Schema.{Schema}
+use Rattle.sql.specs.Expression.{Marked}
 use Rattle.sql.specs.Plan.{Over, filter, other, limit, offset, order, projection, remap, aggregate, Node, leaf, over, join, remap-columns, columns}
 use Rattle.sheet_laws.specs.Fits.{All, Optional}
 use Rattle.sound.specs.Sound.{Sound-over, Sound, Emits}
@@ -12,10 +13,10 @@ use Rattle.sound.specs.Keeps.{over-keeps, join-keeps}
 use Rattle.nodes.specs.Columns.{Narrow-over, Narrow}
 use Rattle.edit.specs.Edit.{Inherited}
 
-targets-narrow : (ts : List (Option ℕ)) → All (Optional (λ t. t < 256)) ts → remap-columns ts ≤ 256
+targets-narrow : (ts : List (Marked (Option ℕ))) → All (λ t. Optional (λ c. c < 256) (t .0)) ts → remap-columns ts ≤ 256
 targets-narrow [] h = omega arith
-targets-narrow (none ∷ ts) h = targets-narrow ts (h .1)
-targets-narrow (some t ∷ ts) h = omega (arith, h .0, targets-narrow ts (h .1))
+targets-narrow ((none, og) ∷ ts) h = targets-narrow ts (h .1)
+targets-narrow ((some t, og) ∷ ts) h = omega (arith, h .0, targets-narrow ts (h .1))
 
 module _ (schema : Schema) (text : List ℕ) (tables : ℕ) where
   abbrev pub Kept : Node → Node → Type 0
@@ -26,11 +27,11 @@ module _ (schema : Schema) (text : List ℕ) (tables : ℕ) where
       record {
         end = λ p q k. (k .0, refl);
         through = λ p q r k l. (l .0, l .1 ∙ k .1);
-        source = λ o n k. (k .0 .0, refl);
-        with-source = λ o n m k l. over-keeps schema text tables o n m (k .0 .1) l;
-        left = λ outer j l r k. (k .0 .0, refl);
-        right = λ outer j l r k. (k .0 .1 .0, refl);
-        with-sources = λ outer j l r m n k a b. join-keeps schema text tables outer j (columns schema l) (columns schema r) m n (k .0 .1 .1) a b;
+        source = λ og o n k. (k .0 .0, refl);
+        with-source = λ og o n m k l. over-keeps schema text tables og o n m (k .0 .1) l;
+        left = λ og outer j l r k. (k .0 .0, refl);
+        right = λ og outer j l r k. (k .0 .1 .0, refl);
+        with-sources = λ og outer j l r m n k a b. join-keeps schema text tables og outer j (columns schema l) (columns schema r) m n (k .0 .1 .1) a b;
       }
 
   over-narrow : (n : ℕ) (o : Over) → Sound-over schema text tables n o → Narrow-over o
@@ -44,6 +45,6 @@ module _ (schema : Schema) (text : List ℕ) (tables : ℕ) where
 
   -- A sound plan's columns can be counted (crate nodes, Columns).
   pub sound-narrow : (p : Node) → Sound schema text tables p → Narrow p
-  sound-narrow (leaf l) h = tt
-  sound-narrow (over o n) h = (over-narrow (columns schema n) o (h .1), sound-narrow n (h .0))
-  sound-narrow (join outer j l r) h = (sound-narrow l (h .0), sound-narrow r (h .1 .0))
+  sound-narrow (leaf og l) h = tt
+  sound-narrow (over og o n) h = (over-narrow (columns schema n) o (h .1), sound-narrow n (h .0))
+  sound-narrow (join og outer j l r) h = (sound-narrow l (h .0), sound-narrow r (h .1 .0))

@@ -17,8 +17,8 @@ use Rattle.nodes.specs.Columns.{Tables}
 use Rattle.nodes.proofs.Widths.{table-width}
 use Rattle.labels.specs.declared.Label.{Label}
 use Rattle.labels.specs.declared.Label.the-variants.{Unlabelled, Unqualified, Qualified}
-use Rattle.labels.specs.declared.Origin.{Origin}
-use Rattle.labels.specs.declared.Origin.the-variants as origin
+use Rattle.labels.specs.declared.Traced.{Traced}
+use Rattle.labels.specs.declared.Traced.the-variants as traced
 use Rattle.labels.specs.Labels.{label, alias-if, named, Traces}
 use Rattle.labels.specs.Names.{column-names, names-in, first-column, Names, NamesAt, qualifier-text, ColumnName, TableLabel, ColumnLabel}
 
@@ -130,11 +130,11 @@ labels-table t aliased alias i {q = q} {r = r} e f g schema n =
     ap (λ (m : ℕ). qualified m r) (f ∙ ap (plan.qualifier (alias-if aliased alias)) k)
     ∙ ap (λ (m : ℕ). qualified (plan.qualifier (alias-if aliased alias) (table-of schema t .name)) m) (g schema n)
 
-module _ {widths names columns s : List ℕ} {lo hi i : ℕ} {x : Origin} (f : Traces widths s lo hi i x) where
-  pub label-said-here : (l : Label) → x ≡ origin.Said l → ColumnLabel widths names columns s lo hi i l
+module _ {widths names columns s : List ℕ} {lo hi i : ℕ} {x : Traced} (f : Traces widths s lo hi i x) where
+  pub label-said-here : (l : Label) → x ≡ traced.Said l → ColumnLabel widths names columns s lo hi i l
   label-said-here l e schema p n u = ap (named schema) (sym e) ∙ f schema p (n .tables) u
 
-  pub label-of-column : (t : ℕ) (aliased : Bool) (alias c : ℕ) → x ≡ origin.Column t aliased alias c → (r : Label)
+  pub label-of-column : (t : ℕ) (aliased : Bool) (alias c : ℕ) → x ≡ traced.Column t aliased alias c → (r : Label)
       → TableLabel widths names columns t aliased alias c r → ColumnLabel widths names columns s lo hi i r
   label-of-column t aliased alias c e r g schema p n u = g schema n ∙ ap (named schema) (sym e) ∙ f schema p (n .tables) u
 

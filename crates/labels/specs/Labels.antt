@@ -19,8 +19,8 @@ use Rattle.labels.specs.declared.Label.{Label}
 use Rattle.labels.specs.declared.Label.the-variants.{Unlabelled, Unqualified, Qualified}
 use Rattle.labels.specs.declared.Route.{Route}
 use Rattle.labels.specs.declared.Route.the-variants.{To, Ends}
-use Rattle.labels.specs.declared.Origin.{Origin}
-use Rattle.labels.specs.declared.Origin.the-variants.{Said, Column}
+use Rattle.labels.specs.declared.Traced.{Traced}
+use Rattle.labels.specs.declared.Traced.the-variants.{Said, Column}
 use Rattle.labels.specs.declared.Spot.{Spot}
 use Rattle.labels.specs.declared.Next.{Next}
 use Rattle.labels.specs.declared.Next.the-variants.{Done, More}
@@ -37,8 +37,8 @@ abbrev pub alias-if : Bool → ℕ → Option ℕ
 alias-if true r = some r
 alias-if false r = none
 
--- a label by its origin
-abbrev pub named : Schema → Origin → plan.Label
+-- a label by what it comes from
+abbrev pub named : Schema → Traced → plan.Label
 named schema (Said l) = label l
 named schema (Column t aliased alias i) = table-label schema t (alias-if aliased alias) i
 
@@ -50,7 +50,7 @@ routed-by source (Ends l) = label l
 -- ---- contracts
 
 abbrev pub Labelled : (flag a b : ℕ) → Label → Type 0
-Labelled flag a b r = label r ≡ label-of (record { tag = 0; flag = flag; zeros = 0; a = a; b = b; c = 0 })
+Labelled flag a b r = label r ≡ label-of (record { tag = 0; flag = flag; origin = 0; a = a; b = b; c = 0 })
 
 pub record ExpressionEnds (s : List ℕ) (hi : ℕ) : Type 0 where
   pub lo : ℕ
@@ -62,25 +62,25 @@ ExpressionRoute s hi r = (source : ℕ → plan.Label) (lo : ℕ) (e : Expressio
 
 pub record ItemEnds (s : List ℕ) (hi : ℕ) : Type 0 where
   pub lo : ℕ
-  pub item : Expression × plan.Label
+  pub item : Expression × plan.Label × ℕ
   pub part : Part s lo hi (item-words item)
 
 abbrev pub ItemRoute : List ℕ → ℕ → Route → Type 0
-ItemRoute s hi r = (source : ℕ → plan.Label) (lo : ℕ) (item : Expression × plan.Label) → Part s lo hi (item-words item) → routed-by source r ≡ item-label source item
+ItemRoute s hi r = (source : ℕ → plan.Label) (lo : ℕ) (item : Expression × plan.Label × ℕ) → Part s lo hi (item-words item) → routed-by source r ≡ item-label source item
 
 pub record TargetsUp (s : List ℕ) (lo hi : ℕ) : Type 0 where
-  pub targets : List (Option ℕ)
+  pub targets : List (Option ℕ × ℕ)
   pub part : Part s lo hi (all-words target-words targets)
 
 abbrev pub RemapRoute : List ℕ → ℕ → ℕ → ℕ → Route → Type 0
 RemapRoute s lo hi i r =
-    (source : ℕ → plan.Label) (targets : List (Option ℕ)) → Part s lo hi (all-words target-words targets)
+    (source : ℕ → plan.Label) (targets : List (Option ℕ × ℕ)) → Part s lo hi (all-words target-words targets)
     → routed-by source r ≡ optional-label source (remap-source 0 targets i)
 
 -- r is the route of column i of the node there, if that is over a source and no Filter.
 abbrev pub Routes : List ℕ → ℕ → ℕ → ℕ → Route → Type 0
 Routes s lo hi i r =
-    (source : ℕ → plan.Label) (o : Other) (n : Node) → NodeHere s lo hi (over (other o) n) → routed-by source r ≡ other-label o source i
+    (source : ℕ → plan.Label) (og : ℕ) (o : Other) (n : Node) → NodeHere s lo hi (over og (other o) n) → routed-by source r ≡ other-label o source i
 
 -- whether a cell of a Scan (bit 1 of its flag) or of a lookup says an alias
 abbrev pub is-aliased : (tag flag : ℕ) → Bool
@@ -90,9 +90,9 @@ is-aliased tag flag = cond (eqb tag Tags.scan) (leb 2 flag) (leb 1 flag)
 abbrev pub says-columns : ℕ → Bool
 says-columns tag = eqb tag Tags.aggregate || leb Tags.projection tag
 
--- r is the origin of column i's label of the node there, if that has no source.
-abbrev pub LeafOrigin : List ℕ → ℕ → ℕ → ℕ → Origin → Type 0
-LeafOrigin s lo hi i r = (schema : Schema) (l : Leaf) → NodeHere s lo hi (leaf l) → named schema r ≡ leaf-label schema l i
+-- r is what column i's label of the node there comes from, if that has no source.
+abbrev pub LeafTraced : List ℕ → ℕ → ℕ → ℕ → Traced → Type 0
+LeafTraced s lo hi i r = (schema : Schema) (og : ℕ) (l : Leaf) → NodeHere s lo hi (leaf og l) → named schema r ≡ leaf-label schema l i
 
 -- p has w columns, where that is asked for: if its columns are those of its sources.
 abbrev pub Asked : Schema → Node → ℕ → Type 0
@@ -110,11 +110,11 @@ pub record CountedAt (widths s : List ℕ) (lo hi w : ℕ) : Type 0 where
 -- r is the number of columns of the left source of the node there, which has w columns.
 abbrev pub LeftColumns : (widths s : List ℕ) (lo hi w r : ℕ) → Type 0
 LeftColumns widths s lo hi w r =
-    (schema : Schema) (outer : Bool) (j : Join) (left right : Node) → Tables schema widths → NodeHere s lo hi (join outer j left right)
+    (schema : Schema) (og : ℕ) (outer : Bool) (j : Join) (left right : Node) → Tables schema widths → NodeHere s lo hi (join og outer j left right)
     → w ≡ columns schema left + columns schema right → r ≡ columns schema left
 
 -- r is what the label of column i of the node there comes from.
-abbrev pub Traces : List ℕ → List ℕ → ℕ → ℕ → ℕ → Origin → Type 0
+abbrev pub Traces : List ℕ → List ℕ → ℕ → ℕ → ℕ → Traced → Type 0
 Traces widths s lo hi i r = (schema : Schema) (p : Node) → Tables schema widths → NodeHere s lo hi p → named schema r ≡ column-label schema p i
 
 -- Column i of p has the label of column c of the node from lo to hi, which has w columns, where that is asked for.

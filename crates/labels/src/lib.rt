@@ -11,7 +11,7 @@ ghost use Rattle.words.specs.Place.{NodeAt};
 ghost use Rattle.nodes.specs.Own.{OwnStart, SourceCount};
 ghost use Rattle.nodes.specs.Columns.{ColumnsAt, ColumnCount};
 ghost use Rattle.labels.specs.Names.{first-column, NamesAt, ColumnName, TableLabel, qualifier-text, ColumnLabel};
-ghost use Rattle.labels.specs.Labels.{Labelled, ExpressionRoute, ExpressionEnds, ItemRoute, ItemEnds, RemapRoute, TargetsUp, Routes, alias-if, is-aliased, says-columns, LeafOrigin, AskedCount, CountedAt, LeftColumns, Steps, Traces};
+ghost use Rattle.labels.specs.Labels.{Labelled, ExpressionRoute, ExpressionEnds, ItemRoute, ItemEnds, RemapRoute, TargetsUp, Routes, alias-if, is-aliased, says-columns, LeafTraced, AskedCount, CountedAt, LeftColumns, Steps, Traces};
 
 // The label of a column: none, a name, or a name behind its qualifier, a table's name or alias; all are text references.
 pub enum Label {
@@ -27,7 +27,7 @@ pub enum Route {
 }
 
 // What a label comes from: a node that says it; or a table's column: the table, whether there is an alias, the alias, and the column.
-pub enum Origin {
+pub enum Traced {
     Said(Label),
     Column(usize, bool, u32, usize),
 }
@@ -42,7 +42,7 @@ pub struct Spot {
 
 // One step of looking for a label: it is found, or it is that of another column.
 pub enum Next {
-    Done(Origin),
+    Done(Traced),
     More(Spot),
 }
 
@@ -172,23 +172,23 @@ fn aliased(tag: u32, flag: u32) -> bool
 }
 
 // What the label of column i of a node without sources comes from.
-fn leaf_origin(s: &[u32], lo: usize, hi: usize, i: usize) -> Origin
+fn leaf_traced(s: &[u32], lo: usize, hi: usize, i: usize) -> Traced
     requires { ⌜ NodeAt (now s) lo hi ⌝ }
     requires { ⌜ SourceCount (now s) lo hi 0 ⌝ }
-    ensures { λ r. ⌜ LeafOrigin (now (s .entry)) lo hi i r ⌝ }
+    ensures { λ r. ⌜ LeafTraced (now (s .entry)) lo hi i r ⌝ }
 {
     let c = cells::cell_at(s, hi);
     if c.tag == tags::NOTHING {
         if c.a as usize <= i {
-            return Origin::Said(Label::Unlabelled);
+            return Traced::Said(Label::Unlabelled);
         }
         let k = cells::cell_at(s, lo + cells::CELL_WORDS * i + cells::CELL_WORDS);
-        return Origin::Said(label_in(k.flag, k.a, k.b));
+        return Traced::Said(label_in(k.flag, k.a, k.b));
     }
     if c.tag == tags::VALUES {
-        return Origin::Said(Label::Unlabelled);
+        return Traced::Said(Label::Unlabelled);
     }
-    Origin::Column(c.a as usize, aliased(c.tag, c.flag), c.b, i)
+    Traced::Column(c.a as usize, aliased(c.tag, c.flag), c.b, i)
 }
 
 // Whether a node with this tag says its columns itself: an Aggregate, a Projection, a Remap, a Scan or a Values. A leaf of another tag isn't asked.
@@ -233,7 +233,7 @@ fn next_over(
         let route = own_route(s, lo, hi, m, i);
         match route {
             Route::Ends(l) => {
-                return Next::Done(Origin::Said(l));
+                return Next::Done(Traced::Said(l));
             }
             Route::To(j) => {
                 let n = columns_for(s, lo, m, widths);
@@ -318,7 +318,7 @@ fn next_of(s: &[u32], lo: usize, hi: usize, i: usize, w: usize, widths: &[usize]
 {
     let n = nodes::source_count(s, lo, hi);
     if n == 0 {
-        return Next::Done(leaf_origin(s, lo, hi, i));
+        return Next::Done(leaf_traced(s, lo, hi, i));
     }
     let m = nodes::own_start(s, lo, hi);
     if n == 1 {
@@ -328,7 +328,7 @@ fn next_of(s: &[u32], lo: usize, hi: usize, i: usize, w: usize, widths: &[usize]
 }
 
 // What the label of column i of the node from lo to hi comes from; the node has w columns.
-fn trace(s: &[u32], lo: usize, hi: usize, i: usize, w: usize, widths: &[usize]) -> Origin
+fn trace(s: &[u32], lo: usize, hi: usize, i: usize, w: usize, widths: &[usize]) -> Traced
     requires { ⌜ ColumnsAt (now widths) (now s) lo hi ⌝ }
     requires { ⌜ ColumnCount (now widths) (now s) lo hi w ⌝ }
     ensures { λ r. ⌜ Traces (now (widths .entry)) (now (s .entry)) lo hi i r ⌝ }
@@ -340,8 +340,8 @@ fn trace(s: &[u32], lo: usize, hi: usize, i: usize, w: usize, widths: &[usize]) 
     loop {
         let step = next_of(s, start, end, column, columns, widths);
         match step {
-            Next::Done(origin) => {
-                return origin;
+            Next::Done(traced) => {
+                return traced;
             }
             Next::More(spot) => {
                 start = spot.lo;
@@ -451,10 +451,10 @@ pub fn column_label(
     requires { ⌜ NamesAt (now widths) (now names) (now columns) ⌝ }
     ensures { λ r. ⌜ ColumnLabel (now (widths .entry)) (now (names .entry)) (now (columns .entry)) (now (s .entry)) lo hi i r ⌝ }
 {
-    let origin = trace(s, lo, hi, i, w, widths);
-    match origin {
-        Origin::Said(l) => l,
-        Origin::Column(t, aliased, alias, c) => {
+    let traced = trace(s, lo, hi, i, w, widths);
+    match traced {
+        Traced::Said(l) => l,
+        Traced::Column(t, aliased, alias, c) => {
             table_label(t, aliased, alias, c, widths, names, columns)
         }
     }

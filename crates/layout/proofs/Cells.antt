@@ -13,8 +13,8 @@ use borrow.Author.Tests.{lt-ltb, le-ltb, eq-eqb, ne-eqb, eqb-true}
 use Rattle.value.specs.Value.{the-nan}
 use Rattle.sql.specs.Plan.{up-to}
 use Rattle.sql.specs.Ranges.{same-in}
-use Rattle.sheet.specs.Parts.{first-failing, table-count, tables-at}
-use Rattle.sheet.specs.Cell.{Field, Tag, table, text, unknown, not-carried, carried, tags, tag-of, field-ok, fields-ok, wide, float-ok, cell-ok, bad-cell, bad-number}
+use Rattle.sheet.specs.Parts.{edition, edition-ok, first-failing, table-count, tables-at}
+use Rattle.sheet.specs.Cell.{Field, Tag, table, text, unknown, not-carried, carried, tags, tag-of, field-ok, fields-ok, wide, float-ok, cell-ok, bad-cell, bad-number, origins}
 use Rattle.sheet.specs.Cell as Sheet
 use Rattle.layout.specs.declared.Cell.{Cell}
 use Rattle.layout.specs.declared.Parts.{Parts}
@@ -40,6 +40,23 @@ past (x ∷ l) (suc t) h = past l t (omega arith)
 pub row-past : (t : ℕ) → 64 ≤ t → tag-from 0 ≡ tag-of t
 unfolding tag-of tag-from
 row-past t h = past tags t h
+
+-- ---- editions
+
+module _ (s : List ℕ) {e : ℕ} (h : e ≡ edition s) where
+  pub first-edition : e ≡ 1 → true ≡ edition-ok s
+  unfolding edition-ok
+  first-edition k = ap (λ (b : Bool). b || eqb (edition s) 2) (sym (eq-eqb (edition s) 1 (sym h ∙ k)))
+
+  pub second-edition : (e ≡ 1 → ⊥) → eqb e 2 ≡ edition-ok s
+  unfolding edition-ok
+  second-edition k = ap (λ (n : ℕ). eqb n 2) h ∙ ap (λ (b : Bool). b || eqb (edition s) 2) (sym (ne-eqb (edition s) 1 (λ q. k (h ∙ q))))
+
+  pub one-origin : e ≡ 1 → 1 ≡ origins s
+  one-origin k = ap (λ (b : Bool). cond b 1 65536) (sym (eq-eqb (edition s) 1 (sym h ∙ k)))
+
+  pub every-origin : (e ≡ 1 → ⊥) → 65536 ≡ origins s
+  every-origin k = ap (λ (b : Bool). cond b 1 65536) (sym (ne-eqb (edition s) 1 (λ q. k (h ∙ q))))
 
 -- ---- fields
 
@@ -67,13 +84,13 @@ pub not-chosen : {b : Bool} (x y : Bool) → b ≡ false → y ≡ cond b x y
 not-chosen x y e = ap (λ (b : Bool). cond b x y) (sym e)
 
 -- What a row allows, by its digits. A row of no flags allows nothing.
-row-allows : (bytes tables : ℕ) (k : Sheet.Cell) (flags : ℕ) (a b c : Field) (p q : Bool)
+row-allows : (origins bytes tables : ℕ) (k : Sheet.Cell) (flags : ℕ) (a b c : Field) (p q : Bool)
     → (p ≡ true → flags ≡ 0)
     → (q ≡ true → flags ≡ 0)
-    → fields-ok bytes tables k (carried flags a b c) ≡ fields-ok bytes tables k (cond p unknown (cond q not-carried (carried flags a b c)))
-row-allows bytes tables k flags a b c true q e f = let z = e refl in sym (fails _ (le-ltb (k .flag) flags (omega arith)))
-row-allows bytes tables k flags a b c false true e f = let z = f refl in sym (fails _ (le-ltb (k .flag) flags (omega arith)))
-row-allows bytes tables k flags a b c false false e f = refl
+    → fields-ok origins bytes tables k (carried flags a b c) ≡ fields-ok origins bytes tables k (cond p unknown (cond q not-carried (carried flags a b c)))
+row-allows origins bytes tables k flags a b c true q e f = let z = e refl in sym (fails _ (le-ltb (k .flag) flags (omega arith)))
+row-allows origins bytes tables k flags a b c false true e f = let z = f refl in sym (fails _ (le-ltb (k .flag) flags (omega arith)))
+row-allows origins bytes tables k flags a b c false false e f = refl
 
 none-unknown : (row : ℕ) → eqb row 0 ≡ true → row % 16 ≡ 0
 none-unknown row e = let h = eqb-true row 0 e in omega arith
@@ -81,24 +98,24 @@ none-unknown row e = let h = eqb-true row 0 e in omega arith
 none-not-carried : (row : ℕ) → eqb row 16 ≡ true → row % 16 ≡ 0
 none-not-carried row e = let h = eqb-true row 16 e in omega arith
 
-pub row-fields : (bytes tables : ℕ) (k : Sheet.Cell) (row : ℕ)
-    → fields-ok bytes tables k (carried (row % 16) (field-of (row / 16 % 16)) (field-of (row / 256 % 16)) (field-of (row / 4096))) ≡ fields-ok bytes tables k (tag-from row)
+pub row-fields : (origins bytes tables : ℕ) (k : Sheet.Cell) (row : ℕ)
+    → fields-ok origins bytes tables k (carried (row % 16) (field-of (row / 16 % 16)) (field-of (row / 256 % 16)) (field-of (row / 4096))) ≡ fields-ok origins bytes tables k (tag-from row)
 unfolding tag-from
-row-fields bytes tables k row = row-allows bytes tables k _ _ _ _ (eqb row 0) (eqb row 16) (none-unknown row) (none-not-carried row)
+row-fields origins bytes tables k row = row-allows origins bytes tables k _ _ _ _ (eqb row 0) (eqb row 16) (none-unknown row) (none-not-carried row)
 
-pub fields-tested : (bytes tables : ℕ) (k : Cell) (row : ℕ) {a b c d e f g : Bool}
+pub fields-tested : (origins bytes tables : ℕ) (k : Cell) (row : ℕ) {a b c d e f g : Bool}
     → tag-from row ≡ tag-of (k .tag)
     → a ≡ field-ok bytes tables (k .flag) (field-of (row / 16 % 16)) (k .a)
     → b ≡ field-ok bytes tables (k .flag) (field-of (row / 256 % 16)) (k .b)
     → c ≡ field-ok bytes tables (k .flag) (field-of (row / 4096)) (k .c)
     → d ≡ (b && c)
     → e ≡ (a && d)
-    → f ≡ (eqb (k .zeros) 0 && e)
+    → f ≡ (ltb (k .origin) origins && e)
     → g ≡ (ltb (k .flag) (row % 16) && f)
-    → g ≡ fields-ok bytes tables (as-cell k) (tag-of (k .tag))
-fields-tested bytes tables k row {a} {b} {c} {d} {e} {f} {g} h ea eb ec ed ee ef eg =
-    let q : g ≡ fields-ok bytes tables (as-cell k) (carried (row % 16) (field-of (row / 16 % 16)) (field-of (row / 256 % 16)) (field-of (row / 4096))) = cc in
-    q ∙ row-fields bytes tables (as-cell k) row ∙ ap (fields-ok bytes tables (as-cell k)) h
+    → g ≡ fields-ok origins bytes tables (as-cell k) (tag-of (k .tag))
+fields-tested origins bytes tables k row {a} {b} {c} {d} {e} {f} {g} h ea eb ec ed ee ef eg =
+    let q : g ≡ fields-ok origins bytes tables (as-cell k) (carried (row % 16) (field-of (row / 16 % 16)) (field-of (row / 256 % 16)) (field-of (row / 4096))) = cc in
+    q ∙ row-fields origins bytes tables (as-cell k) row ∙ ap (fields-ok origins bytes tables (as-cell k)) h
 
 -- ---- Floats
 
@@ -123,26 +140,26 @@ module _ (k : Cell) where
         or-right _ (ap not (eq-eqb _ _ t))
         (or-right _ (ap not (nanBits-above Ieee.binary64 (wide (k .a) (k .b)) ∙ lt-ltb _ _ h)) refl)
 
-pub cell-tested : (bytes tables : ℕ) (k : Cell) {a b c : Bool}
-    → a ≡ fields-ok bytes tables (as-cell k) (tag-of (k .tag))
+pub cell-tested : (origins bytes tables : ℕ) (k : Cell) {a b c : Bool}
+    → a ≡ fields-ok origins bytes tables (as-cell k) (tag-of (k .tag))
     → b ≡ float-ok (as-cell k)
     → c ≡ (a && b)
-    → c ≡ cell-ok bytes tables (as-cell k)
+    → c ≡ cell-ok origins bytes tables (as-cell k)
 unfolding cell-ok
-cell-tested bytes tables k ea eb ec = cc
+cell-tested origins bytes tables k ea eb ec = cc
 
 -- ---- the walk
 
 -- The test of cell i, as `bad-cell` has it.
 abbrev pub cell-test : List ℕ → ℕ → Bool
-cell-test s i = cell-ok (tables-at s) (table-count s) (Sheet.cell s i)
+cell-test s i = cell-ok (origins s) (tables-at s) (table-count s) (Sheet.cell s i)
 
 module _ {s : List ℕ} {p : Parts} (g : Laid s p) where
-  pub tested : {k : Cell} (i : ℕ) {r b : Bool} → IsCell (Sheet.cell-from s (p .cells .at + i * 16)) k
-      → r ≡ cell-ok (p .tables .at) (p .tables .count) (as-cell k)
+  pub tested : {k : Cell} (i : ℕ) {few : ℕ} {r b : Bool} → few ≡ origins s → IsCell (Sheet.cell-from s (p .cells .at + i * 16)) k
+      → r ≡ cell-ok few (p .tables .at) (p .tables .count) (as-cell k)
       → r ≡ b
       → cell-test s i ≡ b
-  tested {k} i {r} {b} h e f = let q = cell-there i g h .is in let m : r ≡ cell-test s i = cc (text-is g, tables-are g) in sym m ∙ f
+  tested {k} i {few} {r} {b} o h e f = let q = cell-there i g h .is in let m : r ≡ cell-test s i = cc (text-is g, tables-are g) in sym m ∙ f
 
   pub cells-walked : {o : Option ℕ} → o ≡ first-failing (cell-test s) 0 (p .cells .count) → o ≡ bad-cell s
   unfolding bad-cell

@@ -10,7 +10,7 @@ use borrow.Author.Tests.{lt-ltb, le-ltb, leb-true, ltb-true, eqb-true}
 use Rattle.value.specs.Meaning.{offset, text-length}
 use Rattle.sheet.specs.Bytes.{byte, half, word}
 use Rattle.sheet.specs.Parts.{tables-at, table-count, column-count, cell-count, inside, table-name, first-column, columns-of, key-of, columns-before, table-ok, column-name, kind-of, index-mark, column-ok, record-ok, bad-record}
-use Rattle.sheet.specs.Cell.{Cell, cell, tag-of, fields-ok, float-ok, cell-ok, bad-cell}
+use Rattle.sheet.specs.Cell.{origins, Cell, cell, tag-of, fields-ok, float-ok, cell-ok, bad-cell}
 use Rattle.layout.proofs.Failing.{none-fails, one-fails}
 use Rattle.layout.proofs.Laws.{and-left, and-right}
 use Rattle.layout.proofs.Cells.{cell-test}
@@ -91,7 +91,7 @@ module _ (s : List ℕ) where
 
   -- ---- cells
 
-  pub cells-pass : bad-cell s ≡ none → (i : ℕ) → i < cell-count s → cell-ok (tables-at s) (table-count s) (cell s i) ≡ true
+  pub cells-pass : bad-cell s ≡ none → (i : ℕ) → i < cell-count s → cell-ok (origins s) (tables-at s) (table-count s) (cell s i) ≡ true
   unfolding bad-cell
   cells-pass e i h = none-fails (cell-test s) 0 (cell-count s) e i (omega arith) (omega arith)
 
@@ -100,10 +100,10 @@ module _ (s : List ℕ) where
   bad-cell-within e = let f = one-fails (cell-test s) 0 (cell-count s) e in omega (arith, f .below)
 
 -- A cell that passes has what its tag allows in its fields; a Float is no NaN but the one.
-pub fields-pass : (bytes tables : ℕ) (k : Cell) → cell-ok bytes tables k ≡ true → fields-ok bytes tables k (tag-of (k .tag)) ≡ true
+pub fields-pass : (origins bytes tables : ℕ) (k : Cell) → cell-ok origins bytes tables k ≡ true → fields-ok origins bytes tables k (tag-of (k .tag)) ≡ true
 unfolding cell-ok
-fields-pass bytes tables k e = and-left (fields-ok bytes tables k (tag-of (k .tag))) _ e
+fields-pass origins bytes tables k e = and-left (fields-ok origins bytes tables k (tag-of (k .tag))) _ e
 
-pub float-pass : (bytes tables : ℕ) (k : Cell) → cell-ok bytes tables k ≡ true → float-ok k ≡ true
+pub float-pass : (origins bytes tables : ℕ) (k : Cell) → cell-ok origins bytes tables k ≡ true → float-ok k ≡ true
 unfolding cell-ok
-float-pass bytes tables k e = and-right (fields-ok bytes tables k (tag-of (k .tag))) _ e
+float-pass origins bytes tables k e = and-right (fields-ok origins bytes tables k (tag-of (k .tag))) _ e

@@ -368,13 +368,13 @@ pub cell-holds : (s : List ℕ) (i : ℕ) {x y z a b c : ℕ}
     → Number 4294967296 (word s (i + 4)) a
     → Number 4294967296 (word s (i + 8)) b
     → Number 4294967296 (word s (i + 12)) c
-    → IsCell (Sheet.cell-from s i) (record { tag = x; flag = y; zeros = z; a = a; b = b; c = c })
+    → IsCell (Sheet.cell-from s i) (record { tag = x; flag = y; origin = z; a = a; b = b; c = c })
 cell-holds s i x y z a b c =
     record {
       is = cc (x .is, y .is, z .is, a .is, b .is, c .is);
       tag-small = x .small;
       flag-small = y .small;
-      zeros-small = z .small;
+      origin-small = z .small;
       a-small = a .small;
       b-small = b .small;
       c-small = c .small;

@@ -89,14 +89,14 @@ bad-column s = first-failing (record-ok s) (table-count s) (column-count s)
 
 -- A cell of the code, as the definitions have it.
 abbrev pub as-cell : Cell → Sheet.Cell
-as-cell k = record { tag = k .tag; flag = k .flag; zeros = k .zeros; a = k .a; b = k .b; c = k .c }
+as-cell k = record { tag = k .tag; flag = k .flag; origin = k .origin; a = k .a; b = k .b; c = k .c }
 
 -- k is the cell x, and its fields are bytes, a half and words.
 pub record IsCell (x : Sheet.Cell) (k : Cell) : Type 0 where
   pub is : as-cell k ≡ x
   pub tag-small : k .tag < 256
   pub flag-small : k .flag < 256
-  pub zeros-small : k .zeros < 65536
+  pub origin-small : k .origin < 65536
   pub a-small : k .a < 4294967296
   pub b-small : k .b < 4294967296
   pub c-small : k .c < 4294967296

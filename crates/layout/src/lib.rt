@@ -7,7 +7,7 @@ ghost use lib.ListN.{length};
 ghost use Rattle.sheet.specs.Bytes.{byte, half, word};
 ghost use Rattle.sheet.specs.Parts.{length-ok, edition-ok, records-ok, parts-ok, table-count, column-count, cell-count, columns-before, table-ok, bad-record};
 ghost use Rattle.sheet.specs.Parts as Sheet;
-ghost use Rattle.sheet.specs.Cell.{cell, cell-from, tag-of, field-ok, fields-ok, float-ok, cell-ok, bad-cell, bad-number};
+ghost use Rattle.sheet.specs.Cell.{cell, cell-from, origins, tag-of, field-ok, fields-ok, float-ok, cell-ok, bad-cell, bad-number};
 ghost use Rattle.layout.specs.Layout.{Number, Whole, Laid, IsTable, IsCell, IsColumn, table-from, table-at, column-from, column-at, column-fields-ok, bad-column, as-cell, found};
 ghost use Rattle.layout.specs.Row.{field-of, tag-from};
 
@@ -86,7 +86,19 @@ pub fn edition_ok(s: &[u8]) -> bool
     requires { ⌜ length-ok (now s) ≡ true ⌝ }
     ensures { λ r. ⌜ r ≡ edition-ok (now (s .entry)) ⌝ }
 {
-    word_from_end(s, 8) == 1
+    let edition = word_from_end(s, 8);
+    if edition == 1 {
+        return true;
+    }
+    edition == 2
+}
+
+// How many origins there are for a cell, counted from 0: an edition 1 sheet has 0 alone.
+fn origins_of(s: &[u8]) -> usize
+    requires { ⌜ length-ok (now s) ≡ true ⌝ }
+    ensures { λ r. ⌜ r ≡ origins (now (s .entry)) ⌝ }
+{
+    if word_from_end(s, 8) == 1 { 1 } else { 65536 }
 }
 
 // From a byte up to another there are whole records, at least `few` and at most `many`.
@@ -322,11 +334,11 @@ pub fn bad_record(s: &[u8]) -> Found
 
 // ---- cells
 
-// A cell: tag, flag, two zeros, and the numbers a, b, c.
+// A cell: tag, flag, origin, and the numbers a, b, c.
 pub struct Cell {
     pub tag: u32,
     pub flag: usize,
-    pub zeros: usize,
+    pub origin: usize,
     pub a: usize,
     pub b: usize,
     pub c: usize,
@@ -340,7 +352,7 @@ pub fn cell_from(s: &[u8], i: usize) -> Cell
     Cell {
         tag: tag_at(s, i),
         flag: byte_at(s, i + 1),
-        zeros: half_at(s, i + 2),
+        origin: half_at(s, i + 2),
         a: word_at(s, i + 4),
         b: word_at(s, i + 8),
         c: word_at(s, i + 12),
@@ -501,15 +513,18 @@ fn field_ok(text: usize, tables: usize, flag: usize, code: usize, v: usize) -> b
     }
 }
 
-// A cell has what its tag allows in the flag, the two zeros and the fields. `text` is the length of the text, `tables` the number of tables.
-fn fields_ok(text: usize, tables: usize, k: Cell) -> bool
-    ensures { λ r. ⌜ r ≡ fields-ok text tables (as-cell k) (tag-of (k .tag)) ⌝ }
+// A cell has what its tag allows in the flag and the fields, and one of the sheet's origins. `text` is the length of the text, `tables` the number of tables.
+fn fields_ok(origins: usize, text: usize, tables: usize, k: Cell) -> bool
+    ensures { λ r. ⌜ r ≡ fields-ok origins text tables (as-cell k) (tag-of (k .tag)) ⌝ }
 {
     let row = row_of(k.tag);
     let a = field_ok(text, tables, k.flag, row / 16 % 16, k.a);
     let b = field_ok(text, tables, k.flag, row / 256 % 16, k.b);
     let c = field_ok(text, tables, k.flag, row / 4096, k.c);
-    both(k.flag < row % 16, both(k.zeros == 0, both(a, both(b, c))))
+    both(
+        k.flag < row % 16,
+        both(k.origin < origins, both(a, both(b, c))),
+    )
 }
 
 // A Float is no NaN but the one that a sheet may hold. With the sign's bit taken off, a NaN is above the infinity.
@@ -528,11 +543,11 @@ fn float_ok(k: Cell) -> bool
 }
 
 // A cell is as it should be.
-fn cell_ok(text: usize, tables: usize, k: Cell) -> bool
+fn cell_ok(origins: usize, text: usize, tables: usize, k: Cell) -> bool
     requires { ⌜ (k .a < 4294967296) × (k .b < 4294967296) ⌝ }
-    ensures { λ r. ⌜ r ≡ cell-ok text tables (as-cell k) ⌝ }
+    ensures { λ r. ⌜ r ≡ cell-ok origins text tables (as-cell k) ⌝ }
 {
-    both(fields_ok(text, tables, k), float_ok(k))
+    both(fields_ok(origins, text, tables, k), float_ok(k))
 }
 
 // Refusals 6 and 7: the lowest cell that breaks its layout.
@@ -542,10 +557,11 @@ pub fn bad_cell(s: &[u8]) -> Found
 {
     let p = parts_of(s);
     let count = p.cells.count;
+    let origins = origins_of(s);
     let mut i: usize = 0;
     while i < count {
         let k = cell_from(s, p.cells.at + i * 16);
-        if !cell_ok(p.tables.at, p.tables.count, k) {
+        if !cell_ok(origins, p.tables.at, p.tables.count, k) {
             return Found::At(i);
         }
         i += 1;

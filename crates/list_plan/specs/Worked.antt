@@ -90,45 +90,45 @@ P4 = record {
 
 abbrev pub P5 : Worked
 P5 = record {
-  given = expression (into-nnf (not (not (not (and A B))))) ∷ [];
-  said = expression (not (and A B)) ∷ [];
+  given = expression (into-nnf (not 0 (not 0 (not 0 (and 0 A B))))) ∷ [];
+  said = expression (not 0 (and 0 A B)) ∷ [];
 }
 
 abbrev pub P6 : Worked
 P6 = record {
-  given = conjuncts (into-cnf-vec (or (or (and A B) C) D)) ∷ [];
-  said = conjuncts (or (and (or A C) (or B C)) D ∷ []) ∷ [];
+  given = conjuncts (into-cnf-vec (or 0 (or 0 (and 0 A B) C) D)) ∷ [];
+  said = conjuncts (or 0 (and 0 (or 0 A C) (or 0 B C)) D ∷ []) ∷ [];
 }
 
 abbrev P7-join : Expression → Node → Node
-P7-join predicate right = join false (nested-loop (some predicate)) (one-row (number 1 ∷ [])) right
+P7-join predicate right = join 0 false (nested-loop (some predicate)) (one-row (number 1 ∷ [])) right
 
 abbrev pub P7 : Worked
 P7 = record {
-  given = after-pass 2 (over (filter (equals A (number 5))) (P7-join (equals A B) scanned)) ∷ [];
+  given = after-pass 2 (over 0 (filter (equals A (number 5))) (P7-join (equals A B) scanned)) ∷ [];
   said =
-      plan (done (P7-join (and (equals A B) (equals A (number 5))) (leaf (scan 0 none (some (and (equals A (number 5)) (equals A (number 5))))))))
+      plan (done (P7-join (and 0 (equals A B) (equals A (number 5))) (leaf 0 (scan 0 none (some (and 0 (equals A (number 5)) (equals A (number 5))))))))
       ∷ [];
 }
 
 abbrev looked-up : ℕ → Node
-looked-up n = leaf (lookup by-key 0 none (datum (integer (pos n)) ∷ []))
+looked-up n = leaf 0 (lookup by-key 0 none ((datum (integer (pos n)), 0) ∷ []))
 
 abbrev pub P8 : Worked
 P8 = record {
-  given = after-five (join false (nested-loop (some (and (and (equals A (number 5)) (equals A (number 6))) (equals A B)))) scanned scanned) ∷ [];
-  said = plan (done (join false (hash 0 0) (over (filter (equals A (number 6))) (looked-up 5)) (looked-up 6))) ∷ [];
+  given = after-five (join 0 false (nested-loop (some (and 0 (and 0 (equals A (number 5)) (equals A (number 6))) (equals A B)))) scanned scanned) ∷ [];
+  said = plan (done (join 0 false (hash 0 0) (over 0 (filter (equals A (number 6))) (looked-up 5)) (looked-up 6))) ∷ [];
 }
 
 -- The Nothing has a label for each column of the Scan.
 abbrev pub P9 : Worked
 P9 = record {
-  given = after-five (leaf (scan 0 none (some (equals A (constant null))))) ∷ [];
-  said = plan (done (leaf (nothing (qualified 7 8 ∷ [])))) ∷ [];
+  given = after-five (leaf 0 (scan 0 none (some (equals A (constant 0 null))))) ∷ [];
+  said = plan (done (leaf 0 (nothing ((qualified 7 8, 0) ∷ [])))) ∷ [];
 }
 
 abbrev P10-join : Node
-P10-join = join false (nested-loop (some (equals A B))) (one-row (number 1 ∷ number 2 ∷ [])) (one-row (number 1 ∷ number 2 ∷ []))
+P10-join = join 0 false (nested-loop (some (equals A B))) (one-row (number 1 ∷ number 2 ∷ [])) (one-row (number 1 ∷ number 2 ∷ []))
 
 abbrev pub P10 : Worked
 P10 = record { given = after-five P10-join ∷ []; said = plan (done P10-join) ∷ [] }

@@ -23,34 +23,34 @@ module _ (room : ℕ) (schema : Schema) where
   unfolding Room.maybe-push-filter
   filter-enough zero j rest n h i = absurd (let p = nodes-positive n in omega arith)
   filter-enough (suc k) zero rest n h i = absurd (let p = nodes-positive n in omega arith)
-  filter-enough (suc k) (suc j) rest (leaf l) h i = refl
-  filter-enough (suc k) (suc j) rest (over (filter p) source) h i = go (push-into p source) refl (filter-enough k j rest)
+  filter-enough (suc k) (suc j) rest (leaf og l) h i = refl
+  filter-enough (suc k) (suc j) rest (over og (filter p) source) h i = go (push-into og p source) refl (filter-enough k j rest)
     where
       on : ℕ → Node → Answer Node
       on m pushed = Room.step room schema rest pushed >>= Room.maybe-push-filter room schema m rest >>= Room.maybe-push-join room schema rest
 
-      go : (o : Option Node) → push-into p source ≡ o
+      go : (o : Option Node) → push-into og p source ≡ o
           → ((n : Node) → nodes n ≤ k → nodes n ≤ j → Room.maybe-push-filter room schema k rest n ≡ Room.maybe-push-filter room schema j rest n)
-          → go-on (on k) (over (filter p) source) o ≡ go-on (on j) (over (filter p) source) o
+          → go-on (on k) (over og (filter p) source) o ≡ go-on (on j) (over og (filter p) source) o
       go none e below = refl
       go (some pushed) e below =
-          let c = nodes-into p source pushed e in
+          let c = nodes-into og p source pushed e in
           ap (λ z. z >>= Room.maybe-push-join room schema rest)
           (same-after (Room.step room schema rest pushed) (Room.maybe-push-filter room schema k rest) (Room.maybe-push-filter room schema j rest)
           (λ a s. let q : nodes pushed ≡ nodes a = ap nodes (step-same room schema rest pushed a s) in below a (omega arith) (omega arith)))
-  filter-enough (suc k) (suc j) rest (over (other o) source) h i = refl
-  filter-enough (suc k) (suc j) rest (join outer q left right) h i = refl
+  filter-enough (suc k) (suc j) rest (over og (other o) source) h i = refl
+  filter-enough (suc k) (suc j) rest (join og outer q left right) h i = refl
 
   sources-same : (f g : ℕ → Node → Answer Node) (j : ℕ) → ((rest : ℕ) (n : Node) → nodes n ≤ j → f rest n ≡ g rest n)
       → (rest : ℕ) (n : Node) → nodes n ≤ suc j → Room.each-source room schema f rest n ≡ Room.each-source room schema g rest n
-  sources-same f g j h rest (leaf l) b = refl
-  sources-same f g j h rest (over o source) b = ap (λ z. z >>= λ s. done (over o s)) (h (rest + over-size o) source (omega arith))
-  sources-same f g j h rest (join outer q left right) b =
-      ap (λ z. z >>= λ l. f (rest + (node-size l + join-size q)) right >>= λ r. done (join outer q l r)) (h (rest + (node-size right + join-size q)) left (omega arith))
+  sources-same f g j h rest (leaf og l) b = refl
+  sources-same f g j h rest (over og o source) b = ap (λ z. z >>= λ s. done (over og o s)) (h (rest + over-size o) source (omega arith))
+  sources-same f g j h rest (join og outer q left right) b =
+      ap (λ z. z >>= λ l. f (rest + (node-size l + join-size q)) right >>= λ r. done (join og outer q l r)) (h (rest + (node-size right + join-size q)) left (omega arith))
       ∙ same-after (g (rest + (node-size right + join-size q)) left)
-      (λ l. f (rest + (node-size l + join-size q)) right >>= λ r. done (join outer q l r))
-      (λ l. g (rest + (node-size l + join-size q)) right >>= λ r. done (join outer q l r))
-      (λ l e. ap (λ z. z >>= λ r. done (join outer q l r)) (h (rest + (node-size l + join-size q)) right (omega arith)))
+      (λ l. f (rest + (node-size l + join-size q)) right >>= λ r. done (join og outer q l r))
+      (λ l. g (rest + (node-size l + join-size q)) right >>= λ r. done (join og outer q l r))
+      (λ l e. ap (λ z. z >>= λ r. done (join og outer q l r)) (h (rest + (node-size l + join-size q)) right (omega arith)))
 
   from-enough : (k j rest : ℕ) (n : Node) → nodes n ≤ k → nodes n ≤ j → Room.push-filters-from room schema k rest n ≡ Room.push-filters-from room schema j rest n
   unfolding Room.push-filters-from

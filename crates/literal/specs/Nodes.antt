@@ -22,14 +22,14 @@ transform-after rewrite zero n = n
 transform-after rewrite (suc k) n = rewrite (map-sources (transform-after rewrite k) n)
 
 abbrev pub nodes : Node → ℕ
-nodes (leaf l) = 1
-nodes (over o source) = suc (nodes source)
-nodes (join outer j left right) = suc (nodes left + nodes right)
+nodes (leaf og l) = 1
+nodes (over og o source) = suc (nodes source)
+nodes (join og outer j left right) = suc (nodes left + nodes right)
 
 pub nodes-positive : (n : Node) → 1 ≤ nodes n
-nodes-positive (leaf l) = omega arith
-nodes-positive (over o source) = omega arith
-nodes-positive (join outer j left right) = omega arith
+nodes-positive (leaf og l) = omega arith
+nodes-positive (over og o source) = omega arith
+nodes-positive (join og outer j left right) = omega arith
 
 -- ---- a plan has no more nodes than cells
 
@@ -53,9 +53,9 @@ join-positive (nested-loop p) = omega arith
 join-positive (hash a b) = omega arith
 
 pub nodes-cells : (n : Node) → nodes n ≤ node-size n
-nodes-cells (leaf l) = leaf-positive l
-nodes-cells (over o source) = let h = nodes-cells source in let p = over-positive o in omega arith
-nodes-cells (join outer j left right) = let h = nodes-cells left in let k = nodes-cells right in let p = join-positive j in omega arith
+nodes-cells (leaf og l) = leaf-positive l
+nodes-cells (over og o source) = let h = nodes-cells source in let p = over-positive o in omega arith
+nodes-cells (join og outer j left right) = let h = nodes-cells left in let k = nodes-cells right in let p = join-positive j in omega arith
 
 -- ---- FilterPushdown: pushing makes no more nodes
 
@@ -65,54 +65,54 @@ no-node h = absurd (let y : _≡_ {A = ℕ} 0 1 = cc in omega arith)
 some-node : {a b : Node} → _≡_ {A = Option Node} (some a) (some b) → a ≡ b
 some-node h = cc
 
-pub nodes-into : (e : Expression) (n m : Node) → push-into e n ≡ some m → nodes m ≡ nodes n
-nodes-into e (leaf (scan table alias p)) m h = ap nodes (sym (some-node h))
-nodes-into e (leaf (lookup by table alias constants)) m h = no-node h
-nodes-into e (leaf (nothing labels)) m h = no-node h
-nodes-into e (leaf (values rows)) m h = no-node h
-nodes-into e (over (filter p) source) m h = ap nodes (sym (some-node h))
-nodes-into e (over (other o) source) m h = no-node h
-nodes-into e (join outer (nested-loop p) left right) m h = ap nodes (sym (some-node h))
-nodes-into e (join outer (hash a b) left right) m h = no-node h
+pub nodes-into : (new : ℕ) (e : Expression) (n m : Node) → push-into new e n ≡ some m → nodes m ≡ nodes n
+nodes-into new e (leaf og (scan table alias p)) m h = ap nodes (sym (some-node h))
+nodes-into new e (leaf og (lookup by table alias constants)) m h = no-node h
+nodes-into new e (leaf og (nothing labels)) m h = no-node h
+nodes-into new e (leaf og (values rows)) m h = no-node h
+nodes-into new e (over og (filter p) source) m h = ap nodes (sym (some-node h))
+nodes-into new e (over og (other o) source) m h = no-node h
+nodes-into new e (join og outer (nested-loop p) left right) m h = ap nodes (sym (some-node h))
+nodes-into new e (join og outer (hash a b) left right) m h = no-node h
 
-nodes-part : (p : Option Expression) (n : Node) → nodes (push-part p n .0) ≡ nodes n
-nodes-part none n = refl
-nodes-part (some e) n = go (push-into e n) refl
+nodes-part : (new : ℕ) (p : Option Expression) (n : Node) → nodes (push-part new p n .0) ≡ nodes n
+nodes-part new none n = refl
+nodes-part new (some e) n = go (push-into new e n) refl
   where
-    go : (o : Option Node) → push-into e n ≡ o → nodes (pushed-or-back e n o .0) ≡ nodes n
+    go : (o : Option Node) → push-into new e n ≡ o → nodes (pushed-or-back e n o .0) ≡ nodes n
     go none h = refl
-    go (some m) h = nodes-into e n m h
+    go (some m) h = nodes-into new e n m h
 
 module _ (schema : Schema) where
   nodes-join : (n : Node) → nodes (maybe-push-join schema n) ≡ nodes n
   unfolding maybe-push-join
-  nodes-join (leaf l) = refl
-  nodes-join (over o source) = refl
-  nodes-join (join outer (nested-loop none) left right) = refl
-  nodes-join (join outer (nested-loop (some p)) left right) =
+  nodes-join (leaf og l) = refl
+  nodes-join (over og o source) = refl
+  nodes-join (join og outer (nested-loop none) left right) = refl
+  nodes-join (join og outer (nested-loop (some p)) left right) =
       let n = columns schema left in
       let cnf = into-cnf-vec p in
-      ap₂ (λ x y. suc (x + y)) (nodes-part (and-vec (push-left n cnf)) left) (nodes-part (map-optional (shift-column-down n) (and-vec (push-right n cnf))) right)
-  nodes-join (join outer (hash a b) left right) = refl
+      ap₂ (λ x y. suc (x + y)) (nodes-part og (and-vec og (push-left n cnf)) left) (nodes-part og (map-optional (shift-column-down n) (and-vec og (push-right n cnf))) right)
+  nodes-join (join og outer (hash a b) left right) = refl
 
   nodes-filter : (k : ℕ) (n : Node) → nodes (maybe-push-filter schema k n) ≤ nodes n
   unfolding maybe-push-filter
   nodes-filter zero n = omega arith
-  nodes-filter (suc k) (leaf l) = omega arith
-  nodes-filter (suc k) (over (filter p) source) = go (push-into p source) refl (nodes-filter k)
+  nodes-filter (suc k) (leaf og l) = omega arith
+  nodes-filter (suc k) (over og (filter p) source) = go (push-into og p source) refl (nodes-filter k)
     where
       on : Node → Node
       on pushed = maybe-push-join schema (maybe-push-filter schema k pushed)
 
-      go : (o : Option Node) → push-into p source ≡ o → ((n : Node) → nodes (maybe-push-filter schema k n) ≤ nodes n) → nodes (go-on on (over (filter p) source) o) ≤ suc (nodes source)
+      go : (o : Option Node) → push-into og p source ≡ o → ((n : Node) → nodes (maybe-push-filter schema k n) ≤ nodes n) → nodes (go-on on (over og (filter p) source) o) ≤ suc (nodes source)
       go none h below = omega arith
       go (some pushed) h below =
           let a = nodes-join (maybe-push-filter schema k pushed) in
           let b = below pushed in
-          let c = nodes-into p source pushed h in
+          let c = nodes-into og p source pushed h in
           omega arith
-  nodes-filter (suc k) (over (other o) source) = omega arith
-  nodes-filter (suc k) (join outer j left right) = omega arith
+  nodes-filter (suc k) (over og (other o) source) = omega arith
+  nodes-filter (suc k) (join og outer j left right) = omega arith
 
   pub nodes-push : (k : ℕ) (n : Node) → nodes (push-filters schema k n) ≤ nodes n
   nodes-push k n = let a = nodes-join (maybe-push-filter schema k n) in let b = nodes-filter k n in omega arith
@@ -122,17 +122,17 @@ module _ (schema : Schema) where
   unfolding maybe-push-filter
   filter-enough zero j n h i = absurd (let p = nodes-positive n in omega arith)
   filter-enough (suc k) zero n h i = absurd (let p = nodes-positive n in omega arith)
-  filter-enough (suc k) (suc j) (leaf l) h i = refl
-  filter-enough (suc k) (suc j) (over (filter p) source) h i = go (push-into p source) refl (filter-enough k j)
+  filter-enough (suc k) (suc j) (leaf og l) h i = refl
+  filter-enough (suc k) (suc j) (over og (filter p) source) h i = go (push-into og p source) refl (filter-enough k j)
     where
-      go : (o : Option Node) → push-into p source ≡ o
+      go : (o : Option Node) → push-into og p source ≡ o
           → ((n : Node) → nodes n ≤ k → nodes n ≤ j → maybe-push-filter schema k n ≡ maybe-push-filter schema j n)
-          → go-on (λ pushed. maybe-push-join schema (maybe-push-filter schema k pushed)) (over (filter p) source) o
-          ≡ go-on (λ pushed. maybe-push-join schema (maybe-push-filter schema j pushed)) (over (filter p) source) o
+          → go-on (λ pushed. maybe-push-join schema (maybe-push-filter schema k pushed)) (over og (filter p) source) o
+          ≡ go-on (λ pushed. maybe-push-join schema (maybe-push-filter schema j pushed)) (over og (filter p) source) o
       go none e below = refl
-      go (some pushed) e below = let c = nodes-into p source pushed e in ap (maybe-push-join schema) (below pushed (omega arith) (omega arith))
-  filter-enough (suc k) (suc j) (over (other o) source) h i = refl
-  filter-enough (suc k) (suc j) (join outer q left right) h i = refl
+      go (some pushed) e below = let c = nodes-into og p source pushed e in ap (maybe-push-join schema) (below pushed (omega arith) (omega arith))
+  filter-enough (suc k) (suc j) (over og (other o) source) h i = refl
+  filter-enough (suc k) (suc j) (join og outer q left right) h i = refl
 
   -- push_filters, without a bound
   abbrev pub push-filters-of : Node → Node
@@ -143,32 +143,32 @@ module _ (schema : Schema) where
 
   -- maybe_push_filter, by the Rust's text: a Filter that its source takes is gone, and push_filters goes on with the source
   abbrev pub maybe-push-filter-of : Node → Node
-  maybe-push-filter-of (leaf l) = leaf l
-  maybe-push-filter-of (over (filter p) source) = go-on push-filters-of (over (filter p) source) (push-into p source)
-  maybe-push-filter-of (over (other o) source) = over (other o) source
-  maybe-push-filter-of (join outer j left right) = join outer j left right
+  maybe-push-filter-of (leaf og l) = leaf og l
+  maybe-push-filter-of (over og (filter p) source) = go-on push-filters-of (over og (filter p) source) (push-into og p source)
+  maybe-push-filter-of (over og (other o) source) = over og (other o) source
+  maybe-push-filter-of (join og outer j left right) = join og outer j left right
 
   literal-at : (k : ℕ) (n : Node) → node-size n ≡ k → push-filters schema k n ≡ maybe-push-join schema (maybe-push-filter-of n)
   unfolding maybe-push-filter
   literal-at zero n e = absurd (let p = nodes-positive n in let q = nodes-cells n in omega arith)
-  literal-at (suc k) (leaf l) e = refl
-  literal-at (suc k) (over (filter p) source) e = ap (maybe-push-join schema) (go (push-into p source) refl)
+  literal-at (suc k) (leaf og l) e = refl
+  literal-at (suc k) (over og (filter p) source) e = ap (maybe-push-join schema) (go (push-into og p source) refl)
     where
-      go : (o : Option Node) → push-into p source ≡ o
-          → go-on (λ pushed. maybe-push-join schema (maybe-push-filter schema k pushed)) (over (filter p) source) o ≡ go-on push-filters-of (over (filter p) source) o
+      go : (o : Option Node) → push-into og p source ≡ o
+          → go-on (λ pushed. maybe-push-join schema (maybe-push-filter schema k pushed)) (over og (filter p) source) o ≡ go-on push-filters-of (over og (filter p) source) o
       go none i = refl
-      go (some pushed) i = let c = nodes-into p source pushed i in let d = nodes-cells source in push-enough k pushed (omega arith)
-  literal-at (suc k) (over (other o) source) e = refl
-  literal-at (suc k) (join outer j left right) e = refl
+      go (some pushed) i = let c = nodes-into og p source pushed i in let d = nodes-cells source in push-enough k pushed (omega arith)
+  literal-at (suc k) (over og (other o) source) e = refl
+  literal-at (suc k) (join og outer j left right) e = refl
 
   pub push-filters-literal : (n : Node) → push-filters-of n ≡ maybe-push-join schema (maybe-push-filter-of n)
   push-filters-literal n = literal-at (node-size n) n refl
 
 -- what two functions do to plans with few nodes, they do to the sources of plans with one more
 sources-same : (f g : Node → Node) (j : ℕ) → ((n : Node) → nodes n ≤ j → f n ≡ g n) → (n : Node) → nodes n ≤ suc j → map-sources f n ≡ map-sources g n
-sources-same f g j h (leaf l) b = refl
-sources-same f g j h (over o source) b = ap (over o) (h source (omega arith))
-sources-same f g j h (join outer q left right) b = ap₂ (join outer q) (h left (omega arith)) (h right (omega arith))
+sources-same f g j h (leaf og l) b = refl
+sources-same f g j h (over og o source) b = ap (over og o) (h source (omega arith))
+sources-same f g j h (join og outer q left right) b = ap₂ (join og outer q) (h left (omega arith)) (h right (omega arith))
 
 module _ (schema : Schema) where
   from-enough : (k j : ℕ) (n : Node) → nodes n ≤ k → nodes n ≤ j → push-filters-from schema k n ≡ push-filters-from schema j n
@@ -211,62 +211,62 @@ module _ (schema : Schema) where
   -- ---- IndexLookup
 
   abbrev pub index-lookup-node : Node → Node
-  index-lookup-node (leaf l) = index-lookup schema l
-  index-lookup-node (over o source) = over o source
-  index-lookup-node (join outer j left right) = join outer j left right
+  index-lookup-node (leaf og l) = index-lookup schema og l
+  index-lookup-node (over og o source) = over og o source
+  index-lookup-node (join og outer j left right) = join og outer j left right
 
   module _ (k : ℕ) where
     abbrev again : Node → Node
     again = transform-before index-lookup-node k
 
-    lookup-stays : (m : ℕ) (by : Access) (table : ℕ) (alias : Option ℕ) (constants : List Value) → transform-before index-lookup-node m (leaf (lookup by table alias constants)) ≡ leaf (lookup by table alias constants)
+    lookup-stays : (og m : ℕ) (by : Access) (table : ℕ) (alias : Option ℕ) (constants : List (Value × ℕ)) → transform-before index-lookup-node m (leaf og (lookup by table alias constants)) ≡ leaf og (lookup by table alias constants)
     unfolding index-lookup
-    lookup-stays zero by table alias constants = refl
-    lookup-stays (suc m) by table alias constants = refl
+    lookup-stays og zero by table alias constants = refl
+    lookup-stays og (suc m) by table alias constants = refl
 
-    found-stays : (table : ℕ) (alias : Option ℕ) (p : Expression) (o : Option Found) → map-sources again (lookup-or-scan schema table alias p o) ≡ lookup-or-scan schema table alias p o
-    found-stays table alias p none = refl
-    found-stays table alias p (some f) = go (and-vec (f .remaining))
+    found-stays : (og table : ℕ) (alias : Option ℕ) (p : Expression) (o : Option Found) → map-sources again (lookup-or-scan schema table og alias p o) ≡ lookup-or-scan schema table og alias p o
+    found-stays og table alias p none = refl
+    found-stays og table alias p (some f) = go (and-vec og (f .remaining))
       where
         looked : Node
-        looked = leaf (lookup (access schema table (f .column-number)) table alias (into-column-values (f .conjunct)))
+        looked = leaf og (lookup (access schema table (f .column-number)) table alias (into-column-values (f .conjunct)))
 
-        go : (q : Option Expression) → map-sources again (filtered q looked) ≡ filtered q looked
+        go : (q : Option Expression) → map-sources again (filtered og q looked) ≡ filtered og q looked
         go none = refl
-        go (some q) = ap (over (filter q)) (lookup-stays k (access schema table (f .column-number)) table alias (into-column-values (f .conjunct)))
+        go (some q) = ap (over og (filter q)) (lookup-stays og k (access schema table (f .column-number)) table alias (into-column-values (f .conjunct)))
 
-    leaf-stays : (l : Leaf) → map-sources again (index-lookup schema l) ≡ index-lookup schema l
+    leaf-stays : (og : ℕ) (l : Leaf) → map-sources again (index-lookup schema og l) ≡ index-lookup schema og l
     unfolding index-lookup
-    leaf-stays (scan table alias none) = refl
-    leaf-stays (scan table alias (some p)) = found-stays table alias p (find-lookup schema table (into-cnf-vec p))
-    leaf-stays (lookup by table alias constants) = refl
-    leaf-stays (nothing labels) = refl
-    leaf-stays (values rows) = refl
+    leaf-stays og (scan table alias none) = refl
+    leaf-stays og (scan table alias (some p)) = found-stays og table alias p (find-lookup schema table (into-cnf-vec p))
+    leaf-stays og (lookup by table alias constants) = refl
+    leaf-stays og (nothing labels) = refl
+    leaf-stays og (values rows) = refl
 
   pub lookup-literal : (k : ℕ) (n : Node) → nodes n ≤ k → transform-before index-lookup-node k n ≡ IndexLookup schema n
   unfolding IndexLookup
   lookup-literal zero n h = absurd (let p = nodes-positive n in omega arith)
-  lookup-literal (suc k) (leaf l) h = leaf-stays k l
-  lookup-literal (suc k) (over o source) h = ap (over o) (lookup-literal k source (omega arith))
-  lookup-literal (suc k) (join outer j left right) h = ap₂ (join outer j) (lookup-literal k left (omega arith)) (lookup-literal k right (omega arith))
+  lookup-literal (suc k) (leaf og l) h = leaf-stays k og l
+  lookup-literal (suc k) (over og o source) h = ap (over og o) (lookup-literal k source (omega arith))
+  lookup-literal (suc k) (join og outer j left right) h = ap₂ (join og outer j) (lookup-literal k left (omega arith)) (lookup-literal k right (omega arith))
 
   -- ---- HashJoin and ShortCircuit
 
   abbrev pub hash-join-node : Node → Node
-  hash-join-node (leaf l) = leaf l
-  hash-join-node (over o source) = over o source
-  hash-join-node (join outer j left right) = join outer (hash-join (columns schema left) j) left right
+  hash-join-node (leaf og l) = leaf og l
+  hash-join-node (over og o source) = over og o source
+  hash-join-node (join og outer j left right) = join og outer (hash-join (columns schema left) j) left right
 
   pub hash-literal : (k : ℕ) (n : Node) → nodes n ≤ k → transform-before hash-join-node k n ≡ HashJoin schema n
   hash-literal zero n h = absurd (let p = nodes-positive n in omega arith)
-  hash-literal (suc k) (leaf l) h = refl
-  hash-literal (suc k) (over o source) h = ap (over o) (hash-literal k source (omega arith))
-  hash-literal (suc k) (join outer j left right) h =
-      ap₂ (join outer (hash-join (columns schema left) j)) (hash-literal k left (omega arith)) (hash-literal k right (omega arith))
+  hash-literal (suc k) (leaf og l) h = refl
+  hash-literal (suc k) (over og o source) h = ap (over og o) (hash-literal k source (omega arith))
+  hash-literal (suc k) (join og outer j left right) h =
+      ap₂ (join og outer (hash-join (columns schema left) j)) (hash-literal k left (omega arith)) (hash-literal k right (omega arith))
 
   pub circuit-literal : (k : ℕ) (n : Node) → nodes n ≤ k → transform-after (short-circuit schema) k n ≡ ShortCircuit schema n
   circuit-literal zero n h = absurd (let p = nodes-positive n in omega arith)
-  circuit-literal (suc k) (leaf l) h = refl
-  circuit-literal (suc k) (over o source) h = ap (λ z. short-circuit schema (over o z)) (circuit-literal k source (omega arith))
-  circuit-literal (suc k) (join outer j left right) h =
-      ap₂ (λ x y. short-circuit schema (join outer j x y)) (circuit-literal k left (omega arith)) (circuit-literal k right (omega arith))
+  circuit-literal (suc k) (leaf og l) h = refl
+  circuit-literal (suc k) (over og o source) h = ap (λ z. short-circuit schema (over og o z)) (circuit-literal k source (omega arith))
+  circuit-literal (suc k) (join og outer j left right) h =
+      ap₂ (λ x y. short-circuit schema (join og outer j x y)) (circuit-literal k left (omega arith)) (circuit-literal k right (omega arith))

@@ -12,10 +12,10 @@ use Rattle.sql.specs.Expression.{Expression, constant, column, unary, binary, R
 
 -- What is moved up and down again is what it was.
 pub down-up : (n : ℕ) (e : Expression) → shift-column-down n (shift-column-up n e) ≡ e
-down-up n (constant v) = refl
-down-up n (column c) = ap column (omega arith)
-down-up n (unary o x) = ap (unary o) (down-up n x)
-down-up n (binary o l r) = ap₂ (binary o) (down-up n l) (down-up n r)
+down-up n (constant og v) = refl
+down-up n (column og c) = ap (column og) (omega arith)
+down-up n (unary og o x) = ap (unary og o) (down-up n x)
+down-up n (binary og o l r) = ap₂ (binary og o) (down-up n l) (down-up n r)
 
 or-left : (a b : Bool) → (a || b) ≡ false → a ≡ false
 or-left true b h = h
@@ -27,20 +27,20 @@ or-right false b h = h
 
 -- So is what is moved down and up again, if it has no column below n.
 pub up-down : (n : ℕ) (e : Expression) → contains-column (λ c. ltb c n) e ≡ false → shift-column-up n (shift-column-down n e) ≡ e
-up-down n (constant v) h = refl
-up-down n (column c) h = let x = nltb→le c n (subst (λ (t : Bool). T (not t)) (sym h) tt) in ap column (omega arith)
-up-down n (unary o x) h = ap (unary o) (up-down n x h)
-up-down n (binary o l r) h =
+up-down n (constant og v) h = refl
+up-down n (column og c) h = let x = nltb→le c n (subst (λ (t : Bool). T (not t)) (sym h) tt) in ap (column og) (omega arith)
+up-down n (unary og o x) h = ap (unary og o) (up-down n x h)
+up-down n (binary og o l r) h =
     let in-l = contains-column (λ c. ltb c n) l in
     let in-r = contains-column (λ c. ltb c n) r in
-    ap₂ (binary o) (up-down n l (or-left in-l in-r h)) (up-down n r (or-right in-l in-r h))
+    ap₂ (binary og o) (up-down n l (or-left in-l in-r h)) (up-down n r (or-right in-l in-r h))
 
 -- Moved up by the left row's length, an expression has in the joined row the value, or the error, that it has in the right row.
 pub up-value : (left right : Row) (e : Expression) → evaluate (left ++ right) (shift-column-up (length left) e) ≡ evaluate right e
-up-value left right (constant v) = refl
-up-value left right (column c) = ap ok (getD-append-add left right c null)
-up-value left right (unary o x) = ap (λ z. bind z (evaluate-unary o)) (up-value left right x)
-up-value left right (binary o l r) = ap₂ (λ x y. bind x (λ v. bind y (evaluate-binary o v))) (up-value left right l) (up-value left right r)
+up-value left right (constant og v) = refl
+up-value left right (column og c) = ap ok (getD-append-add left right c null)
+up-value left right (unary og o x) = ap (λ z. bind z (evaluate-unary o)) (up-value left right x)
+up-value left right (binary og o l r) = ap₂ (λ x y. bind x (λ v. bind y (evaluate-binary o v))) (up-value left right l) (up-value left right r)
 
 -- And the other way round, if it has no column of the left row.
 pub down-value : (left right : Row) (e : Expression) → contains-column (λ c. ltb c (length left)) e ≡ false

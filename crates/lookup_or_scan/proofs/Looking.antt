@@ -17,7 +17,7 @@ use Rattle.sql.specs.Optimizer.{Found, access}
 use Rattle.sheet.specs.Content.{scan-cell}
 use Rattle.sheet.specs.Cells.{lookup-content}
 use Rattle.cells.specs.declared.Cell.{Cell}
-use Rattle.cells.specs.Cells.{words, sized, cell-at}
+use Rattle.cells.specs.Cells.{cell-words, words, sized, cell-at}
 use Rattle.cells.specs.Room.{Wrote, Seals}
 use Rattle.cells.proofs.Laws.{no-more, lt-or-ge, wrote-up}
 use Rattle.words.specs.Words.{cell, all-words, constant-words, node-words}
@@ -33,42 +33,46 @@ use Rattle.lookup_or_scan.specs.Scan.{lookup-cell, ScanAt, Looks}
 
 -- ---- the cell
 
-pub key-cell : (k : Cell) {key c : ℕ} (n : ℕ) → c ≡ key → (record { tag = 54; flag = k .flag / 2; a = k .a; b = k .b; c = n }) ≡ lookup-cell k key c n
+pub key-cell : (k : Cell) {key c : ℕ} (n : ℕ) → c ≡ key → (record { origin = k .origin; tag = 54; flag = k .flag / 2; a = k .a; b = k .b; c = n }) ≡ lookup-cell k key c n
 key-cell k {key} {c} n h =
-    sym (ap (λ (t : Bool). cond t (record { tag = 54; flag = k .flag / 2; a = k .a; b = k .b; c = n })
-    (record { tag = 53; flag = k .flag / 2; a = k .a; b = k .b; c = c + 65536 * n })) (eq-eqb c key h))
+    sym (ap (λ (t : Bool). cond t (record { origin = k .origin; tag = 54; flag = k .flag / 2; a = k .a; b = k .b; c = n })
+    (record { origin = k .origin; tag = 53; flag = k .flag / 2; a = k .a; b = k .b; c = c + 65536 * n })) (eq-eqb c key h))
 
 pub index-cell : (k : Cell) {key c : ℕ} (n : ℕ) → (c ≡ key → ⊥)
-    → (record { tag = 53; flag = k .flag / 2; a = k .a; b = k .b; c = c + 65536 * n }) ≡ lookup-cell k key c n
+    → (record { origin = k .origin; tag = 53; flag = k .flag / 2; a = k .a; b = k .b; c = c + 65536 * n }) ≡ lookup-cell k key c n
 index-cell k {key} {c} n h =
-    sym (ap (λ (t : Bool). cond t (record { tag = 54; flag = k .flag / 2; a = k .a; b = k .b; c = n })
-    (record { tag = 53; flag = k .flag / 2; a = k .a; b = k .b; c = c + 65536 * n })) (ne-eqb c key h))
+    sym (ap (λ (t : Bool). cond t (record { origin = k .origin; tag = 54; flag = k .flag / 2; a = k .a; b = k .b; c = n })
+    (record { origin = k .origin; tag = 53; flag = k .flag / 2; a = k .a; b = k .b; c = c + 65536 * n })) (ne-eqb c key h))
 
-cell-of-lookup : (t : ℕ) (al : Option ℕ) (key c n : ℕ)
-    → lookup-cell (cell (scan-cell true t al)) key c n ≡ cell (lookup-content (cond (eqb c key) by-key (by-index c)) t al n)
+cell-of-lookup : (og t : ℕ) (al : Option ℕ) (key c n : ℕ)
+    → lookup-cell (cell og (scan-cell true t al)) key c n ≡ cell og (lookup-content (cond (eqb c key) by-key (by-index c)) t al n)
 unfolding cell
-cell-of-lookup t al key c n = go al (eqb c key)
+cell-of-lookup og t al key c n = go al (eqb c key)
   where
     go : (al : Option ℕ) (b : Bool) →
-        cond b (record { tag = 54; flag = cell (scan-cell true t al) .flag / 2; a = cell (scan-cell true t al) .a; b = cell (scan-cell true t al) .b; c = n })
-        (record { tag = 53; flag = cell (scan-cell true t al) .flag / 2; a = cell (scan-cell true t al) .a; b = cell (scan-cell true t al) .b; c = c + 65536 * n })
-        ≡ cell (lookup-content (cond b by-key (by-index c)) t al n)
+        cond b (record { origin = cell og (scan-cell true t al) .origin; tag = 54; flag = cell og (scan-cell true t al) .flag / 2; a = cell og (scan-cell true t al) .a; b = cell og (scan-cell true t al) .b; c = n })
+        (record { origin = cell og (scan-cell true t al) .origin; tag = 53; flag = cell og (scan-cell true t al) .flag / 2; a = cell og (scan-cell true t al) .a; b = cell og (scan-cell true t al) .b; c = c + 65536 * n })
+        ≡ cell og (lookup-content (cond b by-key (by-index c)) t al n)
     go none true = refl
     go none false = refl
     go (some r) true = refl
     go (some r) false = refl
 
 -- The constants and the cell that the code writes are the lookup's words.
-pub lookup-words : (schema : Schema) (t : ℕ) (al : Option ℕ) (q : Expression) (vs : List Value) {x : List ℕ} {lo hi : ℕ} {k : Cell} {key c i : ℕ}
-    → k ≡ cell-at x hi → key ≡ table-of schema t .primary-key → i ≡ c → NodeHere x lo hi (leaf (scan t al (some q)))
-    → sized (all-words constant-words vs) (lookup-cell k key c (length vs)) ≡ node-words (leaf (lookup (access schema t i) t al vs))
+pub lookup-words : (schema : Schema) (og t : ℕ) (al : Option ℕ) (q : Expression) (vs : List (Value × ℕ)) {x : List ℕ} {lo hi : ℕ} {k : Cell} {key c i : ℕ}
+    → k ≡ cell-at x hi → key ≡ table-of schema t .primary-key → i ≡ c → NodeHere x lo hi (leaf og (scan t al (some q)))
+    → sized (all-words constant-words vs) (lookup-cell k key c (length vs)) ≡ node-words (leaf og (lookup (access schema t i) t al vs))
 unfolding node-words
-lookup-words schema t al q vs {x} {lo} {hi} {k} {key} {c} {i} e f g u =
+lookup-words schema og t al q vs {x} {lo} {hi} {k} {key} {c} {i} e f g u =
     ap (sized (all-words constant-words vs))
-    (ap (λ (z : Cell). lookup-cell z key c (length vs)) (e ∙ node-cell-is (leaf (scan t al (some q))) u)
-    ∙ (cell-of-lookup t al key c (length vs)
-    ∙ (ap (λ (z : ℕ). cell (lookup-content (cond (eqb c z) by-key (by-index c)) t al (length vs))) f
-    ∙ ap (λ (z : ℕ). cell (lookup-content (access schema t z) t al (length vs))) (sym g))))
+    (ap (λ (z : Cell). lookup-cell z key c (length vs)) (e ∙ node-cell-is (leaf og (scan t al (some q))) u)
+    ∙ (cell-of-lookup og t al key c (length vs)
+    ∙ (ap (λ (z : ℕ). cell og (lookup-content (cond (eqb c z) by-key (by-index c)) t al (length vs))) f
+    ∙ ap (λ (z : ℕ). cell og (lookup-content (access schema t z) t al (length vs))) (sym g))))
+
+pub scan-origin : (og t : ℕ) (al : Option ℕ) (q : Expression) {x : List ℕ} {lo hi : ℕ} {k : Cell} → k ≡ cell-at x hi → NodeHere x lo hi (leaf og (scan t al (some q))) → k .origin ≡ og
+unfolding cell
+scan-origin og t al q e u = ap (λ (z : Cell). z .origin) (e ∙ node-cell-is (leaf og (scan t al (some q))) u)
 
 -- ---- the constants, and the cell over them
 
@@ -78,17 +82,17 @@ module _ {w : List ℕ} {a b : ℕ} {y : List ℕ} {at n : ℕ} {y₁ : List ℕ
       no-more h (omega (arith, sized-long (all-words constant-words (into-column-values e)) (lookup-cell k key c (length (into-column-values e))))) (g e u)
 
   module _ (h : n ≤ length y) where
-    values-long : (e : Expression) → ExpressionHere w a b e → n ≡ at + 6 * length (into-column-values e)
+    values-long : (e : Expression) → ExpressionHere w a b e → n ≡ at + cell-words * length (into-column-values e)
     values-long e u =
         omega (arith, wrote-up (g e u) h, all-single constant-words (λ v. refl) (into-column-values e))
 
-    pub values-count : ExpressionAt w a b → (at ≤ n) × (6 * ((n - at) / 6) ≤ length y)
+    pub values-count : ExpressionAt w a b → (at ≤ n) × (cell-words * ((n - at) / cell-words) ≤ length y)
     values-count p = let i = values-long (p .e) (p .here) in (omega arith, omega arith)
 
-    pub looks : (k : Cell) (key c : ℕ) → length y₁ ≡ length y → {q : Cell} → q ≡ lookup-cell k key c ((n - at) / 6) → {r : ℕ} {y₂ : List ℕ} → Seals y₁ at n q r y₂ → Looks k key c w a b y at r y₂
+    pub looks : (k : Cell) (key c : ℕ) → length y₁ ≡ length y → {q : Cell} → q ≡ lookup-cell k key c ((n - at) / cell-words) → {r : ℕ} {y₂ : List ℕ} → Seals y₁ at n q r y₂ → Looks k key c w a b y at r y₂
     looks k key c l {q} e {r} {y₂} s x u =
         let i = values-long x u in
-        let j : (n - at) / 6 ≡ length (into-column-values x) = omega arith in
+        let j : (n - at) / cell-words ≡ length (into-column-values x) = omega arith in
         subst (λ (z : Cell). Wrote y at (sized (all-words constant-words (into-column-values x)) z) r y₂) (e ∙ ap (lookup-cell k key c) j)
         (s y (all-words constant-words (into-column-values x)) l (g x u))
 

@@ -16,6 +16,7 @@ fn lookup_cell(scan: cells::Cell, key: usize, c: u32, n: u32) -> cells::Cell
     let alias = scan.flag / 2;
     if c as usize == key {
         return cells::Cell {
+            origin: scan.origin,
             tag: tags::KEY_LOOKUP,
             flag: alias,
             a: scan.a,
@@ -24,6 +25,7 @@ fn lookup_cell(scan: cells::Cell, key: usize, c: u32, n: u32) -> cells::Cell
         };
     }
     cells::Cell {
+        origin: scan.origin,
         tag: tags::INDEX_LOOKUP,
         flag: alias,
         a: scan.a,
@@ -60,7 +62,7 @@ fn lookup(
 }
 
 // The conjuncts of the expression in the first m words of w but the first that looks up a marked column, if there are any, as a Filter over the node that
-// stands in y from at up to n.
+// stands in y from at up to n. The Filter and its Ands have the origin that the caller gives.
 fn filtered(
     w: &[u32],
     m: usize,
@@ -69,11 +71,12 @@ fn filtered(
     n: usize,
     key: usize,
     columns: &[u8],
+    origin: u32,
 ) -> usize
     requires { ⌜ ExpressionAt (now w) 0 m × (length (now y) ≤ most-words) ⌝ }
-    ensures { λ r. ⌜ Filters (marks-in key (now (columns .entry))) (now (w .entry)) m (now (y .entry)) at n r (now (y .exit)) ⌝ }
+    ensures { λ r. ⌜ Filters origin (marks-in key (now (columns .entry))) (now (w .entry)) m (now (y .entry)) at n r (now (y .exit)) ⌝ }
 {
-    let rest = first_lookup::remaining(w, 0, m, y, n, n, key, columns, false);
+    let rest = first_lookup::remaining(w, 0, m, y, n, n, key, columns, false, origin);
     let end = rest.at;
     if end == n {
         return n;
@@ -83,6 +86,7 @@ fn filtered(
         at,
         end,
         cells::Cell {
+            origin: origin,
             tag: tags::FILTER,
             flag: 0,
             a: 0,
@@ -112,6 +116,8 @@ pub fn lookup_or_scan(
     let first_lookup::FoundLookup::At(a, b, c) = found else {
         return cells::copy(x, lo, hi, y, at);
     };
-    let n = lookup(cells::cell_at(x, hi), key, c, w, a, b, y, at);
-    filtered(w, m, y, at, n, key, columns)
+    let scan = cells::cell_at(x, hi);
+    let origin = scan.origin;
+    let n = lookup(scan, key, c, w, a, b, y, at);
+    filtered(w, m, y, at, n, key, columns, origin)
 }

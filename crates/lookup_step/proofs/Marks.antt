@@ -94,38 +94,39 @@ nothing-found schema t P (e ∷ es) m =
 
 -- ---- the Scan's table, and what becomes of the Scan
 
-scan-table : (t : ℕ) (al : Option ℕ) → cell (scan-cell true t al) .a ≡ t
+scan-table : (og t : ℕ) (al : Option ℕ) → cell og (scan-cell true t al) .a ≡ t
 unfolding cell
-scan-table t none = refl
-scan-table t (some r) = refl
+scan-table og t none = refl
+scan-table og t (some r) = refl
 
 module _ {x : List ℕ} {lo hi : ℕ} {k : Cell} (e : k ≡ cell-at x hi) where
-  pub table-is : (t : ℕ) (al : Option ℕ) (q : Expression) → NodeHere x lo hi (leaf (scan t al (some q))) → k .a ≡ t
-  table-is t al q u = ap (λ (c : Cell). c .a) (e ∙ node-cell-is (leaf (scan t al (some q))) u) ∙ scan-table t al
+  pub table-is : (og t : ℕ) (al : Option ℕ) (q : Expression) → NodeHere x lo hi (leaf og (scan t al (some q))) → k .a ≡ t
+  table-is og t al q u = ap (λ (c : Cell). c .a) (e ∙ node-cell-is (leaf og (scan t al (some q))) u) ∙ scan-table og t al
 
   module _ {y : List ℕ} {w : List ℕ} {m : ℕ} (widths keys columns : List ℕ) where
     -- a table that there isn't
     pub copied-scan : {at : ℕ} → length keys ≤ k .a → {r : ℕ} {y′ : List ℕ} → Copies x lo hi y at r y′ → LooksUp x lo hi y at w m widths keys columns r y′
     unfolding index-lookup
-    copied-scan {at} h {r} {y′} c schema text tables g t al q s u v =
+    copied-scan {at} h {r} {y′} c schema text tables g og t al q s u v =
         let n : table-columns schema t ≡ 0 =
-        ap (λ (z : Table). length (z .columns)) (List·getD-eq-default schema no-table (omega (arith, keys-long g t, table-is t al q u))) in
+        ap (λ (z : Table). length (z .columns)) (List·getD-eq-default schema no-table (omega (arith, keys-long g t, table-is og t al q u))) in
         let all : All (Made-of (Fitting schema text tables) (λ c. c < 0)) (into-cnf-vec q) =
         subst (λ (n : ℕ). All (Made-of (Fitting schema text tables) (λ c. c < n)) (into-cnf-vec q)) n (cnf-of (Fitting schema text tables) (λ c. c < table-columns schema t) q (s .0)) in
-        subst (λ (o : Option Found). Wrote y at (node-words (lookup-or-scan schema t al q o)) r y′)
+        subst (λ (o : Option Found). Wrote y at (node-words (lookup-or-scan schema t og al q o)) r y′)
         (sym (nothing-found schema t (Fitting schema text tables) (into-cnf-vec q) all))
-        (c (node-words (leaf (scan t al (some q)))) (u .part))
+        (c (node-words (leaf og (scan t al (some q)))) (u .part))
 
     module _ (h : k .a < length keys) {first from to key : ℕ} (f : first ≡ first-column widths (k .a)) (d : from ≡ 16 * first)
         (d′ : to ≡ 16 * (first + getD widths (k .a) 0)) (z : key ≡ getD keys (k .a) 0) where
       pub scan-at : FilteredAt x lo hi y w m widths keys columns → ScanAt x lo hi y w m key (take (to - from) (drop from columns))
       scan-at p =
-          let i : k .a ≡ p .table = table-is (p .table) (p .alias) (p .predicate) (p .here) in
+          let i : k .a ≡ p .table = table-is (p .og) (p .table) (p .alias) (p .predicate) (p .here) in
           let f₁ = f ∙ ap (first-column widths) i in
           let d₁ : to ≡ 16 * (first-column widths (p .table) + getD widths (p .table) 0) = omega (arith, ap (λ (n : ℕ). getD widths n 0) i) in
           let z₁ = z ∙ ap (λ (n : ℕ). getD keys n 0) i in
           record {
             schema = p .schema;
+            og = p .og;
             table = p .table;
             alias = p .alias;
             predicate = p .predicate;
@@ -141,12 +142,12 @@ module _ {x : List ℕ} {lo hi : ℕ} {k : Cell} (e : k ≡ cell-at x hi) where
       pub looked-up : {at r : ℕ} {y′ : List ℕ} → LooksOrScans x lo hi y at w m key (take (to - from) (drop from columns)) r y′
           → LooksUp x lo hi y at w m widths keys columns r y′
       unfolding index-lookup into-cnf-vec
-      looked-up l schema text tables g t al q s u v =
-          let i : k .a ≡ t = table-is t al q u in
+      looked-up l schema text tables g og t al q s u v =
+          let i : k .a ≡ t = table-is og t al q u in
           let f₁ = f ∙ ap (first-column widths) i in
           let d₁ : to ≡ 16 * (first-column widths t + getD widths t 0) = omega (arith, ap (λ (n : ℕ). getD widths n 0) i) in
           let z₁ = z ∙ ap (λ (n : ℕ). getD keys n 0) i in
-          l schema t (table-marked g t (omega arith) (d ∙ ap (λ (n : ℕ). 16 * n) f₁) d₁ z₁) (z₁ ∙ key-is g t) al q (into-cnf q) u v
+          l schema t (table-marked g t (omega arith) (d ∙ ap (λ (n : ℕ). 16 * n) f₁) d₁ z₁) (z₁ ∙ key-is g t) og al q (into-cnf q) u v
 
 -- ---- the facts that the code's index and slice ask for
 module _ {x : List ℕ} {lo hi : ℕ} {y w : List ℕ} {m : ℕ} {widths keys columns : List ℕ} (p : FilteredAt x lo hi y w m widths keys columns) {k : Cell}

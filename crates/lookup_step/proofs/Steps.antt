@@ -18,7 +18,7 @@ use Rattle.sql.specs.Room.{if-room, scan-filter, normal-forms-fit, step, index-
 use Rattle.sheet.specs.Cells.{present}
 use Rattle.sound.specs.Lookup.{leaf-keeps}
 use Rattle.cells.specs.declared.Cell.{Cell}
-use Rattle.cells.specs.Cells.{cell-at}
+use Rattle.cells.specs.Cells.{cell-words, cell-at}
 use Rattle.cells.specs.Room.{Short, Copies}
 use Rattle.cells.proofs.Laws.{fits, lt-or-ge, wrote-up}
 use Rattle.words.specs.Words.{cell, leaf-cell}
@@ -39,37 +39,37 @@ below a b h = ⊎-elim (λ (z : a < b). z) (λ (z : b ≤ a). absurd (h z)) (lt-
 
 -- ---- a Scan with a filter
 
-flag-of : (l : Leaf) → cell (leaf-cell l) .tag ≡ 62 → eqb (cell (leaf-cell l) .flag % 2) 1 ≡ present (scan-filter l)
+flag-of : (og : ℕ) (l : Leaf) → cell og (leaf-cell l) .tag ≡ 62 → eqb (cell og (leaf-cell l) .flag % 2) 1 ≡ present (scan-filter l)
 unfolding cell
-flag-of (scan t none none) h = refl
-flag-of (scan t none (some e)) h = refl
-flag-of (scan t (some r) none) h = refl
-flag-of (scan t (some r) (some e)) h = refl
-flag-of (lookup by-key t none vs) h = absurd (omega (arith, h))
-flag-of (lookup by-key t (some r) vs) h = absurd (omega (arith, h))
-flag-of (lookup (by-index i) t none vs) h = absurd (omega (arith, h))
-flag-of (lookup (by-index i) t (some r) vs) h = absurd (omega (arith, h))
-flag-of (nothing ls) h = absurd (omega (arith, h))
-flag-of (values rs) h = absurd (omega (arith, h))
+flag-of og (scan t none none) h = refl
+flag-of og (scan t none (some e)) h = refl
+flag-of og (scan t (some r) none) h = refl
+flag-of og (scan t (some r) (some e)) h = refl
+flag-of og (lookup by-key t none vs) h = absurd (omega (arith, h))
+flag-of og (lookup by-key t (some r) vs) h = absurd (omega (arith, h))
+flag-of og (lookup (by-index i) t none vs) h = absurd (omega (arith, h))
+flag-of og (lookup (by-index i) t (some r) vs) h = absurd (omega (arith, h))
+flag-of og (nothing ls) h = absurd (omega (arith, h))
+flag-of og (values rs) h = absurd (omega (arith, h))
 
-no-scan : (l : Leaf) → (cell (leaf-cell l) .tag ≡ 62 → ⊥) → false ≡ present (scan-filter l)
+no-scan : (og : ℕ) (l : Leaf) → (cell og (leaf-cell l) .tag ≡ 62 → ⊥) → false ≡ present (scan-filter l)
 unfolding cell
-no-scan (scan t none q) h = absurd (h refl)
-no-scan (scan t (some r) q) h = absurd (h refl)
-no-scan (lookup a t al vs) h = refl
-no-scan (nothing ls) h = refl
-no-scan (values rs) h = refl
+no-scan og (scan t none q) h = absurd (h refl)
+no-scan og (scan t (some r) q) h = absurd (h refl)
+no-scan og (lookup a t al vs) h = refl
+no-scan og (nothing ls) h = refl
+no-scan og (values rs) h = refl
 
 module _ {x : List ℕ} {lo hi : ℕ} {k : Cell} (e : k ≡ cell-at x hi) where
-  cell-here : (l : Leaf) → NodeHere x lo hi (leaf l) → k ≡ cell (leaf-cell l)
-  cell-here l u = e ∙ node-cell-is (leaf l) u
+  cell-here : (og : ℕ) (l : Leaf) → NodeHere x lo hi (leaf og l) → k ≡ cell og (leaf-cell l)
+  cell-here og l u = e ∙ node-cell-is (leaf og l) u
 
   pub filter-by-flag : k .tag ≡ 62 → HasFilter x lo hi (eqb (k .flag % 2) 1)
-  filter-by-flag h l u =
-      ap (λ (c : Cell). eqb (c .flag % 2) 1) (cell-here l u) ∙ flag-of l (sym (ap (λ (c : Cell). c .tag) (cell-here l u)) ∙ h)
+  filter-by-flag h og l u =
+      ap (λ (c : Cell). eqb (c .flag % 2) 1) (cell-here og l u) ∙ flag-of og l (sym (ap (λ (c : Cell). c .tag) (cell-here og l u)) ∙ h)
 
   pub filter-none : (k .tag ≡ 62 → ⊥) → HasFilter x lo hi false
-  filter-none h l u = no-scan l (λ z. h (ap (λ (c : Cell). c .tag) (cell-here l u) ∙ z))
+  filter-none h og l u = no-scan og l (λ z. h (ap (λ (c : Cell). c .tag) (cell-here og l u) ∙ z))
 
 true-false : {B : Type 0} → true ≡ false → B
 true-false h = absurd (let z : _≡_ {A = ℕ} 0 1 = cc in omega arith)
@@ -82,8 +82,8 @@ by-filter P f (nothing ls) h = true-false h
 by-filter P f (values rs) h = true-false h
 
 -- the filter's words are those before the Scan's cell
-filter-here : {x : List ℕ} {lo hi : ℕ} (t : ℕ) (al : Option ℕ) (q : Expression) → NodeHere x lo hi (leaf (scan t al (some q))) → ExpressionHere x lo (hi - 6) q
-filter-here t al q u = record { part = children-part (leaf (scan t al (some q))) u }
+filter-here : {x : List ℕ} {lo hi : ℕ} (og t : ℕ) (al : Option ℕ) (q : Expression) → NodeHere x lo hi (leaf og (scan t al (some q))) → ExpressionHere x lo (hi - cell-words) q
+filter-here og t al q u = record { part = children-part (leaf og (scan t al (some q))) u }
 
 -- ---- the normal form
 
@@ -126,21 +126,21 @@ module _ {x : List ℕ} {lo hi : ℕ} {z : List ℕ} {n : ℕ} {z₁ : List ℕ}
 -- ---- the definition, by what is known of the filter
 
 module _ (room : ℕ) (schema : Schema) (rest : ℕ) where
-  as-it-is : (l : Leaf) → false ≡ present (scan-filter l) → rest + node-size (leaf l) ≤ room → IndexLookup room schema rest (leaf l) ≡ done (leaf l)
+  as-it-is : (og : ℕ) (l : Leaf) → false ≡ present (scan-filter l) → rest + node-size (leaf og l) ≤ room → IndexLookup room schema rest (leaf og l) ≡ done (leaf og l)
   unfolding IndexLookup index-lookup Optimizer.index-lookup
-  as-it-is (scan t al none) h k = ap (λ (b : Bool). if-room b (leaf (scan t al none))) (le-leb _ _ k)
-  as-it-is (scan t al (some q)) h k = true-false (sym h)
-  as-it-is (lookup a t al vs) h k = ap (λ (b : Bool). if-room b (leaf (lookup a t al vs))) (le-leb _ _ k)
-  as-it-is (nothing ls) h k = ap (λ (b : Bool). if-room b (leaf (nothing ls))) (le-leb _ _ k)
-  as-it-is (values rs) h k = ap (λ (b : Bool). if-room b (leaf (values rs))) (le-leb _ _ k)
+  as-it-is og (scan t al none) h k = ap (λ (b : Bool). if-room b (leaf og (scan t al none))) (le-leb _ _ k)
+  as-it-is og (scan t al (some q)) h k = true-false (sym h)
+  as-it-is og (lookup a t al vs) h k = ap (λ (b : Bool). if-room b (leaf og (lookup a t al vs))) (le-leb _ _ k)
+  as-it-is og (nothing ls) h k = ap (λ (b : Bool). if-room b (leaf og (nothing ls))) (le-leb _ _ k)
+  as-it-is og (values rs) h k = ap (λ (b : Bool). if-room b (leaf og (values rs))) (le-leb _ _ k)
 
-  module _ (t : ℕ) (al : Option ℕ) (q : Expression) where
+  module _ (og t : ℕ) (al : Option ℕ) (q : Expression) where
     by-room : {b : Bool} → normal-forms-fit room schema (some q) ≡ b
-        → IndexLookup room schema rest (leaf (scan t al (some q)))
-        ≡ (if-room b (leaf (scan t al (some q))) >>= λ n. step room schema rest (Optimizer.index-lookup schema (scan t al (some q))))
+        → IndexLookup room schema rest (leaf og (scan t al (some q)))
+        ≡ (if-room b (leaf og (scan t al (some q))) >>= λ n. step room schema rest (Optimizer.index-lookup schema og (scan t al (some q))))
     unfolding IndexLookup index-lookup
     by-room e =
-        ap (λ (b : Bool). if-room b (leaf (scan t al (some q))) >>= λ n. step room schema rest (Optimizer.index-lookup schema (scan t al (some q)))) e
+        ap (λ (b : Bool). if-room b (leaf og (scan t al (some q))) >>= λ n. step room schema rest (Optimizer.index-lookup schema og (scan t al (some q)))) e
 
 -- ---- the step
 
@@ -151,69 +151,70 @@ module _ {x : List ℕ} {lo hi : ℕ} {b : Bool} (f : HasFilter x lo hi b) (c : 
         → Streams (Lent widths keys columns) IndexLookup x lo hi tail y at r y′
     leaf-copied h {r} {y′} k v =
         leaf-streams c refl IndexLookup
-        (λ schema text tables lent room rest l g.
-        subst (λ (o : Answer Node). Streamed (Kept schema text tables (leaf l)) y at tail r y′ o)
-        (sym (as-it-is room schema rest l (sym h ∙ f l (g .here)) (omega (arith, reading-total g, words-long (leaf l), g .shares .all, g .shares .outside))))
-        (copied-done (leaf l) g k v))
+        (λ schema text tables lent room rest og l g.
+        subst (λ (o : Answer Node). Streamed (Kept schema text tables (leaf og l)) y at tail r y′ o)
+        (sym (as-it-is room schema rest og l (sym h ∙ f og l (g .here)) (omega (arith, reading-total g, words-long (leaf og l), g .shares .all, g .shares .outside))))
+        (copied-done (leaf og l) g k v))
 
   module _ (h : b ≡ true) where
-    when-filtered : (P : Leaf → Type 0) → ((t : ℕ) (al : Option ℕ) (q : Expression) → P (scan t al (some q))) → (l : Leaf) → NodeHere x lo hi (leaf l) → P l
-    when-filtered P g l u = by-filter P g l (sym h ∙ f l u)
+    when-filtered : (P : Leaf → Type 0) → ((t : ℕ) (al : Option ℕ) (q : Expression) → P (scan t al (some q))) → (og : ℕ) (l : Leaf) → NodeHere x lo hi (leaf og l) → P l
+    when-filtered P g og l u = by-filter P g l (sym h ∙ f og l u)
 
     module _ {widths keys columns : List ℕ} {tail : ℕ} {y : List ℕ} {at : ℕ} where
       module _ (d : StreamAt (Lent widths keys columns) x lo hi tail y at) where
         scan-read : (P : Type 0)
-            → ((t : ℕ) (al : Option ℕ) (q : Expression)
-            → Reading (d .schema) (d .text) (d .tables) x lo hi tail y at (d .room) (d .rest) (leaf (scan t al (some q))) → P) → P
+            → ((og t : ℕ) (al : Option ℕ) (q : Expression)
+            → Reading (d .schema) (d .text) (d .tables) x lo hi tail y at (d .room) (d .rest) (leaf og (scan t al (some q))) → P) → P
         scan-read P g =
             by-leaf (λ p. Reading (d .schema) (d .text) (d .tables) x lo hi tail y at (d .room) (d .rest) p → P)
-            (λ l i. when-filtered (λ l. Reading (d .schema) (d .text) (d .tables) x lo hi tail y at (d .room) (d .rest) (leaf l) → P) g l (i .here) i)
+            (λ og l i. when-filtered (λ l. Reading (d .schema) (d .text) (d .tables) x lo hi tail y at (d .room) (d .rest) (leaf og l) → P) (g og) og l (i .here) i)
             (d .p) (sym (c (d .p) (d .reading .here))) (d .reading)
 
-        pub filter-at : ExpressionAt x lo (hi - 6)
-        filter-at = scan-read (ExpressionAt x lo (hi - 6)) (λ t al q g. record { e = q; here = filter-here t al q (g .here) })
+        pub filter-at : ExpressionAt x lo (hi - cell-words)
+        filter-at = scan-read (ExpressionAt x lo (hi - cell-words)) (λ og t al q g. record { e = q; here = filter-here og t al q (g .here) })
 
-        pub filtered-at : {m : ℕ} {w : List ℕ} → Normalizes x lo (hi - 6) m w → m ≤ length w → FilteredAt x lo hi y w m widths keys columns
+        pub filtered-at : {m : ℕ} {w : List ℕ} → Normalizes x lo (hi - cell-words) m w → m ≤ length w → FilteredAt x lo hi y w m widths keys columns
         filtered-at {m} {w} n k =
             scan-read (FilteredAt x lo hi y w m widths keys columns)
-            (λ t al q g. record {
+            (λ og t al q g. record {
               schema = d .schema;
               text = d .text;
               tables = d .tables;
               given = d .lent;
+              og = og;
               table = t;
               alias = al;
               predicate = q;
               sound = g .fit .0;
               here = g .here;
-              cnf-here = n q (filter-here t al q (g .here)) .fits k;
+              cnf-here = n q (filter-here og t al q (g .here)) .fits k;
               short = d .short-out;
             })
 
-      module _ {m : ℕ} {w : List ℕ} (n : Normalizes x lo (hi - 6) m w) (k : length w ≡ length y) where
+      module _ {m : ℕ} {w : List ℕ} (n : Normalizes x lo (hi - cell-words) m w) (k : length w ≡ length y) where
         -- a normal form without room
         pub leaf-refused : length w < m → Streams (Lent widths keys columns) IndexLookup x lo hi tail y at m y
         leaf-refused z =
             leaf-streams c refl IndexLookup
-            (λ schema text tables lent room rest l g.
-            when-filtered (λ l. Reading schema text tables x lo hi tail y at room rest (leaf l)
-            → Streamed (Kept schema text tables (leaf l)) y at tail m y (IndexLookup room schema rest (leaf l)))
-            (λ t al q g. subst (λ (o : Answer Node). Streamed (Kept schema text tables (leaf (scan t al (some q)))) y at tail m y o)
-            (sym (by-room room schema rest t al q (n q (filter-here t al q (g .here)) .full room schema (k ∙ g .shares .all) z)))
+            (λ schema text tables lent room rest og l g.
+            when-filtered (λ l. Reading schema text tables x lo hi tail y at room rest (leaf og l)
+            → Streamed (Kept schema text tables (leaf og l)) y at tail m y (IndexLookup room schema rest (leaf og l)))
+            (λ t al q g. subst (λ (o : Answer Node). Streamed (Kept schema text tables (leaf og (scan t al (some q)))) y at tail m y o)
+            (sym (by-room room schema rest og t al q (n q (filter-here og t al q (g .here)) .full room schema (k ∙ g .shares .all) z)))
             (streamed-refused (omega arith)))
-            l (g .here) g)
+            og l (g .here) g)
 
         pub leaf-looked : m ≤ length w → {u : ℕ} {y₁ : List ℕ} → length y₁ ≡ length y → LooksUp x lo hi y at w m widths keys columns u y₁ → {r : ℕ} → InRoom y₁ u tail r
             → Streams (Lent widths keys columns) IndexLookup x lo hi tail y at r y₁
         leaf-looked z {u} {y₁} k₁ v {r} i =
             leaf-streams c refl IndexLookup
-            (λ schema text tables lent room rest l g.
-            when-filtered (λ l. Reading schema text tables x lo hi tail y at room rest (leaf l)
-            → Streamed (Kept schema text tables (leaf l)) y at tail r y₁ (IndexLookup room schema rest (leaf l)))
+            (λ schema text tables lent room rest og l g.
+            when-filtered (λ l. Reading schema text tables x lo hi tail y at room rest (leaf og l)
+            → Streamed (Kept schema text tables (leaf og l)) y at tail r y₁ (IndexLookup room schema rest (leaf og l)))
             (λ t al q g.
-            let e = n q (filter-here t al q (g .here)) in
-            subst (λ (o : Answer Node). Streamed (Kept schema text tables (leaf (scan t al (some q)))) y at tail r y₁ o)
-            (sym (by-room room schema rest t al q (e .room room schema (k ∙ g .shares .all) z)))
-            (step-streamed (Optimizer.index-lookup schema (scan t al (some q))) (leaf-keeps schema text tables (scan t al (some q)) (g .fit .0)) (g .shares) k₁
-            (v schema text tables lent t al q (g .fit .0) (g .here) (e .fits z)) i))
-            l (g .here) g)
+            let e = n q (filter-here og t al q (g .here)) in
+            subst (λ (o : Answer Node). Streamed (Kept schema text tables (leaf og (scan t al (some q)))) y at tail r y₁ o)
+            (sym (by-room room schema rest og t al q (e .room room schema (k ∙ g .shares .all) z)))
+            (step-streamed (Optimizer.index-lookup schema og (scan t al (some q))) (leaf-keeps schema text tables og (scan t al (some q)) (g .fit .0)) (g .shares) k₁
+            (v schema text tables lent og t al q (g .fit .0) (g .here) (e .fits z)) i))
+            og l (g .here) g)

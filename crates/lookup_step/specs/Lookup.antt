@@ -27,11 +27,12 @@ pub record FilteredAt (x : List ℕ) (lo hi : ℕ) (y w : List ℕ) (m : ℕ) (w
   pub text : List ℕ
   pub tables : ℕ
   pub given : Indexes schema widths keys columns
+  pub og : ℕ
   pub table : ℕ
   pub alias : Option ℕ
   pub predicate : Expression
   pub sound : Sound-leaf schema text tables (scan table alias (some predicate))
-  pub here : NodeHere x lo hi (leaf (scan table alias (some predicate)))
+  pub here : NodeHere x lo hi (leaf og (scan table alias (some predicate)))
   pub cnf-here : ExpressionHere w 0 m (into-cnf predicate)
   pub short : length y ≤ most-words
 
@@ -39,7 +40,7 @@ pub record FilteredAt (x : List ℕ) (lo hi : ℕ) (y w : List ℕ) (m : ℕ) (w
 
 -- whether the leaf from lo up to hi is a Scan with a filter
 abbrev pub HasFilter : List ℕ → (lo hi : ℕ) → Bool → Type 0
-HasFilter x lo hi r = (l : Leaf) → NodeHere x lo hi (leaf l) → r ≡ present (scan-filter l)
+HasFilter x lo hi r = (og : ℕ) (l : Leaf) → NodeHere x lo hi (leaf og l) → r ≡ present (scan-filter l)
 
 -- The conjunctive normal form of e is the first m words of w′; or it, or the negation normal form, has no room, and m is past the end.
 pub record Normal (e : Expression) (m : ℕ) (w′ : List ℕ) : Type 0 where
@@ -53,6 +54,6 @@ Normalizes x lo hi m w′ = (e : Expression) → ExpressionHere x lo hi e → No
 -- index-lookup of the Scan from lo up to hi is appended to the first `at` words of y, or has no room.
 abbrev pub LooksUp : (x : List ℕ) (lo hi : ℕ) → (y : List ℕ) (at : ℕ) → (w : List ℕ) (m : ℕ) → (widths keys columns : List ℕ) → (r : ℕ) → List ℕ → Type 0
 LooksUp x lo hi y at w m widths keys columns r y′ =
-    (schema : Schema) (text : List ℕ) (tables : ℕ) → Indexes schema widths keys columns → (table : ℕ) (alias : Option ℕ) (predicate : Expression)
-    → Sound-leaf schema text tables (scan table alias (some predicate)) → NodeHere x lo hi (leaf (scan table alias (some predicate)))
-    → ExpressionHere w 0 m (into-cnf predicate) → Wrote y at (node-words (index-lookup schema (scan table alias (some predicate)))) r y′
+    (schema : Schema) (text : List ℕ) (tables : ℕ) → Indexes schema widths keys columns → (og table : ℕ) (alias : Option ℕ) (predicate : Expression)
+    → Sound-leaf schema text tables (scan table alias (some predicate)) → NodeHere x lo hi (leaf og (scan table alias (some predicate)))
+    → ExpressionHere w 0 m (into-cnf predicate) → Wrote y at (node-words (index-lookup schema og (scan table alias (some predicate)))) r y′

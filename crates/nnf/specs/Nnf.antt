@@ -11,8 +11,8 @@ by-tag true = And
 by-tag false = Or
 
 -- both operands negated, under that operator
-abbrev pub negated : ℕ → Expression → Expression
-negated t (constant v) = constant v
-negated t (column i) = column i
-negated t (unary o x) = unary o x
-negated t (binary o l r) = binary (logical (by-tag (eqb t Tags.and))) (into-nnf-not l) (into-nnf-not r)
+abbrev pub negated : (tag origin : ℕ) → Expression → Expression
+negated t new (constant og v) = constant og v
+negated t new (column og i) = column og i
+negated t new (unary og o x) = unary og o x
+negated t new (binary og o l r) = binary new (logical (by-tag (eqb t Tags.and))) (into-nnf-not new l) (into-nnf-not new r)

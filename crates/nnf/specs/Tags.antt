@@ -10,10 +10,10 @@ use Rattle.words.specs.Place.{ExpressionHere}
 
 -- in the order of the words, operands first
 abbrev pub contains-tag : ℕ → Expression → Bool
-contains-tag t (constant v) = eqb (cell-of (constant-cell v) .tag) t
-contains-tag t (column i) = eqb (cell-of (column-cell i) .tag) t
-contains-tag t (unary o x) = contains-tag t x || eqb (unary-tag o) t
-contains-tag t (binary o l r) = contains-tag t l || (contains-tag t r || eqb (binary-tag o) t)
+contains-tag t (constant og v) = eqb (cell-of (constant-cell v) .tag) t
+contains-tag t (column og i) = eqb (cell-of (column-cell i) .tag) t
+contains-tag t (unary og o x) = contains-tag t x || eqb (unary-tag o) t
+contains-tag t (binary og o l r) = contains-tag t l || (contains-tag t r || eqb (binary-tag o) t)
 
 -- r says whether the expression from lo up to hi holds a cell with the tag t.
 abbrev pub ContainsTag : List ℕ → ℕ → ℕ → ℕ → Bool → Type 0

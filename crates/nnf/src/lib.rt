@@ -42,25 +42,32 @@ fn into_nnf_expression(s: &[u32], lo: usize, hi: usize, d: &mut [u32], at: usize
     ensures { λ r. ⌜ Maps into-nnf (now (s .entry)) lo hi (now (d .entry)) at r (now (d .exit)) ⌝ }
 {
     if cells::tag_at(s, hi) == tags::NOT {
-        return into_nnf_not(s, lo, hi - cells::CELL_WORDS, d, at);
+        return into_nnf_not(
+            s,
+            lo,
+            hi - cells::CELL_WORDS,
+            d,
+            at,
+            cells::origin_at(s, hi),
+        );
     }
     into_nnf_operands(s, lo, hi, d, at)
 }
 
-// into_nnf of Not of the expression from lo to hi.
-fn into_nnf_not(s: &[u32], lo: usize, hi: usize, d: &mut [u32], at: usize) -> usize
+// into_nnf of Not, with that origin, of the expression from lo to hi. What it puts together has the Not's origin.
+fn into_nnf_not(s: &[u32], lo: usize, hi: usize, d: &mut [u32], at: usize, origin: u32) -> usize
     requires { ⌜ ExpressionAt (now s) lo hi ⌝ }
-    ensures { λ r. ⌜ Maps into-nnf-not (now (s .entry)) lo hi (now (d .entry)) at r (now (d .exit)) ⌝ }
+    ensures { λ r. ⌜ Maps (into-nnf-not origin) (now (s .entry)) lo hi (now (d .entry)) at r (now (d .exit)) ⌝ }
 {
     let t = cells::tag_at(s, hi);
     if t == tags::NOT {
         return into_nnf_operands(s, lo, hi - cells::CELL_WORDS, d, at);
     }
     if t == tags::AND {
-        return negate_both(s, lo, hi, d, at, tags::OR);
+        return negate_both(s, lo, hi, d, at, tags::OR, origin);
     }
     if t == tags::OR {
-        return negate_both(s, lo, hi, d, at, tags::AND);
+        return negate_both(s, lo, hi, d, at, tags::AND, origin);
     }
     let m = into_nnf_operands(s, lo, hi, d, at);
     cells::put(
@@ -68,6 +75,7 @@ fn into_nnf_not(s: &[u32], lo: usize, hi: usize, d: &mut [u32], at: usize) -> us
         at,
         m,
         cells::Cell {
+            origin: origin,
             tag: tags::NOT,
             flag: 0,
             a: 0,
@@ -77,22 +85,31 @@ fn into_nnf_not(s: &[u32], lo: usize, hi: usize, d: &mut [u32], at: usize) -> us
     )
 }
 
-// The two operands of the expression from lo to hi, negated, under the And or Or with tag o.
-fn negate_both(s: &[u32], lo: usize, hi: usize, d: &mut [u32], at: usize, o: u32) -> usize
+// The two operands of the expression from lo to hi, negated, under the And or Or with tag o and that origin.
+fn negate_both(
+    s: &[u32],
+    lo: usize,
+    hi: usize,
+    d: &mut [u32],
+    at: usize,
+    o: u32,
+    origin: u32,
+) -> usize
     requires { ⌜ ExpressionAt (now s) lo hi ⌝ }
     requires { ⌜ (10 ≤ tag-at (now s) hi) × (tag-at (now s) hi < 30) ⌝ }
     requires { ⌜ (o ≡ 10) ⊎ (o ≡ 11) ⌝ }
-    ensures { λ r. ⌜ Maps (negated o) (now (s .entry)) lo hi (now (d .entry)) at r (now (d .exit)) ⌝ }
+    ensures { λ r. ⌜ Maps (negated o origin) (now (s .entry)) lo hi (now (d .entry)) at r (now (d .exit)) ⌝ }
 {
     let k = hi - cells::CELL_WORDS;
     let mid = cells::start(s, k);
-    let m = into_nnf_not(s, lo, mid, d, at);
-    let n = into_nnf_not(s, mid, k, d, m);
+    let m = into_nnf_not(s, lo, mid, d, at, origin);
+    let n = into_nnf_not(s, mid, k, d, m, origin);
     cells::put(
         d,
         at,
         n,
         cells::Cell {
+            origin: origin,
             tag: o,
             flag: 0,
             a: 0,

@@ -7,11 +7,11 @@ use mathlib.Core.Path.{_≡_, refl, sym, ap, _∙_, subst}
 use mathlib.Core.List.{List, [], _∷_, _++_, append-nil}
 use mathlib.Core.Option.{Option, none, some}
 use lib.ListN.{length, length-append}
-use Rattle.sql.specs.Expression.{Expression, constant, column, unary, binary}
+use Rattle.sql.specs.Expression.{origin, Expression, constant, column, unary, binary}
 use Rattle.sql.specs.Plan.{Label, unlabelled, unqualified, qualified, by-key, by-index, Leaf, scan, lookup, nothing, values, limit, offset, order, projection, remap, aggregate, Over, filter, other, Join, nested-loop, hash, Node, leaf, over, join}
 use Rattle.sheet.specs.Content.{constant-cell, label-cell, target-cell, item-cell, key-cell, agg-cell, row-cell}
 use Rattle.cells.specs.declared.Cell.{Cell}
-use Rattle.cells.specs.Cells.{sized, cell-at, tag-at, Part}
+use Rattle.cells.specs.Cells.{cell-words, sized, cell-at, tag-at, Part}
 use Rattle.cells.proofs.Laws.{lt-or-ge}
 use Rattle.words.specs.Words.{cell, all-words, root, operand-words, expression-words, optional-words, constant-words, label-words, target-words, item-words, key-words, agg-words, row-words, leaf-own, over-own, join-own, own-words, source-words, node-cell, leaf-cell, over-cell, join-cell, source-count}
 use Rattle.words.specs.Place.{NodeHere, NodeAt}
@@ -27,14 +27,14 @@ use Rattle.nodes.proofs.Trees.{plain, parts-one, append-parts, all-part
 -- ---- a node's own words are so many parts
 
 -- an expression of a tag below 10 has no operands
-leaf-alone : (e : Expression) → cell (root e) .tag < 10 → length (operand-words e) ≡ 0
-leaf-alone e h = by-leaf (λ e. length (operand-words e) ≡ 0) (λ v. refl) (λ i. refl) e (rw (tag-cell (root e)) at h)
+leaf-alone : (e : Expression) → cell (origin e) (root e) .tag < 10 → length (operand-words e) ≡ 0
+leaf-alone e h = by-leaf (λ e. length (operand-words e) ≡ 0) (λ og v. refl) (λ og i. refl) e (rw (tag-cell (origin e) (root e)) at h)
 
 one-part : (e : Expression) → Parts 1 (expression-words e)
-one-part e = rw (shape e) (parts-one (operand-words e) (cell (root e)) (leaf-alone e))
+one-part e = rw (shape e) (parts-one (operand-words e) (cell (origin e) (root e)) (leaf-alone e))
 
 expression-parts : (es : List Expression) → Parts (length es) (all-words expression-words es)
-expression-parts es = all-parts expression-words operand-words (λ e. cell (root e)) shape leaf-alone es
+expression-parts es = all-parts expression-words operand-words (λ e. cell (origin e) (root e)) shape leaf-alone es
 
 pub one-tree : (e : Expression) → Trees 1 (expression-words e)
 one-tree e = plain (one-part e)
@@ -43,20 +43,20 @@ pub expression-trees : (es : List Expression) → Trees (length es) (all-words e
 expression-trees es = plain (expression-parts es)
 
 -- an Item's tag
-item-tag : (l : Label) → cell (item-cell l) .tag ≡ 41
+item-tag : (og : ℕ) (l : Label) → cell og (item-cell l) .tag ≡ 41
 unfolding cell
-item-tag unlabelled = refl
-item-tag (unqualified n) = refl
-item-tag (qualified q n) = refl
+item-tag og unlabelled = refl
+item-tag og (unqualified n) = refl
+item-tag og (qualified q n) = refl
 
 leaf-parts : (l : Leaf) → Parts (leaf-count l) (leaf-own l)
 unfolding cell
 leaf-parts (scan t al none) = trees.no-part
 leaf-parts (scan t al (some e)) = one-part e
-leaf-parts (lookup a t al vs) = all-parts constant-words (λ v. []) (λ v. cell (constant-cell v)) (λ v. refl) (λ v h. refl) vs
-leaf-parts (nothing ls) = all-parts label-words (λ l. []) (λ l. cell (label-cell l)) (λ l. refl) (λ l h. refl) ls
+leaf-parts (lookup a t al vs) = all-parts constant-words (λ v. []) (λ v. cell (v .1) (constant-cell (v .0))) (λ v. refl) (λ v h. refl) vs
+leaf-parts (nothing ls) = all-parts label-words (λ l. []) (λ l. cell (l .1) (label-cell (l .0))) (λ l. refl) (λ l h. refl) ls
 leaf-parts (values rs) =
-    all-parts row-words (all-words expression-words) (λ es. cell (row-cell (length es))) (λ es. refl) (λ es h. absurd (omega arith)) rs
+    all-parts row-words (λ es. all-words expression-words (es .0)) (λ es. cell (es .1) (row-cell (length (es .0)))) (λ es. refl) (λ es h. absurd (omega arith)) rs
 
 over-parts : (o : Over) → Parts (over-count o) (over-own o)
 unfolding cell
@@ -64,14 +64,14 @@ over-parts (filter e) = one-part e
 over-parts (other (limit n)) = trees.no-part
 over-parts (other (offset n)) = trees.no-part
 over-parts (other (order ks)) =
-    all-parts key-words (λ k. expression-words (k .0)) (λ k. cell (key-cell (k .1))) (λ k. refl) (λ k h. absurd (omega arith)) ks
+    all-parts key-words (λ k. expression-words (k .0)) (λ k. cell (k .2) (key-cell (k .1))) (λ k. refl) (λ k h. absurd (omega arith)) ks
 over-parts (other (projection is)) =
-    all-parts item-words (λ i. expression-words (i .0)) (λ i. cell (item-cell (i .1))) (λ i. refl)
-    (λ i h. absurd (omega (arith, item-tag (i .1)))) is
-over-parts (other (remap ts)) = all-parts target-words (λ t. []) (λ t. cell (target-cell t)) (λ t. refl) (λ t h. refl) ts
+    all-parts item-words (λ i. expression-words (i .0)) (λ i. cell (i .2) (item-cell (i .1))) (λ i. refl)
+    (λ i h. absurd (omega (arith, item-tag (i .2) (i .1)))) is
+over-parts (other (remap ts)) = all-parts target-words (λ t. []) (λ t. cell (t .1) (target-cell (t .0))) (λ t. refl) (λ t h. refl) ts
 over-parts (other (aggregate es gs)) =
     append-parts (expression-parts es)
-    (all-parts agg-words (λ g. expression-words (g .1)) (λ g. cell (agg-cell (g .0))) (λ g. refl) (λ g h. absurd (omega arith)) gs)
+    (all-parts agg-words (λ g. expression-words (g .1)) (λ g. cell (g .2) (agg-cell (g .0))) (λ g. refl) (λ g h. absurd (omega arith)) gs)
 
 join-parts : (j : Join) → Parts (join-count j) (join-own j)
 join-parts (nested-loop none) = trees.no-part
@@ -79,9 +79,9 @@ join-parts (nested-loop (some e)) = one-part e
 join-parts (hash i j) = trees.no-part
 
 own-parts : (p : Node) → Parts (own-count p) (own-words p)
-own-parts (leaf l) = leaf-parts l
-own-parts (over o n) = over-parts o
-own-parts (join outer j l r) = join-parts j
+own-parts (leaf og l) = leaf-parts l
+own-parts (over og o n) = over-parts o
+own-parts (join og outer j l r) = join-parts j
 
 pub own-trees : (p : Node) → Trees (own-count p) (own-words p)
 own-trees p = plain (own-parts p)
@@ -96,58 +96,58 @@ module _ {s : List ℕ} {lo hi : ℕ} {c : Cell} (q : c ≡ cell-at s hi) where
   unfolding cell
   aggregate-trees z p u y =
       by-aggregate (λ p. NodeHere s lo hi p → c .a + c .b ≡ own-count p)
-      (λ es gs n u. ap (λ (k : Cell). k .a + k .b) (q ∙ node-cell-is (over (other (aggregate es gs)) n) u)) p (sym (tag-said p u) ∙ z) u
+      (λ og es gs n u. ap (λ (k : Cell). k .a + k .b) (q ∙ node-cell-is (over og (other (aggregate es gs)) n) u)) p (sym (tag-said p u) ∙ z) u
 
   pub list-trees : 59 ≤ c .tag → OwnTrees s lo hi (c .a)
   unfolding cell
   list-trees z p u y = go p u (tag-said p u) y
     where
       go : (p : Node) → NodeHere s lo hi p → c .tag ≡ tag-of p → (source-count p ≡ 0 → ⊥) → c .a ≡ own-count p
-      go (leaf l) u e y = absurd (y refl)
-      go (over (filter x) n) u e y = absurd (omega arith)
-      go (over (other (limit x)) n) u e y = absurd (omega arith)
-      go (over (other (offset x)) n) u e y = absurd (omega arith)
-      go (over (other (order ks)) n) u e y = ap (λ (k : Cell). k .a) (q ∙ node-cell-is (over (other (order ks)) n) u)
-      go (over (other (projection is)) n) u e y = ap (λ (k : Cell). k .a) (q ∙ node-cell-is (over (other (projection is)) n) u)
-      go (over (other (remap ts)) n) u e y = ap (λ (k : Cell). k .a) (q ∙ node-cell-is (over (other (remap ts)) n) u)
-      go (over (other (aggregate es gs)) n) u e y = absurd (omega arith)
-      go (join outer (nested-loop x) l r) u e y = absurd (omega arith)
-      go (join outer (hash a b) l r) u e y = absurd (omega arith)
+      go (leaf og l) u e y = absurd (y refl)
+      go (over og (filter x) n) u e y = absurd (omega arith)
+      go (over og (other (limit x)) n) u e y = absurd (omega arith)
+      go (over og (other (offset x)) n) u e y = absurd (omega arith)
+      go (over og (other (order ks)) n) u e y = ap (λ (k : Cell). k .a) (q ∙ node-cell-is (over og (other (order ks)) n) u)
+      go (over og (other (projection is)) n) u e y = ap (λ (k : Cell). k .a) (q ∙ node-cell-is (over og (other (projection is)) n) u)
+      go (over og (other (remap ts)) n) u e y = ap (λ (k : Cell). k .a) (q ∙ node-cell-is (over og (other (remap ts)) n) u)
+      go (over og (other (aggregate es gs)) n) u e y = absurd (omega arith)
+      go (join og outer (nested-loop x) l r) u e y = absurd (omega arith)
+      go (join og outer (hash a b) l r) u e y = absurd (omega arith)
 
   pub filter-trees : c .tag ≡ 51 → OwnTrees s lo hi 1
-  filter-trees z p u y = by-filter (λ p. 1 ≡ own-count p) (λ e n. refl) p (sym (tag-said p u) ∙ z)
+  filter-trees z p u y = by-filter (λ p. 1 ≡ own-count p) (λ og e n. refl) p (sym (tag-said p u) ∙ z)
 
   pub join-trees-said : c .tag ≡ 56 → OwnTrees s lo hi (c .flag % 2)
   unfolding cell
   join-trees-said z p u y = by-nested-loop (λ p. NodeHere s lo hi p → c .flag % 2 ≡ own-count p) go p (sym (tag-said p u) ∙ z) u
     where
-      go : (outer : Bool) (x : Option Expression) (l r : Node) → NodeHere s lo hi (join outer (nested-loop x) l r) → c .flag % 2 ≡ own-count (join outer (nested-loop x) l r)
-      go false none l r u = ap (λ (k : Cell). k .flag % 2) (q ∙ node-cell-is (join false (nested-loop none) l r) u)
-      go true none l r u = ap (λ (k : Cell). k .flag % 2) (q ∙ node-cell-is (join true (nested-loop none) l r) u)
-      go false (some x) l r u = ap (λ (k : Cell). k .flag % 2) (q ∙ node-cell-is (join false (nested-loop (some x)) l r) u)
-      go true (some x) l r u = ap (λ (k : Cell). k .flag % 2) (q ∙ node-cell-is (join true (nested-loop (some x)) l r) u)
+      go : (og : ℕ) (outer : Bool) (x : Option Expression) (l r : Node) → NodeHere s lo hi (join og outer (nested-loop x) l r) → c .flag % 2 ≡ own-count (join og outer (nested-loop x) l r)
+      go og false none l r u = ap (λ (k : Cell). k .flag % 2) (q ∙ node-cell-is (join og false (nested-loop none) l r) u)
+      go og true none l r u = ap (λ (k : Cell). k .flag % 2) (q ∙ node-cell-is (join og true (nested-loop none) l r) u)
+      go og false (some x) l r u = ap (λ (k : Cell). k .flag % 2) (q ∙ node-cell-is (join og false (nested-loop (some x)) l r) u)
+      go og true (some x) l r u = ap (λ (k : Cell). k .flag % 2) (q ∙ node-cell-is (join og true (nested-loop (some x)) l r) u)
 
   pub no-trees : (c .tag ≡ 50 → ⊥) → c .tag < 59 → (c .tag ≡ 51 → ⊥) → (c .tag ≡ 56 → ⊥) → OwnTrees s lo hi 0
   no-trees a b d f p u y = go p (tag-said p u) y
     where
       go : (p : Node) → c .tag ≡ tag-of p → (source-count p ≡ 0 → ⊥) → 0 ≡ own-count p
-      go (leaf l) e y = absurd (y refl)
-      go (over (filter x) n) e y = absurd (d e)
-      go (over (other (limit x)) n) e y = refl
-      go (over (other (offset x)) n) e y = refl
-      go (over (other (order ks)) n) e y = absurd (omega arith)
-      go (over (other (projection is)) n) e y = absurd (omega arith)
-      go (over (other (remap ts)) n) e y = absurd (omega arith)
-      go (over (other (aggregate es gs)) n) e y = absurd (a e)
-      go (join outer (nested-loop x) l r) e y = absurd (f e)
-      go (join outer (hash i j) l r) e y = refl
+      go (leaf og l) e y = absurd (y refl)
+      go (over og (filter x) n) e y = absurd (d e)
+      go (over og (other (limit x)) n) e y = refl
+      go (over og (other (offset x)) n) e y = refl
+      go (over og (other (order ks)) n) e y = absurd (omega arith)
+      go (over og (other (projection is)) n) e y = absurd (omega arith)
+      go (over og (other (remap ts)) n) e y = absurd (omega arith)
+      go (over og (other (aggregate es gs)) n) e y = absurd (a e)
+      go (join og outer (nested-loop x) l r) e y = absurd (f e)
+      go (join og outer (hash i j) l r) e y = refl
 
   -- an Aggregate's parts stand in the list
   pub aggregate-few : c .tag ≡ 50 → NodeAt s lo hi → c .a + c .b ≤ hi
   aggregate-few z t =
       by-aggregate (λ p. NodeHere s lo hi p → c .a + c .b ≤ hi)
-      (λ es gs n u.
-      let p = over (other (aggregate es gs)) n in
+      (λ og es gs n u.
+      let p = over og (other (aggregate es gs)) n in
       omega (arith, aggregate-trees z p u (λ y. omega arith), trees-few (record { lo = lo + length (source-words p); w = own-words p; trees = own-trees p; part = own-part p u refl })))
       (t .p) (sym (tag-said (t .p) (t .here)) ∙ z) (t .here)
 
@@ -158,40 +158,40 @@ module _ {s : List ℕ} {lo hi n : ℕ} (k : SourceCount s lo hi n) where
   leaf-start z p u = go p (sym (k p u) ∙ z)
     where
       go : (p : Node) → source-count p ≡ 0 → lo ≡ lo + length (source-words p)
-      go (leaf l) h = omega arith
-      go (over o n) h = absurd (omega arith)
-      go (join outer j l r) h = absurd (omega arith)
+      go (leaf og l) h = omega arith
+      go (over og o n) h = absurd (omega arith)
+      go (join og outer j l r) h = absurd (omega arith)
 
   pub has-sources : (n ≡ 0 → ⊥) → NodeAt s lo hi → SourcedAt s lo hi
   has-sources z t = record { node = t; sourced = λ y. z (k (t .p) (t .here) ∙ y) }
 
   module _ (z : n ≡ 0 → ⊥) {r : ℕ} (f : OwnTrees s lo hi r) where
-    pub own-at : NodeAt s lo hi → PartsAt s r (hi - 6)
+    pub own-at : NodeAt s lo hi → PartsAt s r (hi - cell-words)
     own-at t =
-        subst (λ (m : ℕ). PartsAt s m (hi - 6)) (sym (f (t .p) (t .here) (λ y. z (k (t .p) (t .here) ∙ y))))
+        subst (λ (m : ℕ). PartsAt s m (hi - cell-words)) (sym (f (t .p) (t .here) (λ y. z (k (t .p) (t .here) ∙ y))))
         (record { lo = lo + length (source-words (t .p)); w = own-words (t .p); parts = own-parts (t .p); part = own-part (t .p) (t .here) refl })
 
-    pub own-start-said : {m : ℕ} → m ≡ trees-start s r (hi - 6) → OwnStart s lo hi m
+    pub own-start-said : {m : ℕ} → m ≡ trees-start s r (hi - cell-words) → OwnStart s lo hi m
     own-start-said e p u =
-        e ∙ ap (λ (i : ℕ). trees-start s i (hi - 6)) (f p u (λ y. z (k p u ∙ y))) ∙ trees-start-is (own-trees p) (own-part p u refl)
+        e ∙ ap (λ (i : ℕ). trees-start s i (hi - cell-words)) (f p u (λ y. z (k p u ∙ y))) ∙ trees-start-is (own-trees p) (own-part p u refl)
 
 -- a Remap's, whose Targets are one cell each
 module _ {s : List ℕ} {lo hi r : ℕ} (f : OwnTrees s lo hi r) (z : tag-at s hi ≡ 61) where
   remap-here : (P : Node → Type 0)
-      → ((ts : List (Option ℕ)) (n : Node) → hi ≡ lo + length (source-words (over (other (remap ts)) n)) + 6 * r + 6 → P (over (other (remap ts)) n))
+      → ((og : ℕ) (ts : List (Option ℕ × ℕ)) (n : Node) → hi ≡ lo + length (source-words (over og (other (remap ts)) n)) + cell-words * r + cell-words → P (over og (other (remap ts)) n))
       → (p : Node) → NodeHere s lo hi p → P p
   remap-here P g p u =
       by-remap (λ p. NodeHere s lo hi p → P p)
-      (λ ts n u. let q = over (other (remap ts)) n in g ts n (omega (arith, f q u (λ y. omega arith), over-long (other (remap ts)), node-long q u)))
+      (λ og ts n u. let q = over og (other (remap ts)) n in g og ts n (omega (arith, f q u (λ y. omega arith), over-long (other (remap ts)), node-long q u)))
       p (sym (tagged p) ∙ sym (node-tag p u) ∙ z) u
 
-  pub targets-fit : NodeAt s lo hi → 6 * r + 6 ≤ hi
-  targets-fit t = remap-here (λ p. 6 * r + 6 ≤ hi) (λ ts n e. omega arith) (t .p) (t .here)
+  pub targets-fit : NodeAt s lo hi → cell-words * r + cell-words ≤ hi
+  targets-fit t = remap-here (λ p. cell-words * r + cell-words ≤ hi) (λ og ts n e. omega arith) (t .p) (t .here)
 
-  pub remap-start : OwnStart s lo hi (hi - 6 - 6 * r)
-  remap-start p u = remap-here (λ p. hi - 6 - 6 * r ≡ lo + length (source-words p)) (λ ts n e. omega arith) p u
+  pub remap-start : OwnStart s lo hi (hi - cell-words - cell-words * r)
+  remap-start p u = remap-here (λ p. hi - cell-words - cell-words * r ≡ lo + length (source-words p)) (λ og ts n e. omega arith) p u
 
-pub at-in : {s : List ℕ} {lo hi : ℕ} → NodeAt s lo hi → (lo + 6 ≤ hi) × (hi ≤ length s)
+pub at-in : {s : List ℕ} {lo hi : ℕ} → NodeAt s lo hi → (lo + cell-words ≤ hi) × (hi ≤ length s)
 at-in t = node-in (t .p) (t .here)
 
 -- a node's sources, by its tag

@@ -6,7 +6,7 @@ use mathlib.Core.Path.{_≡_, refl, sym, ap, _∙_, subst}
 use mathlib.Core.List.{List, [], _∷_, _++_, append-assoc, append-nil}
 use lib.ListN.{length, length-append}
 use Rattle.cells.specs.declared.Cell.{Cell}
-use Rattle.cells.specs.Cells.{words, sized, tag-at, start-at, Part, Sized}
+use Rattle.cells.specs.Cells.{cell-words, words, sized, tag-at, start-at, Part, Sized}
 use Rattle.cells.proofs.Laws.{part-left, part-right, part-in, seam, tag-is, start-is, has-size}
 use Rattle.words.specs.Words.{all-words}
 use Rattle.nodes.specs.Trees.{Trees, none, one-more, TreesAt, Parts, no-part, one-part-more, PartsAt, trees-start}
@@ -35,10 +35,10 @@ all-trees f children k h (x ∷ xs) = rw (h x) (append-one (children x) (k x) (a
 
 -- ---- where they stand
 
-pub trees-long : {n : ℕ} {w : List ℕ} → Trees n w → 6 * n ≤ length w
+pub trees-long : {n : ℕ} {w : List ℕ} → Trees n w → cell-words * n ≤ length w
 trees-long none = omega arith
 trees-long (one-more {w = w} t b k) =
-    omega (arith, trees-long t, length-append w (sized b k), length-append b (words k (length b + 6)))
+    omega (arith, trees-long t, length-append w (sized b k), length-append b (words k (length b + cell-words)))
 
 -- they start where their words do
 pub trees-start-is : {s : List ℕ} {n lo hi : ℕ} {w : List ℕ} → Trees n w → Part s lo hi w → trees-start s n hi ≡ lo
@@ -75,7 +75,7 @@ pub start-none : (s : List ℕ) {n : ℕ} (hi : ℕ) → n ≡ 0 → trees-start
 unfolding trees-start
 start-none s hi e = rw e
 
-pub trees-few : {s : List ℕ} {n hi : ℕ} → TreesAt s n hi → 6 * n ≤ hi
+pub trees-few : {s : List ℕ} {n hi : ℕ} → TreesAt s n hi → cell-words * n ≤ hi
 trees-few t = omega (arith, trees-long (t .trees), t .part .high)
 
 -- ---- parts, as trees above
@@ -110,10 +110,10 @@ pub trees-at : {s : List ℕ} {n hi : ℕ} → PartsAt s n hi → TreesAt s n hi
 trees-at t = record { lo = t .lo; w = t .w; trees = plain (t .parts); part = t .part }
 
 -- the last of them is one cell if its tag is below 10
-pub last-leaf : {s : List ℕ} {n hi : ℕ} → (n ≡ 0 → ⊥) → PartsAt s n hi → tag-at s hi < 10 → hi - 6 ≡ start-at s hi
+pub last-leaf : {s : List ℕ} {n hi : ℕ} → (n ≡ 0 → ⊥) → PartsAt s n hi → tag-at s hi < 10 → hi - cell-words ≡ start-at s hi
 last-leaf z t g = go z (t .parts) (t .part) g
   where
-    go : {s : List ℕ} {n lo hi : ℕ} {w : List ℕ} → (n ≡ 0 → ⊥) → Parts n w → Part s lo hi w → tag-at s hi < 10 → hi - 6 ≡ start-at s hi
+    go : {s : List ℕ} {n lo hi : ℕ} {w : List ℕ} → (n ≡ 0 → ⊥) → Parts n w → Part s lo hi w → tag-at s hi < 10 → hi - cell-words ≡ start-at s hi
     go z no-part p g = absurd (z refl)
     go {s = s} {hi = hi} z (one-part-more {w = w} t b k h) p g =
         let q = part-right w (sized b k) p in

@@ -16,7 +16,7 @@ use Rattle.sql.specs.Plan.{Label, by-key, by-index, Leaf, scan, lookup, nothing
 use Rattle.sql.specs.Ranges.{same-in}
 use Rattle.sheet.specs.Content.{cell-of, target-cell, row-cell}
 use Rattle.cells.specs.declared.Cell.{Cell}
-use Rattle.cells.specs.Cells.{words, sized, cell-at, tag-at, start-at, Part, Sized}
+use Rattle.cells.specs.Cells.{cell-words, words, sized, cell-at, tag-at, start-at, Part, Sized}
 use Rattle.cells.proofs.Laws.{part-left, part-right, part-in, cell-is, cell-in}
 use Rattle.cells.specs.Room.{most-words}
 use Rattle.words.specs.Words.{cell, all-words, expression-words, target-words, row-words, node-words, source-words, own-words, node-cell, leaf-cell, over-cell, source-count}
@@ -39,18 +39,18 @@ table-width {schema} {widths} w t =
 -- ---- a node has at most 256 columns for each of its cells
 
 size-least : (e : Expression) → 1 ≤ size e
-size-least (constant v) = omega arith
-size-least (column i) = omega arith
-size-least (unary o x) = omega arith
-size-least (binary o l r) = omega arith
+size-least (constant og v) = omega arith
+size-least (column og i) = omega arith
+size-least (unary og o x) = omega arith
+size-least (binary og o l r) = omega arith
 
 sum-least : {A : Type 0} (f : A → ℕ) → ((x : A) → 1 ≤ f x) → (xs : List A) → length xs ≤ sum f xs
 sum-least f h [] = omega arith
 sum-least f h (x ∷ xs) = omega (arith, h x, sum-least f h xs)
 
-values-few : (rs : List (List Expression)) → values-columns rs ≤ sum row-size rs
+values-few : (rs : List (List Expression × ℕ)) → values-columns rs ≤ sum row-size rs
 values-few [] = omega arith
-values-few (row ∷ rows) = omega (arith, sum-least size size-least row)
+values-few (row ∷ rows) = omega (arith, sum-least size size-least (row .0))
 
 module _ {schema : Schema} {widths : List ℕ} (w : Tables schema widths) where
   leaf-few : (l : Leaf) → leaf-columns schema l ≤ 256 * leaf-size l
@@ -59,19 +59,19 @@ module _ {schema : Schema} {widths : List ℕ} (w : Tables schema widths) where
   leaf-few (nothing ls) = omega arith
   leaf-few (values rs) = omega (arith, values-few rs)
 
-  over-few : (o : Over) (n : Node) → Narrow-over o → columns schema n ≤ 256 * node-size n → columns schema (over o n) ≤ 256 * node-size (over o n)
-  over-few (filter e) n k h = omega arith
-  over-few (other (limit a)) n k h = omega arith
-  over-few (other (offset a)) n k h = omega arith
-  over-few (other (order ks)) n k h = omega arith
-  over-few (other (projection is)) n k h = omega (arith, sum-least item-size (λ i. omega arith) is)
-  over-few (other (remap ts)) n k h = omega arith
-  over-few (other (aggregate es gs)) n k h = omega (arith, sum-least size size-least es, sum-least aggregate-size (λ g. omega arith) gs)
+  over-few : (og : ℕ) (o : Over) (n : Node) → Narrow-over o → columns schema n ≤ 256 * node-size n → columns schema (over og o n) ≤ 256 * node-size (over og o n)
+  over-few og (filter e) n k h = omega arith
+  over-few og (other (limit a)) n k h = omega arith
+  over-few og (other (offset a)) n k h = omega arith
+  over-few og (other (order ks)) n k h = omega arith
+  over-few og (other (projection is)) n k h = omega (arith, sum-least item-size (λ i. omega arith) is)
+  over-few og (other (remap ts)) n k h = omega arith
+  over-few og (other (aggregate es gs)) n k h = omega (arith, sum-least size size-least es, sum-least aggregate-size (λ g. omega arith) gs)
 
   pub columns-few : (p : Node) → Narrow p → columns schema p ≤ 256 * node-size p
-  columns-few (leaf l) k = leaf-few l
-  columns-few (over o n) k = over-few o n (k .0) (columns-few n (k .1))
-  columns-few (join outer j l r) k = omega (arith, columns-few l (k .0), columns-few r (k .1))
+  columns-few (leaf og l) k = leaf-few l
+  columns-few (over og o n) k = over-few og o n (k .0) (columns-few n (k .1))
+  columns-few (join og outer j l r) k = omega (arith, columns-few l (k .0), columns-few r (k .1))
 
 -- ---- a node's cell, by the node
 
@@ -98,55 +98,55 @@ abbrev target-columns : Option ℕ → ℕ
 target-columns none = 0
 target-columns (some i) = suc i
 
-target-past : (t : Option ℕ) → past (cell (target-cell t) .flag) (cell (target-cell t) .a) ≡ target-columns t
+target-past : (og : ℕ) (t : Option ℕ) → past (cell og (target-cell t) .flag) (cell og (target-cell t) .a) ≡ target-columns t
 unfolding cell
-target-past none = refl
-target-past (some i) = refl
+target-past og none = refl
+target-past og (some i) = refl
 
-remap-max : (t : Option ℕ) (ts : List (Option ℕ)) → remap-columns (t ∷ ts) ≡ max (target-columns t) (remap-columns ts)
-remap-max none ts = omega arith
-remap-max (some i) ts = refl
+remap-max : (t : Option ℕ × ℕ) (ts : List (Option ℕ × ℕ)) → remap-columns (t ∷ ts) ≡ max (target-columns (t .0)) (remap-columns ts)
+remap-max (none, og) ts = omega arith
+remap-max (some i, og) ts = refl
 
 -- The targets from i up to hi are left, and n is what those before them come to.
-pub record Remaining (s : List ℕ) (hi i n : ℕ) (targets : List (Option ℕ)) : Type 0 where
-  pub rest : List (Option ℕ)
+pub record Remaining (s : List ℕ) (hi i n : ℕ) (targets : List (Option ℕ × ℕ)) : Type 0 where
+  pub rest : List (Option ℕ × ℕ)
   pub part : Part s i hi (all-words target-words rest)
   pub is : max n (remap-columns rest) ≡ remap-columns targets
 
-pub remaining-all : {s : List ℕ} {lo hi : ℕ} (targets : List (Option ℕ)) → Part s lo hi (all-words target-words targets) → Remaining s hi lo 0 targets
+pub remaining-all : {s : List ℕ} {lo hi : ℕ} (targets : List (Option ℕ × ℕ)) → Part s lo hi (all-words target-words targets) → Remaining s hi lo 0 targets
 remaining-all targets p = record { rest = targets; part = p; is = omega arith }
 
-module _ {s : List ℕ} {hi i n : ℕ} (targets : List (Option ℕ)) (g : Remaining s hi i n targets) where
+module _ {s : List ℕ} {hi i n : ℕ} (targets : List (Option ℕ × ℕ)) (g : Remaining s hi i n targets) where
   one-left : (P : Type 0) → i < hi
-      → ((t : Option ℕ) (ts : List (Option ℕ)) → Part s i (i + 6) (target-words t) → Part s (i + 6) hi (all-words target-words ts)
-      → max n (max (target-columns t) (remap-columns ts)) ≡ remap-columns targets → P)
+      → ((t : Option ℕ × ℕ) (ts : List (Option ℕ × ℕ)) → Part s i (i + cell-words) (target-words t) → Part s (i + cell-words) hi (all-words target-words ts)
+      → max n (max (target-columns (t .0)) (remap-columns ts)) ≡ remap-columns targets → P)
       → P
   one-left P h f = go (g .rest) (g .part) (g .is)
     where
-      go : (rest : List (Option ℕ)) → Part s i hi (all-words target-words rest) → max n (remap-columns rest) ≡ remap-columns targets → P
+      go : (rest : List (Option ℕ × ℕ)) → Part s i hi (all-words target-words rest) → max n (remap-columns rest) ≡ remap-columns targets → P
       go [] p e = absurd (omega (arith, p .high))
       go (t ∷ ts) p e =
           f t ts (part-left (target-words t) (all-words target-words ts) p) (part-right (target-words t) (all-words target-words ts) p)
           (ap (max n) (sym (remap-max t ts)) ∙ e)
 
-  pub remaining-in : i < hi → (i + 6 ≤ hi) × (hi ≤ length s)
-  remaining-in h = one-left ((i + 6 ≤ hi) × (hi ≤ length s)) h (λ t ts p r e. (part-in r .0, part-in r .1))
+  pub remaining-in : i < hi → (i + cell-words ≤ hi) × (hi ≤ length s)
+  remaining-in h = one-left ((i + cell-words ≤ hi) × (hi ≤ length s)) h (λ t ts p r e. (part-in r .0, part-in r .1))
 
-  module _ (h : i < hi) {c : Cell} (q : c ≡ cell-at s (i + 6)) where
-    said : (t : Option ℕ) → Part s i (i + 6) (target-words t) → past (c .flag) (c .a) ≡ target-columns t
-    said t p = ap (λ (k : Cell). past (k .flag) (k .a)) (q ∙ cell-is [] (cell (target-cell t)) p) ∙ target-past t
+  module _ (h : i < hi) {c : Cell} (q : c ≡ cell-at s (i + cell-words)) where
+    said : (t : Option ℕ × ℕ) → Part s i (i + cell-words) (target-words t) → past (c .flag) (c .a) ≡ target-columns (t .0)
+    said t p = ap (λ (k : Cell). past (k .flag) (k .a)) (q ∙ cell-is [] (cell (t .1) (target-cell (t .0))) p) ∙ target-past (t .1) (t .0)
 
     pub remaining-few : remap-columns targets ≤ 256 → past (c .flag) (c .a) ≤ 256
     remaining-few k = one-left (past (c .flag) (c .a) ≤ 256) h (λ t ts p r e. omega (arith, said t p))
 
-    pub remaining-next : {m : ℕ} → m ≡ max n (past (c .flag) (c .a)) → Remaining s hi (i + 6) m targets
+    pub remaining-next : {m : ℕ} → m ≡ max n (past (c .flag) (c .a)) → Remaining s hi (i + cell-words) m targets
     remaining-next {m} z =
-        one-left (Remaining s hi (i + 6) m targets) h (λ t ts p r e. record { rest = ts; part = r; is = omega (arith, said t p) })
+        one-left (Remaining s hi (i + cell-words) m targets) h (λ t ts p r e. record { rest = ts; part = r; is = omega (arith, said t p) })
 
   pub remaining-none : hi ≤ i → n ≡ remap-columns targets
   remaining-none h = go (g .rest) (g .part) (g .is)
     where
-      go : (rest : List (Option ℕ)) → Part s i hi (all-words target-words rest) → max n (remap-columns rest) ≡ remap-columns targets → n ≡ remap-columns targets
+      go : (rest : List (Option ℕ × ℕ)) → Part s i hi (all-words target-words rest) → max n (remap-columns rest) ≡ remap-columns targets → n ≡ remap-columns targets
       go [] p e = omega arith
       go (t ∷ ts) p e = absurd (omega (arith, p .high, length-append (target-words t) (all-words target-words ts)))
 
@@ -165,59 +165,59 @@ past-none n flag a h = rw (ne-eqb flag 1 h) (omega arith)
 
 -- ---- nodes without sources
 
-row-trees : (rows : List (List Expression)) → Trees (length rows) (all-words row-words rows)
-row-trees rows = all-trees row-words (all-words expression-words) (λ es. cell (row-cell (length es))) (λ es. refl) rows
+row-trees : (rows : List (List Expression × ℕ)) → Trees (length rows) (all-words row-words rows)
+row-trees rows = all-trees row-words (λ es. all-words expression-words (es .0)) (λ es. cell (es .1) (row-cell (length (es .0)))) (λ es. refl) rows
 
 module _ {s : List ℕ} {lo hi : ℕ} {c : Cell} (q : c ≡ cell-at s hi) where
   pub columns-nothing : {widths : List ℕ} → c .tag ≡ 57 → ColumnCount widths s lo hi (c .a)
   columns-nothing z schema p w u =
-      by-nothing (λ p. NodeHere s lo hi p → c .a ≡ columns schema p) (λ ls u. a-here q (leaf (nothing ls)) u) p (sym (tag-here q p u) ∙ z) u
+      by-nothing (λ p. NodeHere s lo hi p → c .a ≡ columns schema p) (λ og ls u. a-here q (leaf og (nothing ls)) u) p (sym (tag-here q p u) ∙ z) u
 
   -- the first row of Values, and those behind it
   first-row : (z : c .tag ≡ 63) → (c .a ≡ 0 → ⊥) → (p : Node) → NodeHere s lo hi p → (P : Node → Type 0)
-      → ((row : List Expression) (rows : List (List Expression)) → c .a - 1 ≡ length rows → Part s lo (lo + length (row-words row)) (row-words row)
-      → Part s (lo + length (row-words row)) (hi - 6) (all-words row-words rows) → P (leaf (values (row ∷ rows))))
+      → ((og : ℕ) (row : List Expression × ℕ) (rows : List (List Expression × ℕ)) → c .a - 1 ≡ length rows → Part s lo (lo + length (row-words row)) (row-words row)
+      → Part s (lo + length (row-words row)) (hi - cell-words) (all-words row-words rows) → P (leaf og (values (row ∷ rows))))
       → P p
   first-row z y p u P f = by-values (λ p. NodeHere s lo hi p → P p) go p (sym (tag-here q p u) ∙ z) u
     where
-      go : (rs : List (List Expression)) → NodeHere s lo hi (leaf (values rs)) → P (leaf (values rs))
-      go [] u = absurd (y (a-here q (leaf (values [])) u))
-      go (row ∷ rows) u =
-          let v = own-part (leaf (values (row ∷ rows))) u {m = lo} (omega arith) in
-          f row rows (omega (arith, a-here q (leaf (values (row ∷ rows))) u)) (part-left (row-words row) (all-words row-words rows) v)
+      go : (og : ℕ) (rs : List (List Expression × ℕ)) → NodeHere s lo hi (leaf og (values rs)) → P (leaf og (values rs))
+      go og [] u = absurd (y (a-here q (leaf og (values [])) u))
+      go og (row ∷ rows) u =
+          let v = own-part (leaf og (values (row ∷ rows))) u {m = lo} (omega arith) in
+          f og row rows (omega (arith, a-here q (leaf og (values (row ∷ rows))) u)) (part-left (row-words row) (all-words row-words rows) v)
           (part-right (row-words row) (all-words row-words rows) v)
 
   pub columns-no-rows : {widths : List ℕ} → c .tag ≡ 63 → c .a ≡ 0 → ColumnCount widths s lo hi 0
   columns-no-rows z y schema p w u = by-values (λ p. NodeHere s lo hi p → 0 ≡ columns schema p) go p (sym (tag-here q p u) ∙ z) u
     where
-      go : (rs : List (List Expression)) → NodeHere s lo hi (leaf (values rs)) → 0 ≡ values-columns rs
-      go [] u = refl
-      go (row ∷ rows) u = absurd (omega (arith, a-here q (leaf (values (row ∷ rows))) u))
+      go : (og : ℕ) (rs : List (List Expression × ℕ)) → NodeHere s lo hi (leaf og (values rs)) → 0 ≡ values-columns rs
+      go og [] u = refl
+      go og (row ∷ rows) u = absurd (omega (arith, a-here q (leaf og (values (row ∷ rows))) u))
 
   module _ (z : c .tag ≡ 63) (y : c .a ≡ 0 → ⊥) where
-    pub rows-at : NodeAt s lo hi → TreesAt s (c .a - 1) (hi - 6)
+    pub rows-at : NodeAt s lo hi → TreesAt s (c .a - 1) (hi - cell-words)
     rows-at t =
-        first-row z y (t .p) (t .here) (λ p. TreesAt s (c .a - 1) (hi - 6))
-        (λ row rows e a b. record { lo = lo + length (row-words row); w = all-words row-words rows; trees = subst (λ (n : ℕ). Trees n (all-words row-words rows)) (sym e) (row-trees rows); part = b })
+        first-row z y (t .p) (t .here) (λ p. TreesAt s (c .a - 1) (hi - cell-words))
+        (λ og row rows e a b. record { lo = lo + length (row-words row); w = all-words row-words rows; trees = subst (λ (n : ℕ). Trees n (all-words row-words rows)) (sym e) (row-trees rows); part = b })
 
-    module _ {first : ℕ} (e : first ≡ trees-start s (c .a - 1) (hi - 6)) where
+    module _ {first : ℕ} (e : first ≡ trees-start s (c .a - 1) (hi - cell-words)) where
       with-row : (p : Node) → NodeHere s lo hi p → (P : Node → Type 0)
-          → ((row : List Expression) (rows : List (List Expression)) → Part s lo first (row-words row) → P (leaf (values (row ∷ rows)))) → P p
+          → ((og : ℕ) (row : List Expression × ℕ) (rows : List (List Expression × ℕ)) → Part s lo first (row-words row) → P (leaf og (values (row ∷ rows)))) → P p
       with-row p u P f =
           first-row z y p u P
-          (λ row rows i a b. f row rows
-          (subst (λ (n : ℕ). Part s lo n (row-words row)) (sym (e ∙ ap (λ (n : ℕ). trees-start s n (hi - 6)) i ∙ trees-start-is (row-trees rows) b)) a))
+          (λ og row rows i a b. f og row rows
+          (subst (λ (n : ℕ). Part s lo n (row-words row)) (sym (e ∙ ap (λ (n : ℕ). trees-start s n (hi - cell-words)) i ∙ trees-start-is (row-trees rows) b)) a))
 
-      pub row-in : NodeAt s lo hi → (6 ≤ first) × (first ≤ length s)
+      pub row-in : NodeAt s lo hi → (cell-words ≤ first) × (first ≤ length s)
       row-in t =
-          with-row (t .p) (t .here) (λ p. (6 ≤ first) × (first ≤ length s))
-          (λ row rows a. let (h, k) = cell-in (all-words expression-words row) (cell (row-cell (length row))) a in (omega arith, k))
+          with-row (t .p) (t .here) (λ p. (cell-words ≤ first) × (first ≤ length s))
+          (λ og row rows a. let (h, k) = cell-in (all-words expression-words (row .0)) (cell (row .1) (row-cell (length (row .0)))) a in (omega arith, k))
 
       pub columns-values : {widths : List ℕ} {d : Cell} → d ≡ cell-at s first → ColumnCount widths s lo hi (d .a)
       unfolding cell
       columns-values {d = d} g schema p w u =
           with-row p u (λ p. d .a ≡ columns schema p)
-          (λ row rows a. ap (λ (k : Cell). k .a) (g ∙ cell-is (all-words expression-words row) (cell (row-cell (length row))) a))
+          (λ og row rows a. ap (λ (k : Cell). k .a) (g ∙ cell-is (all-words expression-words (row .0)) (cell (row .1) (row-cell (length (row .0)))) a))
 
   pub columns-table : SourceCount s lo hi 0 → (c .tag ≡ 57 → ⊥) → (c .tag ≡ 63 → ⊥) → {widths : List ℕ} {r : ℕ} → r ≡ getD widths (c .a) 0 → ColumnCount widths s lo hi r
   columns-table k y z {widths = widths} {r = r} e schema p w u = by-leaf (λ p. NodeHere s lo hi p → r ≡ columns schema p) go p (sym (k p u)) u
@@ -225,65 +225,65 @@ module _ {s : List ℕ} {lo hi : ℕ} {c : Cell} (q : c ≡ cell-at s hi) where
       of-table : (t : ℕ) → c .a ≡ t → r ≡ length (table-of schema t .columns)
       of-table t i = e ∙ ap (λ (n : ℕ). getD widths n 0) i ∙ table-width w t
 
-      go : (l : Leaf) → NodeHere s lo hi (leaf l) → r ≡ leaf-columns schema l
-      go (scan t none f) u = of-table t (a-here q (leaf (scan t none f)) u)
-      go (scan t (some al) f) u = of-table t (a-here q (leaf (scan t (some al) f)) u)
-      go (lookup by-key t none vs) u = of-table t (a-here q (leaf (lookup by-key t none vs)) u)
-      go (lookup by-key t (some al) vs) u = of-table t (a-here q (leaf (lookup by-key t (some al) vs)) u)
-      go (lookup (by-index i) t none vs) u = of-table t (a-here q (leaf (lookup (by-index i) t none vs)) u)
-      go (lookup (by-index i) t (some al) vs) u = of-table t (a-here q (leaf (lookup (by-index i) t (some al) vs)) u)
-      go (nothing ls) u = absurd (y (tag-here q (leaf (nothing ls)) u))
-      go (values rs) u = absurd (z (tag-here q (leaf (values rs)) u))
+      go : (og : ℕ) (l : Leaf) → NodeHere s lo hi (leaf og l) → r ≡ leaf-columns schema l
+      go og (scan t none f) u = of-table t (a-here q (leaf og (scan t none f)) u)
+      go og (scan t (some al) f) u = of-table t (a-here q (leaf og (scan t (some al) f)) u)
+      go og (lookup by-key t none vs) u = of-table t (a-here q (leaf og (lookup by-key t none vs)) u)
+      go og (lookup by-key t (some al) vs) u = of-table t (a-here q (leaf og (lookup by-key t (some al) vs)) u)
+      go og (lookup (by-index i) t none vs) u = of-table t (a-here q (leaf og (lookup (by-index i) t none vs)) u)
+      go og (lookup (by-index i) t (some al) vs) u = of-table t (a-here q (leaf og (lookup (by-index i) t (some al) vs)) u)
+      go og (nothing ls) u = absurd (y (tag-here q (leaf og (nothing ls)) u))
+      go og (values rs) u = absurd (z (tag-here q (leaf og (values rs)) u))
 
 -- ---- nodes that say their columns themselves
 
 module _ {s : List ℕ} {lo hi : ℕ} {c : Cell} (q : c ≡ cell-at s hi) (k : SourceCount s lo hi 1) where
-  over-here : (P : Node → Type 0) → ((o : Over) (n : Node) → NodeHere s lo hi (over o n) → c .tag ≡ over-tag o → P (over o n)) → (p : Node) → NodeHere s lo hi p → P p
-  over-here P f p u = by-over (λ p. NodeHere s lo hi p → P p) (λ o n u. f o n u (tag-here q (over o n) u)) p (sym (k p u)) u
+  over-here : (P : Node → Type 0) → ((og : ℕ) (o : Over) (n : Node) → NodeHere s lo hi (over og o n) → c .tag ≡ over-tag o → P (over og o n)) → (p : Node) → NodeHere s lo hi p → P p
+  over-here P f p u = by-over (λ p. NodeHere s lo hi p → P p) (λ og o n u. f og o n u (tag-here q (over og o n) u)) p (sym (k p u)) u
 
   aggregate-here : c .tag ≡ 50 → (p : Node) → NodeHere s lo hi p → (P : Node → Type 0)
-      → ((es : List Expression) (gs : List (ℕ × Expression)) (n : Node) → NodeHere s lo hi (over (other (aggregate es gs)) n) → P (over (other (aggregate es gs)) n)) → P p
+      → ((og : ℕ) (es : List Expression) (gs : List (ℕ × Expression × ℕ)) (n : Node) → NodeHere s lo hi (over og (other (aggregate es gs)) n) → P (over og (other (aggregate es gs)) n)) → P p
   aggregate-here z p u P f =
-      over-here P (λ o n u e. over-aggregate (λ o. NodeHere s lo hi (over o n) → P (over o n)) (λ es gs u. f es gs n u) o (sym e ∙ z) u) p u
+      over-here P (λ og o n u e. over-aggregate (λ o. NodeHere s lo hi (over og o n) → P (over og o n)) (λ es gs u. f og es gs n u) o (sym e ∙ z) u) p u
 
-  pub aggregate-fits : c .tag ≡ 50 → NodeAt s lo hi → 6 * (c .b + c .a) ≤ hi
+  pub aggregate-fits : c .tag ≡ 50 → NodeAt s lo hi → cell-words * (c .b + c .a) ≤ hi
   aggregate-fits z t =
-      aggregate-here z (t .p) (t .here) (λ p. 6 * (c .b + c .a) ≤ hi)
-      (λ es gs n u. omega (arith, a-here q (over (other (aggregate es gs)) n) u, b-here q (over (other (aggregate es gs)) n) u, trees-long (own-trees (over (other (aggregate es gs)) n)), node-long (over (other (aggregate es gs)) n) u))
+      aggregate-here z (t .p) (t .here) (λ p. cell-words * (c .b + c .a) ≤ hi)
+      (λ og es gs n u. omega (arith, a-here q (over og (other (aggregate es gs)) n) u, b-here q (over og (other (aggregate es gs)) n) u, trees-long (own-trees (over og (other (aggregate es gs)) n)), node-long (over og (other (aggregate es gs)) n) u))
 
   pub columns-aggregate : {widths : List ℕ} → c .tag ≡ 50 → ColumnCount widths s lo hi (c .b + c .a)
   columns-aggregate z schema p w u =
       aggregate-here z p u (λ p. c .b + c .a ≡ columns schema p)
-      (λ es gs n u. omega (arith, a-here q (over (other (aggregate es gs)) n) u, b-here q (over (other (aggregate es gs)) n) u))
+      (λ og es gs n u. omega (arith, a-here q (over og (other (aggregate es gs)) n) u, b-here q (over og (other (aggregate es gs)) n) u))
 
   pub columns-projection : {widths : List ℕ} → c .tag ≡ 60 → ColumnCount widths s lo hi (c .a)
   columns-projection z schema p w u =
       over-here (λ p. c .a ≡ columns schema p)
-      (λ o n u e. over-projection (λ o. NodeHere s lo hi (over o n) → c .a ≡ columns schema (over o n)) (λ is u. a-here q (over (other (projection is)) n) u) o (sym e ∙ z) u) p u
+      (λ og o n u e. over-projection (λ o. NodeHere s lo hi (over og o n) → c .a ≡ columns schema (over og o n)) (λ is u. a-here q (over og (other (projection is)) n) u) o (sym e ∙ z) u) p u
 
   module _ (g : (c .tag ≡ 50) ⊎ (60 ≤ c .tag)) (y : c .tag ≡ 50 → ⊥) (z : c .tag ≡ 60 → ⊥) {m : ℕ} (own : OwnStart s lo hi m) where
-    remap-here : (P : Node → Type 0) → ((ts : List (Option ℕ)) (n : Node) → Part s m (hi - 6) (all-words target-words ts) → P (over (other (remap ts)) n))
+    remap-here : (P : Node → Type 0) → ((og : ℕ) (ts : List (Option ℕ × ℕ)) (n : Node) → Part s m (hi - cell-words) (all-words target-words ts) → P (over og (other (remap ts)) n))
         → (p : Node) → NodeHere s lo hi p → P p
-    remap-here P f p u = over-here P (λ o n u e. go o n e u) p u
+    remap-here P f p u = over-here P (λ og o n u e. go og o n e u) p u
       where
         high : 60 ≤ c .tag
         high = ⊎-elim (λ i. absurd (y i)) (λ i. i) g
 
-        go : (o : Over) (n : Node) → c .tag ≡ over-tag o → NodeHere s lo hi (over o n) → P (over o n)
-        go (filter e) n i u = absurd (omega (arith, high))
-        go (other (limit a)) n i u = absurd (omega (arith, high))
-        go (other (offset a)) n i u = absurd (omega (arith, high))
-        go (other (order ks)) n i u = absurd (omega (arith, high))
-        go (other (projection is)) n i u = absurd (z i)
-        go (other (remap ts)) n i u = f ts n (own-part (over (other (remap ts)) n) u (own (over (other (remap ts)) n) u))
-        go (other (aggregate es gs)) n i u = absurd (y i)
+        go : (og : ℕ) (o : Over) (n : Node) → c .tag ≡ over-tag o → NodeHere s lo hi (over og o n) → P (over og o n)
+        go og (filter e) n i u = absurd (omega (arith, high))
+        go og (other (limit a)) n i u = absurd (omega (arith, high))
+        go og (other (offset a)) n i u = absurd (omega (arith, high))
+        go og (other (order ks)) n i u = absurd (omega (arith, high))
+        go og (other (projection is)) n i u = absurd (z i)
+        go og (other (remap ts)) n i u = f og ts n (own-part (over og (other (remap ts)) n) u (own (over og (other (remap ts)) n) u))
+        go og (other (aggregate es gs)) n i u = absurd (y i)
 
-    pub targets-at : {widths : List ℕ} → ColumnsAt widths s lo hi → TargetsAt s m (hi - 6)
+    pub targets-at : {widths : List ℕ} → ColumnsAt widths s lo hi → TargetsAt s m (hi - cell-words)
     targets-at t =
-        remap-here (λ p. Narrow p → TargetsAt s m (hi - 6)) (λ ts n v i. record { targets = ts; part = v; few = i .0 }) (t .p) (t .here) (t .narrow)
+        remap-here (λ p. Narrow p → TargetsAt s m (hi - cell-words)) (λ og ts n v i. record { targets = ts; part = v; few = i .0 }) (t .p) (t .here) (t .narrow)
 
-    pub columns-remap : {widths : List ℕ} {r : ℕ} → RemapColumns s m (hi - 6) r → ColumnCount widths s lo hi r
-    columns-remap {r = r} f schema p w u = remap-here (λ p. r ≡ columns schema p) (λ ts n v. f ts v) p u
+    pub columns-remap : {widths : List ℕ} {r : ℕ} → RemapColumns s m (hi - cell-words) r → ColumnCount widths s lo hi r
+    columns-remap {r = r} f schema p w u = remap-here (λ p. r ≡ columns schema p) (λ og ts n v. f ts v) p u
 
 -- ---- all nodes
 
@@ -295,21 +295,21 @@ pub counted-as : {s : List ℕ} {lo hi n : ℕ} → SourceCount s lo hi n → {k
 counted-as c z p u = sym z ∙ c p u
 
 module _ {s : List ℕ} {lo hi m : ℕ} (c : SourceCount s lo hi 2) (own : OwnStart s lo hi m) where
-  join-here : (P : Node → Type 0) → ((outer : Bool) (j : Join) (l r : Node) → NodeHere s lo hi (join outer j l r) → P (join outer j l r)) → (p : Node) → NodeHere s lo hi p → P p
+  join-here : (P : Node → Type 0) → ((og : ℕ) (outer : Bool) (j : Join) (l r : Node) → NodeHere s lo hi (join og outer j l r) → P (join og outer j l r)) → (p : Node) → NodeHere s lo hi p → P p
   join-here P f p u = by-join (λ p. NodeHere s lo hi p → P p) f p (sym (c p u)) u
 
   pub join-sized : NodeAt s lo hi → Sized s m
-  join-sized t = join-here (λ p. Sized s m) (λ outer j l r u. sources-sized outer j l r u (own (join outer j l r) u)) (t .p) (t .here)
+  join-sized t = join-here (λ p. Sized s m) (λ og outer j l r u. sources-sized og outer j l r u (own (join og outer j l r) u)) (t .p) (t .here)
 
   module _ {mid : ℕ} (st : mid ≡ start-at s m) where
     -- where the two sources of a node stand
-    pub sources-in : NodeAt s lo hi → (lo + 6 ≤ mid) × ((mid + 6 ≤ m) × (m + 6 ≤ hi))
+    pub sources-in : NodeAt s lo hi → (lo + cell-words ≤ mid) × ((mid + cell-words ≤ m) × (m + cell-words ≤ hi))
     sources-in t =
-        join-here (λ p. (lo + 6 ≤ mid) × ((mid + 6 ≤ m) × (m + 6 ≤ hi)))
-        (λ outer j l r u.
-        let (a, b) = node-in l (join-left outer j l r u (own (join outer j l r) u) st) in
-        let (d, e) = node-in r (join-right outer j l r u (own (join outer j l r) u) st) in
-        (a, (d, omega (arith, node-long (join outer j l r) u, own (join outer j l r) u))))
+        join-here (λ p. (lo + cell-words ≤ mid) × ((mid + cell-words ≤ m) × (m + cell-words ≤ hi)))
+        (λ og outer j l r u.
+        let (a, b) = node-in l (join-left og outer j l r u (own (join og outer j l r) u) st) in
+        let (d, e) = node-in r (join-right og outer j l r u (own (join og outer j l r) u) st) in
+        (a, (d, omega (arith, node-long (join og outer j l r) u, own (join og outer j l r) u))))
         (t .p) (t .here)
 
     module _ {widths : List ℕ} (t : ColumnsAt widths s lo hi) where
@@ -317,14 +317,14 @@ module _ {s : List ℕ} {lo hi m : ℕ} (c : SourceCount s lo hi 2) (own : OwnSt
       left-columns-at =
           let (a, (b, d)) = sources-in (columns-node t) in
           join-here (λ p. Narrow p → ColumnsAt widths s lo mid)
-          (λ outer j l r u k. record { schema = t .schema; tables = t .tables; p = l; here = join-left outer j l r u (own (join outer j l r) u) st; narrow = k .0; short = omega (arith, t .short) })
+          (λ og outer j l r u k. record { schema = t .schema; tables = t .tables; p = l; here = join-left og outer j l r u (own (join og outer j l r) u) st; narrow = k .0; short = omega (arith, t .short) })
           (t .p) (t .here) (t .narrow)
 
       pub right-columns-at : ColumnsAt widths s mid m
       right-columns-at =
           let (a, (b, d)) = sources-in (columns-node t) in
           join-here (λ p. Narrow p → ColumnsAt widths s mid m)
-          (λ outer j l r u k. record { schema = t .schema; tables = t .tables; p = r; here = join-right outer j l r u (own (join outer j l r) u) st; narrow = k .1; short = omega (arith, t .short) })
+          (λ og outer j l r u k. record { schema = t .schema; tables = t .tables; p = r; here = join-right og outer j l r u (own (join og outer j l r) u) st; narrow = k .1; short = omega (arith, t .short) })
           (t .p) (t .here) (t .narrow)
 
 -- a count of columns is small
@@ -332,19 +332,19 @@ pub few-columns : {widths s : List ℕ} {lo hi : ℕ} (t : ColumnsAt widths s lo
 few-columns t = omega (arith, columns-few (t .tables) (t .p) (t .narrow), words-long (t .p), t .here .part .high, t .short)
 
 module _ {s : List ℕ} {lo hi m : ℕ} (c : SourceCount s lo hi 1) (own : OwnStart s lo hi m) where
-  source-here : (P : Node → Type 0) → ((o : Over) (n : Node) → NodeHere s lo hi (over o n) → NodeHere s lo m n → P (over o n)) → (p : Node) → NodeHere s lo hi p → P p
+  source-here : (P : Node → Type 0) → ((og : ℕ) (o : Over) (n : Node) → NodeHere s lo hi (over og o n) → NodeHere s lo m n → P (over og o n)) → (p : Node) → NodeHere s lo hi p → P p
   source-here P f p u =
-      by-over (λ p. NodeHere s lo hi p → P p) (λ o n u. f o n u (over-source o n u (own (over o n) u))) p (sym (c p u)) u
+      by-over (λ p. NodeHere s lo hi p → P p) (λ og o n u. f og o n u (over-source og o n u (own (over og o n) u))) p (sym (c p u)) u
 
-  pub source-in : NodeAt s lo hi → (lo + 6 ≤ m) × (m + 6 ≤ hi)
+  pub source-in : NodeAt s lo hi → (lo + cell-words ≤ m) × (m + cell-words ≤ hi)
   source-in t =
-      source-here (λ p. (lo + 6 ≤ m) × (m + 6 ≤ hi)) (λ o n u v. (node-in n v .0, omega (arith, node-long (over o n) u, own (over o n) u))) (t .p) (t .here)
+      source-here (λ p. (lo + cell-words ≤ m) × (m + cell-words ≤ hi)) (λ og o n u v. (node-in n v .0, omega (arith, node-long (over og o n) u, own (over og o n) u))) (t .p) (t .here)
 
   pub source-columns-at : {widths : List ℕ} → ColumnsAt widths s lo hi → ColumnsAt widths s lo m
   source-columns-at {widths} t =
       let (a, b) = source-in (columns-node t) in
       source-here (λ p. Narrow p → ColumnsAt widths s lo m)
-      (λ o n u v k. record { schema = t .schema; tables = t .tables; p = n; here = v; narrow = k .1; short = omega (arith, t .short) }) (t .p) (t .here) (t .narrow)
+      (λ og o n u v k. record { schema = t .schema; tables = t .tables; p = n; here = v; narrow = k .1; short = omega (arith, t .short) }) (t .p) (t .here) (t .narrow)
 
 -- ---- nodes whose columns are those of their sources
 
@@ -352,20 +352,20 @@ abbrev through-told : List ℕ
 through-told = 0 ∷ 1 ∷ 1 ∷ 0 ∷ 0 ∷ 1 ∷ 1 ∷ 0 ∷ 1 ∷ 1 ∷ 0 ∷ 0 ∷ 0 ∷ 0 ∷ []
 
 by-tag : (p : Node) → getD through-told (tag-of p - 50) 0 ≡ through p
-by-tag (leaf (scan t al q)) = refl
-by-tag (leaf (lookup by-key t al vs)) = refl
-by-tag (leaf (lookup (by-index i) t al vs)) = refl
-by-tag (leaf (nothing ls)) = refl
-by-tag (leaf (values rs)) = refl
-by-tag (over (filter e) n) = refl
-by-tag (over (other (limit a)) n) = refl
-by-tag (over (other (offset a)) n) = refl
-by-tag (over (other (order ks)) n) = refl
-by-tag (over (other (projection is)) n) = refl
-by-tag (over (other (remap ts)) n) = refl
-by-tag (over (other (aggregate es gs)) n) = refl
-by-tag (join outer (nested-loop q) l r) = refl
-by-tag (join outer (hash i j) l r) = refl
+by-tag (leaf og (scan t al q)) = refl
+by-tag (leaf og (lookup by-key t al vs)) = refl
+by-tag (leaf og (lookup (by-index i) t al vs)) = refl
+by-tag (leaf og (nothing ls)) = refl
+by-tag (leaf og (values rs)) = refl
+by-tag (over og (filter e) n) = refl
+by-tag (over og (other (limit a)) n) = refl
+by-tag (over og (other (offset a)) n) = refl
+by-tag (over og (other (order ks)) n) = refl
+by-tag (over og (other (projection is)) n) = refl
+by-tag (over og (other (remap ts)) n) = refl
+by-tag (over og (other (aggregate es gs)) n) = refl
+by-tag (join og outer (nested-loop q) l r) = refl
+by-tag (join og outer (hash i j) l r) = refl
 
 -- The nodes with the tags of a range go through, or none of them does.
 pub through-in : (k from n : ℕ) → map (λ t. getD through-told (t - 50) 0) (up-to from n) ≡ map (λ t. k) (up-to from n)
@@ -465,14 +465,14 @@ module _ {schema : Schema} {s : List ℕ} {lo end total : ℕ} (p : Node) (x : L
 
     -- another gives way to its sources
     module _ {k : ℕ} (g : GoesThrough s from end k) (z : k ≡ 1) {m : ℕ} (own : OwnStart s from end m) where
-      over-through : (o : Over) (n : Node) → through-over o ≡ 1 → columns schema n ≡ columns schema (over o n)
-      over-through (filter e) n i = refl
-      over-through (other (limit a)) n i = refl
-      over-through (other (offset a)) n i = refl
-      over-through (other (order ks)) n i = refl
-      over-through (other (projection is)) n i = absurd (omega arith)
-      over-through (other (remap ts)) n i = absurd (omega arith)
-      over-through (other (aggregate es gs)) n i = absurd (omega arith)
+      over-through : (og : ℕ) (o : Over) (n : Node) → through-over o ≡ 1 → columns schema n ≡ columns schema (over og o n)
+      over-through og (filter e) n i = refl
+      over-through og (other (limit a)) n i = refl
+      over-through og (other (offset a)) n i = refl
+      over-through og (other (order ks)) n i = refl
+      over-through og (other (projection is)) n i = absurd (omega arith)
+      over-through og (other (remap ts)) n i = absurd (omega arith)
+      over-through og (other (aggregate es gs)) n i = absurd (omega arith)
 
       pub own-before : m < end
       own-before = last-here (m < end) (λ f n v u c w. omega (arith, own n u, node-long n u))
@@ -482,19 +482,19 @@ module _ {schema : Schema} {s : List ℕ} {lo end total : ℕ} (p : Node) (x : L
         where
           go : (f : Forest) (n : Node) → Part s lo from (forest-words f) → NodeHere s from end n
               → total + (forest-columns schema f + columns schema n) ≡ columns schema p → (Narrow p → Narrow-forest f × Narrow n) → through n ≡ 1 → Left schema s lo m total p
-          go f (leaf l) v u c w i = absurd (omega arith)
-          go f (over o n) v u c w i =
+          go f (leaf og l) v u c w i = absurd (omega arith)
+          go f (over og o n) v u c w i =
               record {
                 f = and f n;
-                part = part-join v (source-part (over o n) u (own (over o n) u));
-                count = omega (arith, over-through o n i);
+                part = part-join v (source-part (over og o n) u (own (over og o n) u));
+                count = omega (arith, over-through og o n i);
                 narrow = λ k. (w k .0, w k .1 .1);
               }
-          go f (join outer j l r) v u c w i =
+          go f (join og outer j l r) v u c w i =
               record {
                 f = and (and f l) r;
                 part = subst (λ (q : List ℕ). Part s lo m q) (sym (append-assoc (forest-words f) (node-words l) (node-words r)))
-                    (part-join v (source-part (join outer j l r) u (own (join outer j l r) u)));
+                    (part-join v (source-part (join og outer j l r) u (own (join og outer j l r) u)));
                 count = omega arith;
                 narrow = λ k. ((w k .0, w k .1 .0), w k .1 .1);
               }
@@ -567,22 +567,22 @@ through-as {n = n} c z p u = go p (c p u)
     over-zero (other (aggregate es gs)) i = refl
 
     go : (p : Node) → n ≡ through p → 0 ≡ through p
-    go (leaf l) e = refl
-    go (over o m) e = over-zero o e
-    go (join outer j l r) e = absurd (z e)
+    go (leaf og l) e = refl
+    go (over og o m) e = over-zero o e
+    go (join og outer j l r) e = absurd (z e)
 
 module _ {s : List ℕ} {lo hi : ℕ} (g : GoesThrough s lo hi 0) where
   pub one-source : {n : ℕ} → SourceCount s lo hi n → (n ≡ 0 → ⊥) → SourceCount s lo hi 1
   one-source {n} c z p u = go p (c p u) (g p u)
     where
       go : (p : Node) → n ≡ source-count p → 0 ≡ through p → 1 ≡ source-count p
-      go (leaf l) e i = absurd (z e)
-      go (over o m) e i = refl
-      go (join outer j l r) e i = absurd (omega arith)
+      go (leaf og l) e i = absurd (z e)
+      go (over og o m) e i = refl
+      go (join og outer j l r) e i = absurd (omega arith)
 
   pub own-tag : SourceCount s lo hi 1 → NodeAt s lo hi → (tag-at s hi ≡ 50) ⊎ (60 ≤ tag-at s hi)
   own-tag c t =
-      by-over (λ p. NodeHere s lo hi p → (tag-at s hi ≡ 50) ⊎ (60 ≤ tag-at s hi)) (λ o n u. go o (node-tag (over o n) u ∙ tagged (over o n)) (g (over o n) u))
+      by-over (λ p. NodeHere s lo hi p → (tag-at s hi ≡ 50) ⊎ (60 ≤ tag-at s hi)) (λ og o n u. go o (node-tag (over og o n) u ∙ tagged (over og o n)) (g (over og o n) u))
       (t .p) (sym (c (t .p) (t .here))) (t .here)
     where
       go : (o : Over) → tag-at s hi ≡ over-tag o → 0 ≡ through-over o → (tag-at s hi ≡ 50) ⊎ (60 ≤ tag-at s hi)
@@ -598,6 +598,6 @@ pub two-left : {s : List ℕ} {lo hi n : ℕ} → SourceCount s lo hi n → (n �
 two-left {n = n} c y z p u = go p (c p u)
   where
     go : (p : Node) → n ≡ source-count p → 2 ≡ source-count p
-    go (leaf l) e = absurd (y e)
-    go (over o m) e = absurd (z e)
-    go (join outer j l r) e = refl
+    go (leaf og l) e = absurd (y e)
+    go (over og o m) e = absurd (z e)
+    go (join og outer j l r) e = refl

@@ -29,9 +29,9 @@ Narrow-over (other (remap ts)) = remap-columns ts ≤ 256
 Narrow-over (other (aggregate es gs)) = Unit {0}
 
 abbrev pub Narrow : Node → Type 0
-Narrow (leaf l) = Unit {0}
-Narrow (over o n) = Narrow-over o × Narrow n
-Narrow (join outer j l r) = Narrow l × Narrow r
+Narrow (leaf og l) = Unit {0}
+Narrow (over og o n) = Narrow-over o × Narrow n
+Narrow (join og outer j l r) = Narrow l × Narrow r
 
 -- Some such node stands there, in a list that is short enough for its columns to be counted without overflow.
 pub record ColumnsAt (widths s : List ℕ) (lo hi : ℕ) : Type 0 where
@@ -53,12 +53,12 @@ abbrev pub past : (flag a : ℕ) → ℕ
 past flag a = cond (eqb flag 1) (suc a) 0
 
 pub record TargetsAt (s : List ℕ) (lo hi : ℕ) : Type 0 where
-  pub targets : List (Option ℕ)
+  pub targets : List (Option ℕ × ℕ)
   pub part : Part s lo hi (all-words target-words targets)
   pub few : remap-columns targets ≤ 256
 
 abbrev pub RemapColumns : List ℕ → ℕ → ℕ → ℕ → Type 0
-RemapColumns s lo hi r = (targets : List (Option ℕ)) → Part s lo hi (all-words target-words targets) → r ≡ remap-columns targets
+RemapColumns s lo hi r = (targets : List (Option ℕ × ℕ)) → Part s lo hi (all-words target-words targets) → r ≡ remap-columns targets
 
 -- 1 for a node whose columns are those of its sources, 0 for one that says its columns itself
 abbrev pub through-over : Over → ℕ
@@ -71,9 +71,9 @@ through-over (other (remap ts)) = 0
 through-over (other (aggregate es gs)) = 0
 
 abbrev pub through : Node → ℕ
-through (leaf l) = 0
-through (over o n) = through-over o
-through (join outer j l r) = 1
+through (leaf og l) = 0
+through (over og o n) = through-over o
+through (join og outer j l r) = 1
 
 abbrev pub GoesThrough : List ℕ → ℕ → ℕ → ℕ → Type 0
 GoesThrough s lo hi r = (p : Node) → NodeHere s lo hi p → r ≡ through p

@@ -34,9 +34,9 @@ join-count (nested-loop q) = optional-count q
 join-count (hash i j) = 0
 
 abbrev pub own-count : Node → ℕ
-own-count (leaf l) = leaf-count l
-own-count (over o n) = over-count o
-own-count (join outer j l r) = join-count j
+own-count (leaf og l) = leaf-count l
+own-count (over og o n) = over-count o
+own-count (join og outer j l r) = join-count j
 
 -- ---- contracts
 

@@ -18,10 +18,10 @@ fn in_24(s: &[u8], c: Chosen, count: usize, out: &mut [u8]) -> Answer
     requires { ⌜ Counted (now s) count ⌝ }
     ensures { λ a. ⌜ RunsIn 24 (now (s .entry)) c count (now (out .entry)) a (now (out .exit)) ⌝ }
 {
-    let mut x = [0u32; 144];
-    let mut y = [0u32; 144];
-    let mut z = [0u32; 144];
-    let mut w = [0u32; 144];
+    let mut x = [0u32; 24 * cells::CELL_WORDS];
+    let mut y = [0u32; 24 * cells::CELL_WORDS];
+    let mut z = [0u32; 24 * cells::CELL_WORDS];
+    let mut w = [0u32; 24 * cells::CELL_WORDS];
     sheet_passes::run(s, c, count, &mut x, &mut y, &mut z, &mut w, out)
 }
 
@@ -32,10 +32,10 @@ fn in_96(s: &[u8], c: Chosen, count: usize, out: &mut [u8]) -> Answer
     requires { ⌜ Counted (now s) count ⌝ }
     ensures { λ a. ⌜ RunsIn 96 (now (s .entry)) c count (now (out .entry)) a (now (out .exit)) ⌝ }
 {
-    let mut x = [0u32; 576];
-    let mut y = [0u32; 576];
-    let mut z = [0u32; 576];
-    let mut w = [0u32; 576];
+    let mut x = [0u32; 96 * cells::CELL_WORDS];
+    let mut y = [0u32; 96 * cells::CELL_WORDS];
+    let mut z = [0u32; 96 * cells::CELL_WORDS];
+    let mut w = [0u32; 96 * cells::CELL_WORDS];
     sheet_passes::run(s, c, count, &mut x, &mut y, &mut z, &mut w, out)
 }
 
@@ -46,10 +46,10 @@ fn in_224(s: &[u8], c: Chosen, count: usize, out: &mut [u8]) -> Answer
     requires { ⌜ Counted (now s) count ⌝ }
     ensures { λ a. ⌜ RunsIn 224 (now (s .entry)) c count (now (out .entry)) a (now (out .exit)) ⌝ }
 {
-    let mut x = [0u32; 1344];
-    let mut y = [0u32; 1344];
-    let mut z = [0u32; 1344];
-    let mut w = [0u32; 1344];
+    let mut x = [0u32; 224 * cells::CELL_WORDS];
+    let mut y = [0u32; 224 * cells::CELL_WORDS];
+    let mut z = [0u32; 224 * cells::CELL_WORDS];
+    let mut w = [0u32; 224 * cells::CELL_WORDS];
     sheet_passes::run(s, c, count, &mut x, &mut y, &mut z, &mut w, out)
 }
 
@@ -60,10 +60,10 @@ fn in_704(s: &[u8], c: Chosen, count: usize, out: &mut [u8]) -> Answer
     requires { ⌜ Counted (now s) count ⌝ }
     ensures { λ a. ⌜ RunsIn 704 (now (s .entry)) c count (now (out .entry)) a (now (out .exit)) ⌝ }
 {
-    let mut x = [0u32; 4224];
-    let mut y = [0u32; 4224];
-    let mut z = [0u32; 4224];
-    let mut w = [0u32; 4224];
+    let mut x = [0u32; 704 * cells::CELL_WORDS];
+    let mut y = [0u32; 704 * cells::CELL_WORDS];
+    let mut z = [0u32; 704 * cells::CELL_WORDS];
+    let mut w = [0u32; 704 * cells::CELL_WORDS];
     sheet_passes::run(s, c, count, &mut x, &mut y, &mut z, &mut w, out)
 }
 
@@ -74,10 +74,10 @@ fn in_2048(s: &[u8], c: Chosen, count: usize, out: &mut [u8]) -> Answer
     requires { ⌜ Counted (now s) count ⌝ }
     ensures { λ a. ⌜ RunsIn 2048 (now (s .entry)) c count (now (out .entry)) a (now (out .exit)) ⌝ }
 {
-    let mut x = [0u32; 12288];
-    let mut y = [0u32; 12288];
-    let mut z = [0u32; 12288];
-    let mut w = [0u32; 12288];
+    let mut x = [0u32; 2048 * cells::CELL_WORDS];
+    let mut y = [0u32; 2048 * cells::CELL_WORDS];
+    let mut z = [0u32; 2048 * cells::CELL_WORDS];
+    let mut w = [0u32; 2048 * cells::CELL_WORDS];
     sheet_passes::run(s, c, count, &mut x, &mut y, &mut z, &mut w, out)
 }
 

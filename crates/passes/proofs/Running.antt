@@ -12,6 +12,7 @@ use Rattle.words.specs.Words.{node-words}
 use Rattle.edit.specs.Edit as Edit
 use Rattle.kept.specs.Kept.{Kept, kept}
 use Rattle.kept.specs.Pass.{PassAt, Passes}
+use Rattle.cells.specs.Cells.{cell-words}
 use Rattle.cells.specs.Room.{Short, most-words, Copies}
 use Rattle.cells.proofs.Laws.{fits}
 use Rattle.nodes.specs.Columns.{Tables}
@@ -51,7 +52,7 @@ module _ (Fit : Node → Type 0) where
 
 -- A plan that a pass leaves can be worked on, and what the next makes of it can take the first one's place.
 module _ (schema : Schema) (text : List ℕ) (tables : ℕ) (p : Node) where
-  after-left : (y : List ℕ) (n : ℕ) (d : List ℕ) (r : Folded) (g : Node → Answer Node) (room : ℕ) → length y ≡ 6 * room → (answer : Answer Node)
+  after-left : (y : List ℕ) (n : ℕ) (d : List ℕ) (r : Folded) (g : Node → Answer Node) (room : ℕ) → length y ≡ cell-words * room → (answer : Answer Node)
       → Left (Kept schema text tables p) y answer (Folded.Done n)
       → ((q : Node) → Plan-in schema text tables y n room q → Leaves (Kept schema text tables q) d (g q) r) → Left (Kept schema text tables p) d (answer >>= g) r
   after-left y n d r g room e (done q) h k =
@@ -65,7 +66,7 @@ module _ (schema : Schema) (text : List ℕ) (tables : ℕ) (p : Node) where
       onward (refused number place) (Folded.Refused said at) l = l
   after-left y n d r g room e (refused number place) h k = absurd h
 
-  pub after : {y : List ℕ} {n : ℕ} {d : List ℕ} {r : Folded} {answer : Answer Node} (g : Node → Answer Node) {room : ℕ} → length y ≡ 6 * room
+  pub after : {y : List ℕ} {n : ℕ} {d : List ℕ} {r : Folded} {answer : Answer Node} (g : Node → Answer Node) {room : ℕ} → length y ≡ cell-words * room
       → Leaves (Kept schema text tables p) y answer (Folded.Done n)
       → ((q : Node) → Plan-in schema text tables y n room q → Leaves (Kept schema text tables q) d (g q) r) → Leaves (Kept schema text tables p) d (answer >>= g) r
   after {y} {n} {d} {r} {answer} g {room} e h k = record { is = after-left y n d r g room e answer (h .is) k }

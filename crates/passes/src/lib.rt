@@ -1,5 +1,5 @@
 // The five optimizers of optimizer.rs on plans in their working form, under one contract: the plan is the first t words of x, and what becomes of it is left in
-// the first words of y, or refused. x, y, z and w have the same length, six words for each cell that there is room for. What the schema says is lent in slices
+// the first words of y, or refused. x, y, z and w have the same length, seven words for each cell that there is room for. What the schema says is lent in slices
 // (crate schema).
 use fold_operator::Folded;
 ghost use mathlib.Core.Path.{_≡_};

@@ -9,10 +9,10 @@ use lib.Dec.{eqb}
 use lib.ListN.{length}
 use borrow.Author.Tests.{ne-eqb}
 use Rattle.value.specs.Value.{Value, Truth, False, Unknown, True, truth, datum, integer, float, string}
-use Rattle.sql.specs.Expression.{Expression, constant, column, unary, binary, Unary, Not, function, IsNull, IsNaN, Identity, Negate, Binary, logical, And, Or, Equal, GreaterThan, LessThan, Add, Divide}
+use Rattle.sql.specs.Expression.{Marked, Expression, constant, column, unary, binary, Unary, Not, function, IsNull, IsNaN, Identity, Negate, Binary, logical, And, Or, Equal, GreaterThan, LessThan, Add, Divide}
 use Rattle.sql.specs.Plan.{Label, unlabelled, unqualified, qualified, by-key, by-index, Leaf, scan, lookup, nothing, values, limit, offset, order, projection, remap, aggregate, Over, filter, other, Join, nested-loop, hash, Node, leaf, over, join}
 use Rattle.sheet.specs.Cell.{Cell}
-use Rattle.sheet.specs.Content.{Content, cell-of, constant-as-cell, unary-tag, binary-tag, labelled, target-as-cell, bit0, constant-cell, column-cell, unary-cell, binary-cell, label-cell, item-cell, key-cell, target-cell, agg-cell, row-cell, aggregate-cell, filter-cell, limit-cell, offset-cell, order-cell, projection-cell, remap-cell, scan-cell, nothing-cell, values-cell, nested-loop-join-cell, hash-join-cell}
+use Rattle.sheet.specs.Content.{Content, cell-of, marked, constant-as-cell, unary-tag, binary-tag, labelled, target-as-cell, bit0, constant-cell, column-cell, unary-cell, binary-cell, label-cell, item-cell, key-cell, target-cell, agg-cell, row-cell, aggregate-cell, filter-cell, limit-cell, offset-cell, order-cell, projection-cell, remap-cell, scan-cell, nothing-cell, values-cell, nested-loop-join-cell, hash-join-cell}
 use Rattle.sheet.specs.Cells.{all-cells, alone, present, lookup-content, expression-cells, optional-cells, constant-cells, label-cells, target-cells, item-cells, key-cells, agg-cells, row-cells, leaf-cells, other-cells, over-cells, join-cells, cells}
 use Rattle.predicates.specs.Predicates.{leaf-has-filter, join-has-predicate, is-filter, has-predicate, any-cell, predicated}
 
@@ -92,11 +92,11 @@ module _ (test : Cell → Bool) (no-part : (k : Cell) → k .tag < 50 → test k
   behind u v h k = any-append u v ∙ ap (λ (b : Bool). b || any-cell test v) h ∙ k
 
   -- a cell alone
-  itself : (k : Content) → any-cell test (alone k) ≡ test (cell-of k)
-  itself k = or-false (test (cell-of k))
+  itself : (og : ℕ) (k : Content) → any-cell test (alone og k) ≡ test (marked og (cell-of k))
+  itself og k = or-false (test (marked og (cell-of k)))
 
-  low : (k : Content) → cell-of k .tag < 50 → any-cell test (alone k) ≡ false
-  low k h = itself k ∙ no-part (cell-of k) h
+  low : (og : ℕ) (k : Content) → cell-of k .tag < 50 → any-cell test (alone og k) ≡ false
+  low og k h = itself og k ∙ no-part (marked og (cell-of k)) h
 
   none-all : {A : Type 0} (f : A → List Cell) → ((x : A) → any-cell test (f x) ≡ false) → (xs : List A) → any-cell test (all-cells f xs) ≡ false
   none-all f h [] = refl
@@ -104,11 +104,11 @@ module _ (test : Cell → Bool) (no-part : (k : Cell) → k .tag < 50 → test k
 
   in-expression : (e : Expression) → any-cell test (expression-cells e) ≡ false
   unfolding expression-cells
-  in-expression (constant v) = low (constant-cell v) (constant-low v)
-  in-expression (column i) = low (column-cell i) (omega arith)
-  in-expression (unary o x) = behind (expression-cells x) _ (in-expression x) (low (unary-cell o) (unary-low o))
-  in-expression (binary o l r) =
-      behind (expression-cells l) _ (in-expression l) (behind (expression-cells r) _ (in-expression r) (low (binary-cell o) (binary-low o)))
+  in-expression (constant og v) = low og (constant-cell v) (constant-low v)
+  in-expression (column og i) = low og (column-cell i) (omega arith)
+  in-expression (unary og o x) = behind (expression-cells x) _ (in-expression x) (low og (unary-cell o) (unary-low o))
+  in-expression (binary og o l r) =
+      behind (expression-cells l) _ (in-expression l) (behind (expression-cells r) _ (in-expression r) (low og (binary-cell o) (binary-low o)))
 
   in-expressions : (es : List Expression) → any-cell test (all-cells expression-cells es) ≡ false
   in-expressions = none-all expression-cells in-expression
@@ -118,57 +118,57 @@ module _ (test : Cell → Bool) (no-part : (k : Cell) → k .tag < 50 → test k
   in-optional (some e) = in-expression e
 
   -- what stands behind an expression, in a part
-  in-part : (e : Expression) (k : Content) → cell-of k .tag < 50 → any-cell test (expression-cells e ++ alone k) ≡ false
-  in-part e k h = behind (expression-cells e) _ (in-expression e) (low k h)
+  in-part : (e : Expression) (og : ℕ) (k : Content) → cell-of k .tag < 50 → any-cell test (expression-cells e ++ alone og k) ≡ false
+  in-part e og k h = behind (expression-cells e) _ (in-expression e) (low og k h)
 
-  in-row : (es : List Expression) → any-cell test (row-cells es) ≡ false
-  in-row es = behind (all-cells expression-cells es) _ (in-expressions es) (low (row-cell (length es)) (omega arith))
+  in-row : (es : Marked (List Expression)) → any-cell test (row-cells es) ≡ false
+  in-row es = behind (all-cells expression-cells (es .0)) _ (in-expressions (es .0)) (low (es .1) (row-cell (length (es .0))) (omega arith))
 
-  in-leaf : (l : Leaf) → any-cell test (leaf-cells l) ≡ test (cell-of (leaf-own l))
+  in-leaf : (og : ℕ) (l : Leaf) → any-cell test (leaf-cells og l) ≡ test (marked og (cell-of (leaf-own l)))
   unfolding leaf-cells
-  in-leaf (scan t al f) = behind (optional-cells f) _ (in-optional f) (itself (leaf-own (scan t al f)))
-  in-leaf (lookup a t al vs) =
-      behind (all-cells constant-cells vs) _ (none-all constant-cells (λ v. low (constant-cell v) (constant-low v)) vs) (itself (leaf-own (lookup a t al vs)))
-  in-leaf (nothing ls) =
-      behind (all-cells label-cells ls) _ (none-all label-cells (λ l. low (label-cell l) (labelled-low 40 (omega arith) l)) ls) (itself (leaf-own (nothing ls)))
-  in-leaf (values rs) = behind (all-cells row-cells rs) _ (none-all row-cells in-row rs) (itself (leaf-own (values rs)))
+  in-leaf og (scan t al f) = behind (optional-cells f) _ (in-optional f) (itself og (leaf-own (scan t al f)))
+  in-leaf og (lookup a t al vs) =
+      behind (all-cells constant-cells vs) _ (none-all constant-cells (λ v. low (v .1) (constant-cell (v .0)) (constant-low (v .0))) vs) (itself og (leaf-own (lookup a t al vs)))
+  in-leaf og (nothing ls) =
+      behind (all-cells label-cells ls) _ (none-all label-cells (λ l. low (l .1) (label-cell (l .0)) (labelled-low 40 (omega arith) (l .0))) ls) (itself og (leaf-own (nothing ls)))
+  in-leaf og (values rs) = behind (all-cells row-cells rs) _ (none-all row-cells in-row rs) (itself og (leaf-own (values rs)))
 
-  in-over : (o : Over) → any-cell test (over-cells o) ≡ test (cell-of (over-own o))
+  in-over : (og : ℕ) (o : Over) → any-cell test (over-cells og o) ≡ test (marked og (cell-of (over-own o)))
   unfolding over-cells other-cells
-  in-over (filter e) = behind (expression-cells e) _ (in-expression e) (itself (over-own (filter e)))
-  in-over (other (limit n)) = itself (over-own (other (limit n)))
-  in-over (other (offset n)) = itself (over-own (other (offset n)))
-  in-over (other (order ks)) =
-      behind (all-cells key-cells ks) _ (none-all key-cells (λ k. in-part (k .0) (key-cell (k .1)) (omega arith)) ks) (itself (over-own (other (order ks))))
-  in-over (other (projection is)) =
-      behind (all-cells item-cells is) _ (none-all item-cells (λ i. in-part (i .0) (item-cell (i .1)) (labelled-low 41 (omega arith) (i .1))) is)
-      (itself (over-own (other (projection is))))
-  in-over (other (remap ts)) =
-      behind (all-cells target-cells ts) _ (none-all target-cells (λ t. low (target-cell t) (target-low t)) ts) (itself (over-own (other (remap ts))))
-  in-over (other (aggregate es gs)) =
+  in-over og (filter e) = behind (expression-cells e) _ (in-expression e) (itself og (over-own (filter e)))
+  in-over og (other (limit n)) = itself og (over-own (other (limit n)))
+  in-over og (other (offset n)) = itself og (over-own (other (offset n)))
+  in-over og (other (order ks)) =
+      behind (all-cells key-cells ks) _ (none-all key-cells (λ k. in-part (k .0) (k .2) (key-cell (k .1)) (omega arith)) ks) (itself og (over-own (other (order ks))))
+  in-over og (other (projection is)) =
+      behind (all-cells item-cells is) _ (none-all item-cells (λ i. in-part (i .0) (i .2) (item-cell (i .1)) (labelled-low 41 (omega arith) (i .1))) is)
+      (itself og (over-own (other (projection is))))
+  in-over og (other (remap ts)) =
+      behind (all-cells target-cells ts) _ (none-all target-cells (λ t. low (t .1) (target-cell (t .0)) (target-low (t .0))) ts) (itself og (over-own (other (remap ts))))
+  in-over og (other (aggregate es gs)) =
       behind (all-cells expression-cells es) _ (in-expressions es)
-      (behind (all-cells agg-cells gs) _ (none-all agg-cells (λ g. in-part (g .1) (agg-cell (g .0)) (omega arith)) gs)
-      (itself (over-own (other (aggregate es gs)))))
+      (behind (all-cells agg-cells gs) _ (none-all agg-cells (λ g. in-part (g .1) (g .2) (agg-cell (g .0)) (omega arith)) gs)
+      (itself og (over-own (other (aggregate es gs)))))
 
-  in-join : (outer : Bool) (j : Join) → any-cell test (join-cells outer j) ≡ test (cell-of (join-own outer j))
+  in-join : (og : ℕ) (outer : Bool) (j : Join) → any-cell test (join-cells og outer j) ≡ test (marked og (cell-of (join-own outer j)))
   unfolding join-cells
-  in-join outer (nested-loop p) = behind (optional-cells p) _ (in-optional p) (itself (join-own outer (nested-loop p)))
-  in-join outer (hash l r) = itself (join-own outer (hash l r))
+  in-join og outer (nested-loop p) = behind (optional-cells p) _ (in-optional p) (itself og (join-own outer (nested-loop p)))
+  in-join og outer (hash l r) = itself og (join-own outer (hash l r))
 
   -- A property of plans that is found in a source, or in what the node's own cell says, is told by the cells.
-  told : (P : Node → Bool) → ((l : Leaf) → test (cell-of (leaf-own l)) ≡ P (leaf l))
-      → ((o : Over) (n : Node) → P n || test (cell-of (over-own o)) ≡ P (over o n))
-      → ((outer : Bool) (j : Join) (l r : Node) → P l || (P r || test (cell-of (join-own outer j))) ≡ P (join outer j l r))
+  told : (P : Node → Bool) → ((og : ℕ) (l : Leaf) → test (marked og (cell-of (leaf-own l))) ≡ P (leaf og l))
+      → ((og : ℕ) (o : Over) (n : Node) → P n || test (marked og (cell-of (over-own o))) ≡ P (over og o n))
+      → ((og : ℕ) (outer : Bool) (j : Join) (l r : Node) → P l || (P r || test (marked og (cell-of (join-own outer j)))) ≡ P (join og outer j l r))
       → (p : Node) → any-cell test (cells p) ≡ P p
   unfolding cells
-  told P f g h (leaf l) = in-leaf l ∙ f l
-  told P f g h (over o n) =
-      any-append (cells n) (over-cells o) ∙ ap (λ (b : Bool). b || any-cell test (over-cells o)) (told P f g h n) ∙ ap (λ (b : Bool). P n || b) (in-over o) ∙ g o n
-  told P f g h (join outer j l r) =
-      any-append (cells l) (cells r ++ join-cells outer j)
-      ∙ ap (λ (b : Bool). any-cell test (cells l) || b) (any-append (cells r) (join-cells outer j))
-      ∙ both (told P f g h l) (told P f g h r) (in-join outer j)
-      ∙ h outer j l r
+  told P f g h (leaf og l) = in-leaf og l ∙ f og l
+  told P f g h (over og o n) =
+      any-append (cells n) (over-cells og o) ∙ ap (λ (b : Bool). b || any-cell test (over-cells og o)) (told P f g h n) ∙ ap (λ (b : Bool). P n || b) (in-over og o) ∙ g og o n
+  told P f g h (join og outer j l r) =
+      any-append (cells l) (cells r ++ join-cells og outer j)
+      ∙ ap (λ (b : Bool). any-cell test (cells l) || b) (any-append (cells r) (join-cells og outer j))
+      ∙ both (told P f g h l) (told P f g h r) (in-join og outer j)
+      ∙ h og outer j l r
     where
       both : {a b c a′ b′ c′ : Bool} → a ≡ a′ → b ≡ b′ → c ≡ c′ → a || (b || c) ≡ a′ || (b′ || c′)
       both x y z = cc
@@ -216,5 +216,5 @@ join-predicated outer (hash l r) = refl
 
 pub predicate-told : (p : Node) → any-cell predicated (cells p) ≡ has-predicate p
 predicate-told =
-    told predicated no-part-predicated has-predicate leaf-predicated (λ o n. ap (λ (b : Bool). has-predicate n || b) (over-predicated o))
-    (λ outer j l r. ap (λ (b : Bool). has-predicate l || (has-predicate r || b)) (join-predicated outer j))
+    told predicated no-part-predicated has-predicate (λ og l. leaf-predicated l) (λ og o n. ap (λ (b : Bool). has-predicate n || b) (over-predicated o))
+    (λ og outer j l r. ap (λ (b : Bool). has-predicate l || (has-predicate r || b)) (join-predicated outer j))

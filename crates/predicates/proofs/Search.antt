@@ -12,7 +12,7 @@ use Rattle.sql.specs.Plan.{Node, node-size}
 use Rattle.sheet.specs.Cell as Sheet
 use Rattle.sheet.specs.Cells.{cells}
 use Rattle.cells.specs.declared.Cell.{Cell}
-use Rattle.cells.specs.Cells.{cell-at}
+use Rattle.cells.specs.Cells.{cell-words, cell-at}
 use Rattle.cells.proofs.Laws.{part-in, part-is}
 use Rattle.words.specs.Words.{node-words}
 use Rattle.words.specs.Place.{NodeHere, NodeAt}
@@ -59,29 +59,29 @@ module _ (tag flag : ℕ) where
 
 pub record Undecided (x : List ℕ) (n i : ℕ) : Type 0 where
   pub inside : n ≤ length x
-  pub whole : n ≡ i + 6 * length (cells-in (drop i (take n x)))
+  pub whole : n ≡ i + cell-words * length (cells-in (drop i (take n x)))
   pub same : any-cell predicated (cells-in (take n x)) ≡ any-cell predicated (cells-in (drop i (take n x)))
 
 module _ {x : List ℕ} {n i : ℕ} (u : Undecided x n i) where
-  pub next-inside : i < n → (i + 6 ≤ n) × (n ≤ length x)
+  pub next-inside : i < n → (i + cell-words ≤ n) × (n ≤ length x)
   next-inside h = (omega (arith, u .whole), u .inside)
 
-  module _ (h : i < n) {k : Cell} (e : k ≡ cell-at x (i + 6)) where
-    next : cells-in (drop i (take n x)) ≡ as-cell k ∷ cells-in (drop (i + 6) (take n x))
-    next = next-cell x n i (next-inside h .0) (u .inside) ∙ ap (λ (c : Cell). as-cell c ∷ cells-in (drop (i + 6) (take n x))) (sym e)
+  module _ (h : i < n) {k : Cell} (e : k ≡ cell-at x (i + cell-words)) where
+    next : cells-in (drop i (take n x)) ≡ as-cell k ∷ cells-in (drop (i + cell-words) (take n x))
+    next = next-cell x n i (next-inside h .0) (u .inside) ∙ ap (λ (c : Cell). as-cell c ∷ cells-in (drop (i + cell-words) (take n x))) (sym e)
 
-    first : any-cell predicated (cells-in (take n x)) ≡ predicated (as-cell k) || any-cell predicated (cells-in (drop (i + 6) (take n x)))
+    first : any-cell predicated (cells-in (take n x)) ≡ predicated (as-cell k) || any-cell predicated (cells-in (drop (i + cell-words) (take n x)))
     first = u .same ∙ ap (any-cell predicated) next
 
     decided : predicated (as-cell k) ≡ true → any-cell predicated (cells-in (take n x)) ≡ true
-    decided f = first ∙ ap (λ (b : Bool). b || any-cell predicated (cells-in (drop (i + 6) (take n x)))) f
+    decided f = first ∙ ap (λ (b : Bool). b || any-cell predicated (cells-in (drop (i + cell-words) (take n x)))) f
 
-    pub undecided-next : predicated (as-cell k) ≡ false → Undecided x n (i + 6)
+    pub undecided-next : predicated (as-cell k) ≡ false → Undecided x n (i + cell-words)
     undecided-next f =
         record {
           inside = u .inside;
           whole = omega (arith, u .whole, ap length next);
-          same = first ∙ ap (λ (b : Bool). b || any-cell predicated (cells-in (drop (i + 6) (take n x)))) f;
+          same = first ∙ ap (λ (b : Bool). b || any-cell predicated (cells-in (drop (i + cell-words) (take n x)))) f;
         }
 
   none-left : (ks : List Sheet.Cell) → length ks ≡ 0 → ks ≡ []
@@ -113,7 +113,7 @@ undecided-all {x} {n} at =
       same = refl;
     }
 
-pub found : {x : List ℕ} {n i : ℕ} → Undecided x n i → i < n → {k : Cell} → k ≡ cell-at x (i + 6) → predicated (as-cell k) ≡ true → HasPredicate x n true
+pub found : {x : List ℕ} {n i : ℕ} → Undecided x n i → i < n → {k : Cell} → k ≡ cell-at x (i + cell-words) → predicated (as-cell k) ≡ true → HasPredicate x n true
 found u h e f p here = sym (decided u h e f) ∙ told p here
 
 pub not-found : {x : List ℕ} {n i : ℕ} → Undecided x n i → n ≤ i → HasPredicate x n false

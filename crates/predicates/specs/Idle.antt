@@ -30,74 +30,74 @@ module _ (room : ℕ) (schema : Schema) where
   fits : (rest : ℕ) (p : Node) → rest + node-size p ≤ room → Room.step room schema rest p ≡ done p
   fits rest p h = ap (λ (b : Bool). Room.if-room b p) (le-leb (rest + node-size p) room h)
 
-  leaf-idle : (rest : ℕ) (l : Leaf) → leaf-has-filter l ≡ false → rest + leaf-size l ≤ room → Room.index-lookup room schema rest l ≡ done (leaf l)
+  leaf-idle : (og rest : ℕ) (l : Leaf) → leaf-has-filter l ≡ false → rest + leaf-size l ≤ room → Room.index-lookup room schema og rest l ≡ done (leaf og l)
   unfolding Room.index-lookup Optimizer.index-lookup
-  leaf-idle rest (scan table alias none) e h = fits rest (leaf (scan table alias none)) h
-  leaf-idle rest (scan table alias (some predicate)) e h = clash e
-  leaf-idle rest (lookup access table alias constants) e h = fits rest (leaf (lookup access table alias constants)) h
-  leaf-idle rest (nothing labels) e h = fits rest (leaf (nothing labels)) h
-  leaf-idle rest (values rows) e h = fits rest (leaf (values rows)) h
+  leaf-idle og rest (scan table alias none) e h = fits rest (leaf og (scan table alias none)) h
+  leaf-idle og rest (scan table alias (some predicate)) e h = clash e
+  leaf-idle og rest (lookup access table alias constants) e h = fits rest (leaf og (lookup access table alias constants)) h
+  leaf-idle og rest (nothing labels) e h = fits rest (leaf og (nothing labels)) h
+  leaf-idle og rest (values rows) e h = fits rest (leaf og (values rows)) h
 
   -- A plan without a predicate, for which there is room.
   pub lookup-idle : (rest : ℕ) (p : Node) → has-predicate p ≡ false → rest + node-size p ≤ room → Room.IndexLookup room schema rest p ≡ done p
   unfolding Room.IndexLookup
-  lookup-idle rest (leaf l) e h = leaf-idle rest l e h
-  lookup-idle rest (over o source) e h =
-      ap (λ (a : Answer Node). a >>= λ s. done (over o s))
+  lookup-idle rest (leaf og l) e h = leaf-idle og rest l e h
+  lookup-idle rest (over og o source) e h =
+      ap (λ (a : Answer Node). a >>= λ s. done (over og o s))
       (lookup-idle (rest + over-size o) source (left-false (has-predicate source) (is-filter o) e) (omega arith))
-  lookup-idle rest (join outer j left right) e h =
+  lookup-idle rest (join og outer j left right) e h =
       let f = right-false (has-predicate left) (has-predicate right || join-has-predicate j) e in
-      ap (λ (a : Answer Node). a >>= λ l. Room.IndexLookup room schema (rest + (node-size l + join-size j)) right >>= λ r. done (join outer j l r))
+      ap (λ (a : Answer Node). a >>= λ l. Room.IndexLookup room schema (rest + (node-size l + join-size j)) right >>= λ r. done (join og outer j l r))
       (lookup-idle (rest + (node-size right + join-size j)) left (left-false (has-predicate left) (has-predicate right || join-has-predicate j) e) (omega arith))
-      ∙ ap (λ (a : Answer Node). a >>= λ r. done (join outer j left r))
+      ∙ ap (λ (a : Answer Node). a >>= λ r. done (join og outer j left r))
       (lookup-idle (rest + (node-size left + join-size j)) right (left-false (has-predicate right) (join-has-predicate j) f) (omega arith))
 
   -- ---- FilterPushdown
 
-  sources-stay : (outer : Bool) (j : Join) (left right : Node) (f : ℕ → Node → Answer Node) (rest : ℕ) → f (rest + (node-size right + join-size j)) left ≡ done left
-      → f (rest + (node-size left + join-size j)) right ≡ done right → Room.each-source room schema f rest (join outer j left right) ≡ done (join outer j left right)
-  sources-stay outer j left right f rest l r =
-      ap (λ (a : Answer Node). a >>= λ m. f (rest + (node-size m + join-size j)) right >>= λ q. done (join outer j m q)) l
-      ∙ ap (λ (a : Answer Node). a >>= λ q. done (join outer j left q)) r
+  sources-stay : (og : ℕ) (outer : Bool) (j : Join) (left right : Node) (f : ℕ → Node → Answer Node) (rest : ℕ) → f (rest + (node-size right + join-size j)) left ≡ done left
+      → f (rest + (node-size left + join-size j)) right ≡ done right → Room.each-source room schema f rest (join og outer j left right) ≡ done (join og outer j left right)
+  sources-stay og outer j left right f rest l r =
+      ap (λ (a : Answer Node). a >>= λ m. f (rest + (node-size m + join-size j)) right >>= λ q. done (join og outer j m q)) l
+      ∙ ap (λ (a : Answer Node). a >>= λ q. done (join og outer j left q)) r
 
-  push-leaf : (n rest : ℕ) (l : Leaf) → rest + leaf-size l ≤ room → Room.push-filters-from room schema n rest (leaf l) ≡ done (leaf l)
+  push-leaf : (n rest og : ℕ) (l : Leaf) → rest + leaf-size l ≤ room → Room.push-filters-from room schema n rest (leaf og l) ≡ done (leaf og l)
   unfolding Room.push-filters-from Room.maybe-push-filter Room.maybe-push-join Optimizer.maybe-push-join
-  push-leaf zero rest l h = refl
-  push-leaf (suc n) rest l h = ap (λ (a : Answer Node). a >>= Room.each-source room schema (Room.push-filters-from room schema n) rest) (fits rest (leaf l) h)
+  push-leaf zero rest og l h = refl
+  push-leaf (suc n) rest og l h = ap (λ (a : Answer Node). a >>= Room.each-source room schema (Room.push-filters-from room schema n) rest) (fits rest (leaf og l) h)
 
   -- Below a node that stays, its sources stay.
-  push-over : (n rest : ℕ) (o : Over) (source : Node) → is-filter o ≡ false → rest + node-size (over o source) ≤ room
+  push-over : (n rest og : ℕ) (o : Over) (source : Node) → is-filter o ≡ false → rest + node-size (over og o source) ≤ room
       → ((k : ℕ) → Room.push-filters-from room schema k (rest + over-size o) source ≡ done source)
-      → Room.push-filters-from room schema n rest (over o source) ≡ done (over o source)
+      → Room.push-filters-from room schema n rest (over og o source) ≡ done (over og o source)
   unfolding Room.push-filters-from Room.maybe-push-filter Room.maybe-push-join Optimizer.maybe-push-join
-  push-over zero rest o source e h below = refl
-  push-over (suc n) rest (filter predicate) source e h below = clash e
-  push-over (suc n) rest (other o) source e h below =
-      ap (λ (a : Answer Node). a >>= Room.each-source room schema (Room.push-filters-from room schema n) rest) (fits rest (over (other o) source) h)
-      ∙ ap (λ (a : Answer Node). a >>= λ s. done (over (other o) s)) (below n)
+  push-over zero rest og o source e h below = refl
+  push-over (suc n) rest og (filter predicate) source e h below = clash e
+  push-over (suc n) rest og (other o) source e h below =
+      ap (λ (a : Answer Node). a >>= Room.each-source room schema (Room.push-filters-from room schema n) rest) (fits rest (over og (other o) source) h)
+      ∙ ap (λ (a : Answer Node). a >>= λ s. done (over og (other o) s)) (below n)
 
-  push-join : (n rest : ℕ) (outer : Bool) (j : Join) (left right : Node) → join-has-predicate j ≡ false → rest + node-size (join outer j left right) ≤ room
+  push-join : (n rest og : ℕ) (outer : Bool) (j : Join) (left right : Node) → join-has-predicate j ≡ false → rest + node-size (join og outer j left right) ≤ room
       → ((k : ℕ) → Room.push-filters-from room schema k (rest + (node-size right + join-size j)) left ≡ done left)
       → ((k : ℕ) → Room.push-filters-from room schema k (rest + (node-size left + join-size j)) right ≡ done right)
-      → Room.push-filters-from room schema n rest (join outer j left right) ≡ done (join outer j left right)
+      → Room.push-filters-from room schema n rest (join og outer j left right) ≡ done (join og outer j left right)
   unfolding Room.push-filters-from Room.maybe-push-filter Room.maybe-push-join Optimizer.maybe-push-join
-  push-join zero rest outer j left right e h f g = refl
-  push-join (suc n) rest outer (nested-loop (some predicate)) left right e h f g = clash e
-  push-join (suc n) rest outer (nested-loop none) left right e h f g =
-      ap (λ (a : Answer Node). a >>= Room.each-source room schema (Room.push-filters-from room schema n) rest) (fits rest (join outer (nested-loop none) left right) h)
-      ∙ sources-stay outer (nested-loop none) left right (Room.push-filters-from room schema n) rest (f n) (g n)
-  push-join (suc n) rest outer (hash a b) left right e h f g =
-      ap (λ (a : Answer Node). a >>= Room.each-source room schema (Room.push-filters-from room schema n) rest) (fits rest (join outer (hash a b) left right) h)
-      ∙ sources-stay outer (hash a b) left right (Room.push-filters-from room schema n) rest (f n) (g n)
+  push-join zero rest og outer j left right e h f g = refl
+  push-join (suc n) rest og outer (nested-loop (some predicate)) left right e h f g = clash e
+  push-join (suc n) rest og outer (nested-loop none) left right e h f g =
+      ap (λ (a : Answer Node). a >>= Room.each-source room schema (Room.push-filters-from room schema n) rest) (fits rest (join og outer (nested-loop none) left right) h)
+      ∙ sources-stay og outer (nested-loop none) left right (Room.push-filters-from room schema n) rest (f n) (g n)
+  push-join (suc n) rest og outer (hash a b) left right e h f g =
+      ap (λ (a : Answer Node). a >>= Room.each-source room schema (Room.push-filters-from room schema n) rest) (fits rest (join og outer (hash a b) left right) h)
+      ∙ sources-stay og outer (hash a b) left right (Room.push-filters-from room schema n) rest (f n) (g n)
 
   push-idle-from : (n rest : ℕ) (p : Node) → has-predicate p ≡ false → rest + node-size p ≤ room → Room.push-filters-from room schema n rest p ≡ done p
-  push-idle-from n rest (leaf l) e h = push-leaf n rest l h
-  push-idle-from n rest (over o source) e h =
-      push-over n rest o source (right-false (has-predicate source) (is-filter o) e) h
+  push-idle-from n rest (leaf og l) e h = push-leaf n rest og l h
+  push-idle-from n rest (over og o source) e h =
+      push-over n rest og o source (right-false (has-predicate source) (is-filter o) e) h
       (λ k. push-idle-from k (rest + over-size o) source (left-false (has-predicate source) (is-filter o) e) (omega arith))
-  push-idle-from n rest (join outer j left right) e h =
+  push-idle-from n rest (join og outer j left right) e h =
       let f = right-false (has-predicate left) (has-predicate right || join-has-predicate j) e in
-      push-join n rest outer j left right (right-false (has-predicate right) (join-has-predicate j) f) h
+      push-join n rest og outer j left right (right-false (has-predicate right) (join-has-predicate j) f) h
       (λ k. push-idle-from k (rest + (node-size right + join-size j)) left (left-false (has-predicate left) (has-predicate right || join-has-predicate j) e) (omega arith))
       (λ k. push-idle-from k (rest + (node-size left + join-size j)) right (left-false (has-predicate right) (join-has-predicate j) f) (omega arith))
 
@@ -108,18 +108,18 @@ module _ (room : ℕ) (schema : Schema) where
 
 -- ---- HashJoin
 
-join-idle : (schema : Schema) (outer : Bool) (j : Join) → join-has-predicate j ≡ false → (left right left′ right′ : Node) → left′ ≡ left → right′ ≡ right
-    → join outer (Optimizer.hash-join (Rattle.sql.specs.Plan.columns schema left) j) left′ right′ ≡ join outer j left right
-join-idle schema outer (nested-loop none) e left right left′ right′ l r = cc
-join-idle schema outer (nested-loop (some predicate)) e left right left′ right′ l r = clash e
-join-idle schema outer (hash left-column right-column) e left right left′ right′ l r = cc
+join-idle : (schema : Schema) (og : ℕ) (outer : Bool) (j : Join) → join-has-predicate j ≡ false → (left right left′ right′ : Node) → left′ ≡ left → right′ ≡ right
+    → join og outer (Optimizer.hash-join (Rattle.sql.specs.Plan.columns schema left) j) left′ right′ ≡ join og outer j left right
+join-idle schema og outer (nested-loop none) e left right left′ right′ l r = cc
+join-idle schema og outer (nested-loop (some predicate)) e left right left′ right′ l r = clash e
+join-idle schema og outer (hash left-column right-column) e left right left′ right′ l r = cc
 
 -- A plan without a predicate.
 pub hash-idle : (schema : Schema) (p : Node) → has-predicate p ≡ false → HashJoin schema p ≡ p
-hash-idle schema (leaf l) e = refl
-hash-idle schema (over o source) e = ap (over o) (hash-idle schema source (left-false (has-predicate source) (is-filter o) e))
-hash-idle schema (join outer j left right) e =
+hash-idle schema (leaf og l) e = refl
+hash-idle schema (over og o source) e = ap (over og o) (hash-idle schema source (left-false (has-predicate source) (is-filter o) e))
+hash-idle schema (join og outer j left right) e =
     let f = right-false (has-predicate left) (has-predicate right || join-has-predicate j) e in
-    join-idle schema outer j (right-false (has-predicate right) (join-has-predicate j) f) left right (HashJoin schema left) (HashJoin schema right)
+    join-idle schema og outer j (right-false (has-predicate right) (join-has-predicate j) f) left right (HashJoin schema left) (HashJoin schema right)
     (hash-idle schema left (left-false (has-predicate left) (has-predicate right || join-has-predicate j) e))
     (hash-idle schema right (left-false (has-predicate right) (join-has-predicate j) f))

@@ -26,9 +26,9 @@ join-has-predicate (hash left-column right-column) = false
 
 -- a Filter, a Scan with a filter, or a join with a predicate
 abbrev pub has-predicate : Node → Bool
-has-predicate (leaf l) = leaf-has-filter l
-has-predicate (over o source) = has-predicate source || is-filter o
-has-predicate (join outer j left right) = has-predicate left || (has-predicate right || join-has-predicate j)
+has-predicate (leaf og l) = leaf-has-filter l
+has-predicate (over og o source) = has-predicate source || is-filter o
+has-predicate (join og outer j left right) = has-predicate left || (has-predicate right || join-has-predicate j)
 
 -- ---- cells
 

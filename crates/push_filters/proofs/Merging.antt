@@ -18,52 +18,52 @@ use Rattle.kept.specs.Kept.{Kept}
 
 -- what a Filter's source becomes that takes the Filter's predicate
 abbrev pub merge : Node → Option Node
-merge (leaf l) = none
-merge (over (filter e) source) = push-into e source
-merge (over (other o) source) = none
-merge (join outer j left right) = none
+merge (leaf og l) = none
+merge (over og (filter e) source) = push-into og e source
+merge (over og (other o) source) = none
+merge (join og outer j left right) = none
 
 -- it makes no node larger
-into-smaller : (e : Expression) (n : Node) → Optional (λ q. node-size q ≤ node-size (over (filter e) n)) (push-into e n)
-into-smaller e (leaf (scan t al none)) = omega arith
-into-smaller e (leaf (scan t al (some q))) = omega arith
-into-smaller e (leaf (lookup a t al vs)) = tt
-into-smaller e (leaf (nothing ls)) = tt
-into-smaller e (leaf (values rs)) = tt
-into-smaller e (over (filter q) n) = omega arith
-into-smaller e (over (other o) n) = tt
-into-smaller e (join outer (nested-loop none) l r) = omega arith
-into-smaller e (join outer (nested-loop (some q)) l r) = omega arith
-into-smaller e (join outer (hash i j) l r) = tt
+into-smaller : (new : ℕ) (e : Expression) (n : Node) → Optional (λ q. node-size q ≤ node-size (over new (filter e) n)) (push-into new e n)
+into-smaller new e (leaf og (scan t al none)) = omega arith
+into-smaller new e (leaf og (scan t al (some q))) = omega arith
+into-smaller new e (leaf og (lookup a t al vs)) = tt
+into-smaller new e (leaf og (nothing ls)) = tt
+into-smaller new e (leaf og (values rs)) = tt
+into-smaller new e (over og (filter q) n) = omega arith
+into-smaller new e (over og (other o) n) = tt
+into-smaller new e (join og outer (nested-loop none) l r) = omega arith
+into-smaller new e (join og outer (nested-loop (some q)) l r) = omega arith
+into-smaller new e (join og outer (hash i j) l r) = tt
 
 pub merge-smaller : (p q : Node) → merge p ≡ some q → node-size q ≤ node-size p
 merge-smaller p q h = subst (Optional (λ q. node-size q ≤ node-size p)) h (go p)
   where
     go : (p : Node) → Optional (λ q. node-size q ≤ node-size p) (merge p)
-    go (leaf l) = tt
-    go (over (filter e) n) = into-smaller e n
-    go (over (other o) n) = tt
-    go (join outer j l r) = tt
+    go (leaf og l) = tt
+    go (over og (filter e) n) = into-smaller og e n
+    go (over og (other o) n) = tt
+    go (join og outer j l r) = tt
 
 -- what comes of it is fit to take the Filter's place
 pub merge-keeps : (schema : Schema) (text : List ℕ) (tables : ℕ) (p q : Node) → merge p ≡ some q → Kept schema text tables p p → Kept schema text tables p q
 merge-keeps schema text tables p q h k = subst (Optional (Kept schema text tables p)) h (go p k)
   where
     go : (p : Node) → Kept schema text tables p p → Optional (Kept schema text tables p) (merge p)
-    go (leaf l) k = tt
-    go (over (filter e) n) k = into-keeps schema text tables e n (k .0 .0) (k .0 .1)
-    go (over (other o) n) k = tt
-    go (join outer j l r) k = tt
+    go (leaf og l) k = tt
+    go (over og (filter e) n) k = into-keeps schema text tables og e n (k .0 .0) (k .0 .1)
+    go (over og (other o) n) k = tt
+    go (join og outer j l r) k = tt
 
 module _ (room : ℕ) (schema : Schema) where
   filter-rule : (n rest : ℕ) (p : Node)
       → maybe-push-filter room schema (suc n) rest p
       ≡ go-on (λ q. step room schema rest q >>= maybe-push-filter room schema n rest >>= maybe-push-join room schema rest) p (merge p)
   unfolding maybe-push-filter
-  filter-rule n rest (leaf l) = refl
-  filter-rule n rest (over (filter e) source) = refl
-  filter-rule n rest (over (other o) source) = refl
-  filter-rule n rest (join outer j l r) = refl
+  filter-rule n rest (leaf og l) = refl
+  filter-rule n rest (over og (filter e) source) = refl
+  filter-rule n rest (over og (other o) source) = refl
+  filter-rule n rest (join og outer j l r) = refl
 
   -- the bound is used up
   pub none-left : (n rest : ℕ) (p : Node) → n ≡ 0 → maybe-push-filter room schema n rest p ≡ done p

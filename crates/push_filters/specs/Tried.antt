@@ -1,5 +1,5 @@
 -- The node that is tried. A Filter that is merged into the Filter below it isn't written into the plan: its predicate is gathered in the scratch y, with that
--- of the Filter below and an And over both. What is gathered takes its place in the plan where no Filter is below it, or where no more nodes may be tried. So
+-- of the Filter below and an And over both, which has the upper Filter's origin. What is gathered takes its place in the plan where no Filter is below it, or where no more nodes may be tried. So
 -- each predicate is copied once on the way down, and once into the plan.
 use Prim.Native.Nat.{ℕ, _+_, _≤_}
 use mathlib.Core.Path.{_≡_}
@@ -30,20 +30,20 @@ pub record Gathered (x y : List ℕ) (at end t lo tail : ℕ) (pre post : List �
   pub predicate : take at y ≡ expression-words e
   pub fits : at + cell-words ≤ length gone
 
--- A Filter stands there so; any other node stands in x, from lo up to t − tail, and nothing is gathered.
-abbrev pub StandsAs : (x y : List ℕ) (at end t lo tail : ℕ) (pre post : List ℕ) → Node → Type 0
-StandsAs x y at end t lo tail pre post (leaf l) = (at ≡ 0) × Holds x t lo tail pre post (leaf l)
-StandsAs x y at end t lo tail pre post (over (filter e) source) = Gathered x y at end t lo tail pre post e source
-StandsAs x y at end t lo tail pre post (over (other o) source) = (at ≡ 0) × Holds x t lo tail pre post (over (other o) source)
-StandsAs x y at end t lo tail pre post (join outer j l r) = (at ≡ 0) × Holds x t lo tail pre post (join outer j l r)
+-- A Filter with that origin stands there so; any other node stands in x, from lo up to t − tail, and nothing is gathered.
+abbrev pub StandsAs : (x y : List ℕ) (at end t lo tail origin : ℕ) (pre post : List ℕ) → Node → Type 0
+StandsAs x y at end t lo tail origin pre post (leaf og l) = (at ≡ 0) × Holds x t lo tail pre post (leaf og l)
+StandsAs x y at end t lo tail origin pre post (over og (filter e) source) = (origin ≡ og) × Gathered x y at end t lo tail pre post e source
+StandsAs x y at end t lo tail origin pre post (over og (other o) source) = (at ≡ 0) × Holds x t lo tail pre post (over og (other o) source)
+StandsAs x y at end t lo tail origin pre post (join og outer j l r) = (at ≡ 0) × Holds x t lo tail pre post (join og outer j l r)
 
-pub record Stands (x y : List ℕ) (at end t lo tail : ℕ) (pre post : List ℕ) (p : Node) : Type 0 where
-  pub is : StandsAs x y at end t lo tail pre post p
+pub record Stands (x y : List ℕ) (at end t lo tail origin : ℕ) (pre post : List ℕ) (p : Node) : Type 0 where
+  pub is : StandsAs x y at end t lo tail origin pre post p
 
 -- ---- contracts
 
 -- As PassAt (crate kept): some sound node of a schema that is lent stands there.
-pub record TriedAt (widths x y : List ℕ) (at end t lo tail : ℕ) : Type 0 where
+pub record TriedAt (widths x y : List ℕ) (at end t lo tail origin : ℕ) : Type 0 where
   pub schema : Schema
   pub text : List ℕ
   pub tables : ℕ
@@ -56,23 +56,23 @@ pub record TriedAt (widths x y : List ℕ) (at end t lo tail : ℕ) : Type 0 whe
   pub post : List ℕ
   pub p : Node
   pub fit : Kept schema text tables p p
-  pub stands : Stands x y at end t lo tail pre post p
+  pub stands : Stands x y at end t lo tail origin pre post p
 
 -- As Passes (crate kept): x′ with r words is x with t words, and what is gathered, after f of the node that stands there.
-abbrev pub Tries : (ℕ → Schema → ℕ → Node → Answer Node) → (widths x y : List ℕ) (at end t lo tail r : ℕ) → List ℕ → Type 0
-Tries f widths x y at end t lo tail r x′ =
+abbrev pub Tries : (ℕ → Schema → ℕ → Node → Answer Node) → (widths x y : List ℕ) (at end t lo tail origin r : ℕ) → List ℕ → Type 0
+Tries f widths x y at end t lo tail origin r x′ =
     (schema : Schema) (text : List ℕ) (tables : ℕ) → Tables schema widths → (room rest : ℕ) → Shares x lo tail room rest → (pre post : List ℕ) (p : Node)
-    → Kept schema text tables p p → Stands x y at end t lo tail pre post p → Left (Kept schema text tables p) x′ r pre post (f room schema rest p)
+    → Kept schema text tables p p → Stands x y at end t lo tail origin pre post p → Left (Kept schema text tables p) x′ r pre post (f room schema rest p)
 
--- Whatever predicates are the first `at` words of y, and the words of x from lo up to hi: the first r words of y′ are both under an And.
-abbrev pub Gathers : (x : List ℕ) (lo hi : ℕ) (y : List ℕ) (at r : ℕ) → List ℕ → Type 0
-Gathers x lo hi y at r y′ =
-    (e q : Expression) → ExpressionHere x lo hi q → Wrote y 0 (expression-words e) at y → Wrote y 0 (expression-words (and e q)) r y′
+-- Whatever predicates are the first `at` words of y, and the words of x from lo up to hi: the first r words of y′ are both under an And with the origin `new`.
+abbrev pub Gathers : (new : ℕ) (x : List ℕ) (lo hi : ℕ) (y : List ℕ) (at r : ℕ) → List ℕ → Type 0
+Gathers new x lo hi y at r y′ =
+    (e q : Expression) → ExpressionHere x lo hi q → Wrote y 0 (expression-words e) at y → Wrote y 0 (expression-words (and new e q)) r y′
 
--- Whatever node stands in x from lo up to `end`, and whatever predicate is the first n words of y: a Filter with the predicate over the node takes the place
--- of the node and of the words behind it, up to t − tail.
-abbrev pub Filters : (x y : List ℕ) (n t lo end tail r : ℕ) → List ℕ → Type 0
-Filters x y n t lo end tail r x′ =
+-- Whatever node stands in x from lo up to `end`, and whatever predicate is the first n words of y: a Filter with the predicate and the origin og, over the
+-- node, takes the place of the node and of the words behind it, up to t − tail.
+abbrev pub Filters : (og : ℕ) (x y : List ℕ) (n t lo end tail r : ℕ) → List ℕ → Type 0
+Filters og x y n t lo end tail r x′ =
     (e : Expression) (source : Node) (pre gone post : List ℕ) → take t x ≡ pre ++ (node-words source ++ (gone ++ post))
     → length pre ≡ lo → lo + length (node-words source) ≡ end → length post ≡ tail → Wrote y 0 (expression-words e) n y
-    → Placed x′ r pre post (node-words (over (filter e) source))
+    → Placed x′ r pre post (node-words (over og (filter e) source))

@@ -3,7 +3,8 @@
 // the nodes, as in the definition (crate sql, Room).
 //
 // A run of Filters can be as long as the plan. So a Filter that is merged into one is only gathered: its predicate is the first `at` words of y, its source
-// ends at `end` in x, and the words from there up to t - tail are gone once it is placed. With at = 0 nothing is gathered, and the node is no Filter.
+// ends at `end` in x, and the words from there up to t - tail are gone once it is placed. With at = 0 nothing is gathered, and the node is no Filter. `origin`
+// is the origin of the Filter that is gathered, which is that of the lowest one in it; each And has that of the upper Filter, the one that is merged.
 ghost use mathlib.Core.Path.{_≡_};
 ghost use Prim.Native.Nat.{_+_, _≤_};
 ghost use lib.ListN.{length};
@@ -12,10 +13,10 @@ ghost use Rattle.kept.specs.Pass.{PassAt, Passes};
 ghost use Rattle.push_filters.specs.Buffers.{Buffers};
 ghost use Rattle.push_filters.specs.Tried.{TriedAt, Tries, Gathers, Filters};
 
-// The predicate of x from lo to hi is gathered behind the one in the first `at` words of y, with an And over both.
-fn gather(x: &[u32], lo: usize, hi: usize, y: &mut [u32], at: usize) -> usize
+// The predicate of x from lo to hi is gathered behind the one in the first `at` words of y, with an And of that origin over both.
+fn gather(x: &[u32], lo: usize, hi: usize, y: &mut [u32], at: usize, origin: u32) -> usize
     requires { ⌜ (lo ≤ hi) × (hi ≤ length (now x)) ⌝ }
-    ensures { λ r. ⌜ Gathers (now (x .entry)) lo hi (now (y .entry)) at r (now (y .exit)) ⌝ }
+    ensures { λ r. ⌜ Gathers origin (now (x .entry)) lo hi (now (y .entry)) at r (now (y .exit)) ⌝ }
 {
     let m = cells::copy(x, lo, hi, y, at);
     cells::put(
@@ -23,6 +24,7 @@ fn gather(x: &[u32], lo: usize, hi: usize, y: &mut [u32], at: usize) -> usize
         0,
         m,
         cells::Cell {
+            origin: origin,
             tag: tags::AND,
             flag: 0,
             a: 0,
@@ -32,7 +34,7 @@ fn gather(x: &[u32], lo: usize, hi: usize, y: &mut [u32], at: usize) -> usize
     )
 }
 
-// A Filter with the predicate in the first n words of y, over the node of x from lo up to `end`, takes the place of all from lo up to t - tail.
+// A Filter of that origin with the predicate in the first n words of y, over the node of x from lo up to `end`, takes the place of all from lo up to t - tail.
 fn filter_over(
     x: &mut [u32],
     y: &mut [u32],
@@ -41,17 +43,19 @@ fn filter_over(
     lo: usize,
     end: usize,
     tail: usize,
+    origin: u32,
 ) -> usize
     requires { ⌜ lo ≤ end ⌝ }
     requires { ⌜ (end + tail ≤ t) × (t ≤ length (now x)) ⌝ }
     requires { ⌜ length (now y) ≡ length (now x) ⌝ }
-    ensures { λ r. ⌜ Filters (now (x .entry)) (now (y .entry)) n t lo end tail r (now (x .exit)) ⌝ }
+    ensures { λ r. ⌜ Filters origin (now (x .entry)) (now (y .entry)) n t lo end tail r (now (x .exit)) ⌝ }
 {
     let m = cells::put(
         y,
         0,
         n,
         cells::Cell {
+            origin: origin,
             tag: tags::FILTER,
             flag: 0,
             a: 0,
@@ -75,27 +79,30 @@ fn maybe_push_filter(
     lo: usize,
     tail: usize,
     widths: &[usize],
+    origin: u32,
 ) -> usize
-    requires { ⌜ TriedAt (now widths) (now x) (now y) at end t lo tail ⌝ }
+    requires { ⌜ TriedAt (now widths) (now x) (now y) at end t lo tail origin ⌝ }
     requires { ⌜ Buffers (now x) (now y) (now z) (now w) ⌝ }
-    ensures { λ r. ⌜ Tries (λ room schema. Room.maybe-push-filter room schema n) (now (widths .entry)) (now (x .entry)) (now (y .entry)) at end t lo tail r (now (x .exit)) ⌝ }
+    ensures { λ r. ⌜ Tries (λ room schema. Room.maybe-push-filter room schema n) (now (widths .entry)) (now (x .entry)) (now (y .entry)) at end t lo tail origin r (now (x .exit)) ⌝ }
 {
     if at == 0 {
         return t;
     }
     if n == 0 {
-        return filter_over(x, y, at, t, lo, end, tail);
+        return filter_over(x, y, at, t, lo, end, tail, origin);
     }
     if cells::tag_at(x, end) == tags::FILTER {
         let own = nodes::own_start(x, lo, end);
-        let more = gather(x, own, end - cells::CELL_WORDS, y, at);
-        return push_filters(x, y, z, w, n - 1, more, own, t, lo, tail, widths);
+        let more = gather(x, own, end - cells::CELL_WORDS, y, at, origin);
+        let below = cells::origin_at(x, end);
+        return push_filters(x, y, z, w, n - 1, more, own, t, lo, tail, widths, below);
     }
     if push_into::takes(x, lo, end) {
-        let into = push_into::push_into(x, y, at, t, lo, end, tail);
-        return push_filters(x, y, z, w, n - 1, 0, end, into, lo, tail, widths);
+        let into = push_into::push_into(x, y, at, t, lo, end, tail, origin);
+        // Nothing is gathered now, so no origin is asked for.
+        return push_filters(x, y, z, w, n - 1, 0, end, into, lo, tail, widths, 0);
     }
-    filter_over(x, y, at, t, lo, end, tail)
+    filter_over(x, y, at, t, lo, end, tail, origin)
 }
 
 // maybe_push_filter, then the join rule.
@@ -111,12 +118,13 @@ fn push_filters(
     lo: usize,
     tail: usize,
     widths: &[usize],
+    origin: u32,
 ) -> usize
-    requires { ⌜ TriedAt (now widths) (now x) (now y) at end t lo tail ⌝ }
+    requires { ⌜ TriedAt (now widths) (now x) (now y) at end t lo tail origin ⌝ }
     requires { ⌜ Buffers (now x) (now y) (now z) (now w) ⌝ }
-    ensures { λ r. ⌜ Tries (λ room schema. Room.push-filters room schema n) (now (widths .entry)) (now (x .entry)) (now (y .entry)) at end t lo tail r (now (x .exit)) ⌝ }
+    ensures { λ r. ⌜ Tries (λ room schema. Room.push-filters room schema n) (now (widths .entry)) (now (x .entry)) (now (y .entry)) at end t lo tail origin r (now (x .exit)) ⌝ }
 {
-    let pushed = maybe_push_filter(x, y, z, w, n, at, end, t, lo, tail, widths);
+    let pushed = maybe_push_filter(x, y, z, w, n, at, end, t, lo, tail, widths, origin);
     if x.len() < pushed {
         return pushed;
     }
@@ -143,7 +151,9 @@ pub fn push_filters_in_place(
     if cells::tag_at(x, hi) == tags::FILTER {
         let own = nodes::own_start(x, lo, hi);
         let at = cells::copy(x, own, hi - cells::CELL_WORDS, y, 0);
-        return push_filters(x, y, z, w, n, at, own, t, lo, tail, widths);
+        let origin = cells::origin_at(x, hi);
+        return push_filters(x, y, z, w, n, at, own, t, lo, tail, widths, origin);
     }
-    push_filters(x, y, z, w, n, 0, hi, t, lo, tail, widths)
+    // Nothing is gathered, so no origin is asked for.
+    push_filters(x, y, z, w, n, 0, hi, t, lo, tail, widths, 0)
 }

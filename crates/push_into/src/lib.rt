@@ -24,9 +24,9 @@ pub fn takes(s: &[u32], lo: usize, hi: usize) -> bool
     false
 }
 
-// A predicate stands in d from mid up to at. Behind it come the own predicate of the node from lo to hi of s, with an And over both, and the node's cell,
-// which is over all words of d from `from` on: the words of the node's sources stand before the predicate, or the caller seals the node. The flag of a node
-// that had no predicate now says that there is one.
+// A predicate stands in d from mid up to at. Behind it come the own predicate of the node from lo to hi of s, with an And of that origin over both, and the
+// node's cell, which is over all words of d from `from` on: the words of the node's sources stand before the predicate, or the caller seals the node. The flag
+// of a node that had no predicate now says that there is one.
 pub fn with_predicate(
     s: &[u32],
     lo: usize,
@@ -35,10 +35,11 @@ pub fn with_predicate(
     from: usize,
     mid: usize,
     at: usize,
+    origin: u32,
 ) -> usize
     requires { ⌜ TakerAt (now s) lo hi ⌝ }
     requires { ⌜ PredicateWritten (now d) from mid at ⌝ }
-    ensures { λ r. ⌜ Pushes (now (s .entry)) lo hi (now (d .entry)) from mid at r (now (d .exit)) ⌝ }
+    ensures { λ r. ⌜ Pushes origin (now (s .entry)) lo hi (now (d .entry)) from mid at r (now (d .exit)) ⌝ }
 {
     let k = cells::cell_at(s, hi);
     let own = nodes::own_start(s, lo, hi);
@@ -49,6 +50,7 @@ pub fn with_predicate(
             from,
             at,
             cells::Cell {
+                origin: k.origin,
                 tag: k.tag,
                 flag: k.flag + 1,
                 a: k.a,
@@ -63,6 +65,7 @@ pub fn with_predicate(
         mid,
         m,
         cells::Cell {
+            origin: origin,
             tag: tags::AND,
             flag: 0,
             a: 0,
@@ -73,7 +76,8 @@ pub fn with_predicate(
     cells::put(d, from, n, k)
 }
 
-// The predicate in the first n words of y goes into the node of x from lo up to `end`, which takes one. What stands behind the node, up to t - tail, is gone.
+// The predicate in the first n words of y goes into the node of x from lo up to `end`, which takes one; an And over it and the node's own predicate has that
+// origin. What stands behind the node, up to t - tail, is gone.
 pub fn push_into(
     x: &mut [u32],
     y: &mut [u32],
@@ -82,14 +86,15 @@ pub fn push_into(
     lo: usize,
     end: usize,
     tail: usize,
+    origin: u32,
 ) -> usize
     requires { ⌜ TakerAt (now x) lo end ⌝ }
     requires { ⌜ PredicateWritten (now y) 0 0 n ⌝ }
     requires { ⌜ (end + tail ≤ t) × (t ≤ length (now x)) ⌝ }
     requires { ⌜ length (now y) ≡ length (now x) ⌝ }
-    ensures { λ r. ⌜ PushesInPlace (now (x .entry)) (now (y .entry)) n t lo end tail r (now (x .exit)) ⌝ }
+    ensures { λ r. ⌜ PushesInPlace origin (now (x .entry)) (now (y .entry)) n t lo end tail r (now (x .exit)) ⌝ }
 {
     let own = nodes::own_start(x, lo, end);
-    let m = with_predicate(x, lo, end, y, 0, 0, n);
+    let m = with_predicate(x, lo, end, y, 0, 0, n, origin);
     edit::replace_own(x, y, m, t, lo, own, tail)
 }

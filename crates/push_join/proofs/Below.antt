@@ -17,7 +17,7 @@ use Rattle.sql.specs.Optimizer.{push-into, pushed-or-back, push-part, for-left,
 use Rattle.sql.specs.Answer.{Answer, done, refused}
 use Rattle.sql.specs.Room
 use Rattle.sheet.specs.Cell.{Cell}
-use Rattle.sheet.specs.Content.{Content, cell-of, constant-cell, column-cell, unary-cell, binary-cell, label-cell, item-cell, key-cell, target-cell, agg-cell, row-cell, aggregate-cell, filter-cell, hash-join-cell, index-lookup-cell, key-lookup-cell, limit-cell, offset-cell, nested-loop-join-cell, nothing-cell, order-cell, projection-cell, remap-cell, scan-cell, values-cell}
+use Rattle.sheet.specs.Content.{Content, cell-of, marked, constant-cell, column-cell, unary-cell, binary-cell, label-cell, item-cell, key-cell, target-cell, agg-cell, row-cell, aggregate-cell, filter-cell, hash-join-cell, index-lookup-cell, key-lookup-cell, limit-cell, offset-cell, nested-loop-join-cell, nothing-cell, order-cell, projection-cell, remap-cell, scan-cell, values-cell}
 use Rattle.sheet.specs.Cells.{present}
 use Rattle.sheet_laws.specs.Fits.{All, Optional}
 use Rattle.sheet_laws.specs.Counts.{most-columns, all-map}
@@ -29,7 +29,7 @@ use Rattle.sound.specs.Widest.{sound-few}
 use Rattle.sound.specs.Numbers.{Numbers-below, optional-below, sound-below}
 use Rattle.sound.specs.Pushdown.{Across, left-of, right-of, across-of, push-left-of, push-right-of, part-keeps, split-keeps}
 use Rattle.cells.specs.declared.Cell as Word
-use Rattle.cells.specs.Cells.{Part}
+use Rattle.cells.specs.Cells.{cell-words, Part}
 use Rattle.cells.specs.Room.{Wrote}
 use Rattle.cells.proofs.Laws.{part-is, wrote-up}
 use Rattle.words.specs.Words.{expression-words, optional-words, node-words}
@@ -140,6 +140,12 @@ module _ (n : ℕ) where
   cell-below (scan-cell f t (some r)) x = unnumbered _ refl
   cell-below (values-cell m) x = unnumbered _ refl
 
+  -- with an origin
+  said-below : (og : ℕ) (k : Content) → Numbers-below n k → Cell-below n (marked og (cell-of k))
+  said-below og k x =
+      let b = cell-below k x in
+      record { column = b .column; target = b .target; hash-join = b .hash-join; index-lookup = b .index-lookup }
+
 more-cell : (n m : ℕ) → n ≤ m → (k : Cell) → Cell-below n k → Cell-below m k
 more-cell n m h k b =
     record {
@@ -172,10 +178,10 @@ nothing-below s = record { each = tt }
 
 -- expressions over a row of n columns
 optional-words-below : (P : Value → Type 0) (n : ℕ) (o : Option Expression) → Optional (Made-of P (λ c. c < n)) o → Words-below n (optional-words o)
-optional-words-below P n o x = optional-in (Cell-below n) (cell-below n) o (optional-below P n n (omega arith) o x)
+optional-words-below P n o x = optional-in (Cell-below n) (said-below n) o (optional-below P n n (omega arith) o x)
 
-vec-words-below : (P : Value → Type 0) (n : ℕ) (es : List Expression) → All (Made-of P (λ c. c < n)) es → Words-below n (optional-words (and-vec es))
-vec-words-below P n es x = optional-words-below P n (and-vec es) (and-vec-of P (λ c. c < n) es x)
+vec-words-below : (P : Value → Type 0) (new n : ℕ) (es : List Expression) → All (Made-of P (λ c. c < n)) es → Words-below n (optional-words (and-vec new es))
+vec-words-below P new n es x = optional-words-below P n (and-vec new es) (and-vec-of P (λ c. c < n) new es x)
 
 -- ---- an expression whose columns are rewritten where they stand, by a rewrite that takes numbers below n to such
 
@@ -184,7 +190,7 @@ module _ (how : Change) (n : ℕ) (keeps : (c : ℕ) → c < n → changed how c
   changed-below k b = go (eqb (k .tag) 6) refl
     where
       go : (t : Bool) → eqb (k .tag) 6 ≡ t
-          → Cell-below n (as-cell (cond t (record { tag = k .tag; flag = k .flag; a = changed how (k .a); b = k .b; c = k .c }) k))
+          → Cell-below n (as-cell (cond t (record { origin = k .origin; tag = k .tag; flag = k .flag; a = changed how (k .a); b = k .b; c = k .c }) k))
       go true e =
           let six : k .tag ≡ 6 = eqb-true (k .tag) 6 e in
           record {
@@ -200,11 +206,11 @@ module _ (how : Change) (n : ℕ) (keeps : (c : ℕ) → c < n → changed how c
     first : List (Word.Cell × ℕ)
     rest : List (Word.Cell × ℕ)
     is : flat cs ≡ flat first ++ flat rest
-    long : length (flat first) ≡ 6 * passed
-    as-long : length (flat (map (changed-sized how) first)) ≡ 6 * passed
+    long : length (flat first) ≡ cell-words * passed
+    as-long : length (flat (map (changed-sized how) first)) ≡ cell-words * passed
     below : Words-below n (flat (map (changed-sized how) first) ++ flat rest)
 
-  partly : (cs : List (Word.Cell × ℕ)) → Words-below n (flat cs) → (passed : ℕ) → 6 * passed ≤ length (flat cs) → Partly cs passed
+  partly : (cs : List (Word.Cell × ℕ)) → Words-below n (flat cs) → (passed : ℕ) → cell-words * passed ≤ length (flat cs) → Partly cs passed
   unfolding cells-in
   partly cs b zero h = record { first = []; rest = cs; is = refl; long = refl; as-long = refl; below = b }
   partly [] b (suc passed) h = absurd (omega arith)
@@ -213,7 +219,7 @@ module _ (how : Change) (n : ℕ) (keeps : (c : ℕ) → c < n → changed how c
       record {
         first = c ∷ g .first;
         rest = g .rest;
-        is = ap (λ (w : List ℕ). c .0 .tag ∷ c .0 .flag ∷ c .0 .a ∷ c .0 .b ∷ c .0 .c ∷ c .1 ∷ w) (g .is);
+        is = ap (λ (w : List ℕ). c .0 .origin ∷ c .0 .tag ∷ c .0 .flag ∷ c .0 .a ∷ c .0 .b ∷ c .0 .c ∷ c .1 ∷ w) (g .is);
         long = omega (arith, g .long);
         as-long = omega (arith, g .as-long);
         below = (changed-below (c .0) (b .0), g .below);
@@ -223,11 +229,11 @@ module _ (how : Change) (n : ℕ) (keeps : (c : ℕ) → c < n → changed how c
   steps-below e b = record { each = λ w h passed i f. at-step (written-part w h) passed i f }
     where
       at-step : {copy : List ℕ} {at k : ℕ} {y : List ℕ} → Part copy at k (expression-words e)
-          → (passed : ℕ) → at + 6 * passed ≤ k → Rewrites how copy at (at + 6 * passed) y → Below n y at k
+          → (passed : ℕ) → at + cell-words * passed ≤ k → Rewrites how copy at (at + cell-words * passed) y → Below n y at k
       at-step {copy} {at} {k} {y} u passed i f =
           let g = partly (cells-before e []) (subst (Words-below n) (sym (flat-words e)) b) passed (omega (arith, u .high, ap length (flat-words e))) in
           let done = flat (map (changed-sized how) (g .first)) in
-          let first-here : Part copy at (at + 6 * passed) (flat (g .first)) =
+          let first-here : Part copy at (at + cell-words * passed) (flat (g .first)) =
           record {
             before = u .before;
             after = flat (g .rest) ++ u .after;
@@ -254,53 +260,53 @@ replaced-below n from to h c i = go (eqb c from)
     go false = i
 
 -- what comes back of a part
-part-back : (Q : Expression → Type 0) (o : Option Expression) (n : Node) → Optional Q o → All Q (push-part o n .1)
-part-back Q none n x = tt
-part-back Q (some e) n x = go (push-into e n)
+part-back : (new : ℕ) (Q : Expression → Type 0) (o : Option Expression) (n : Node) → Optional Q o → All Q (push-part new o n .1)
+part-back new Q none n x = tt
+part-back new Q (some e) n x = go (push-into new e n)
   where
     go : (q : Option Node) → All Q (pushed-or-back e n q .1)
     go none = (x, tt)
     go (some m) = tt
 
 -- A node that takes a predicate is still one that does, with any in it.
-still-taker : (p : Expression) (o : Option Expression) (n : Node) → is-some (push-into p n) ≡ true → is-some (push-into p (push-part o n .0)) ≡ true
-still-taker p none n h = h
-still-taker p (some e) (leaf (scan t al q)) h = refl
-still-taker p (some e) (leaf (lookup a t al vs)) h = no-true h
-still-taker p (some e) (leaf (nothing ls)) h = no-true h
-still-taker p (some e) (leaf (values rs)) h = no-true h
-still-taker p (some e) (over (filter q) n) h = refl
-still-taker p (some e) (over (other o) n) h = no-true h
-still-taker p (some e) (join outer (nested-loop q) l r) h = refl
-still-taker p (some e) (join outer (hash i j) l r) h = no-true h
+still-taker : (new : ℕ) (p : Expression) (o : Option Expression) (n : Node) → is-some (push-into new p n) ≡ true → is-some (push-into new p (push-part new o n .0)) ≡ true
+still-taker new p none n h = h
+still-taker new p (some e) (leaf og (scan t al q)) h = refl
+still-taker new p (some e) (leaf og (lookup a t al vs)) h = no-true h
+still-taker new p (some e) (leaf og (nothing ls)) h = no-true h
+still-taker new p (some e) (leaf og (values rs)) h = no-true h
+still-taker new p (some e) (over og (filter q) n) h = refl
+still-taker new p (some e) (over og (other o) n) h = no-true h
+still-taker new p (some e) (join og outer (nested-loop q) l r) h = refl
+still-taker new p (some e) (join og outer (hash i j) l r) h = no-true h
 
 module _ (schema : Schema) (narrow : (t : ℕ) → length (table-of schema t .columns) ≤ 256) (text : List ℕ) (tables : ℕ) where
   abbrev F : Value → Type 0
   F = Fitting schema text tables
 
   -- the own words and the cell of such a node
-  own-below : (p : Expression) (n : Node) → is-some (push-into p n) ≡ true → Sound schema text tables n → Words-below (columns schema n) (own-end n)
-  own-below p (leaf (scan t al q)) h x =
+  own-below : (new : ℕ) (p : Expression) (n : Node) → is-some (push-into new p n) ≡ true → Sound schema text tables n → Words-below (columns schema n) (own-end n)
+  own-below new p (leaf og (scan t al q)) h x =
       let w = length (table-of schema t .columns) in
-      optional-under (Cell-below w) (cell-below w) (scan-cell (present q) t al) q (optional-below F w w (omega arith) q (x .0)) tt
-  own-below p (leaf (lookup a t al vs)) h x = no-true h
-  own-below p (leaf (nothing ls)) h x = no-true h
-  own-below p (leaf (values rs)) h x = no-true h
-  own-below p (over (filter q) n) h x =
+      optional-under (Cell-below w) (said-below w) og (scan-cell (present q) t al) q (optional-below F w w (omega arith) q (x .0)) tt
+  own-below new p (leaf og (lookup a t al vs)) h x = no-true h
+  own-below new p (leaf og (nothing ls)) h x = no-true h
+  own-below new p (leaf og (values rs)) h x = no-true h
+  own-below new p (over og (filter q) n) h x =
       let w = columns schema n in
-      optional-under (Cell-below w) (cell-below w) filter-cell (some q) (optional-below F w w (omega arith) (some q) (x .1)) tt
-  own-below p (over (other o) n) h x = no-true h
-  own-below p (join outer (nested-loop q) l r) h x =
+      optional-under (Cell-below w) (said-below w) og filter-cell (some q) (optional-below F w w (omega arith) (some q) (x .1)) tt
+  own-below new p (over og (other o) n) h x = no-true h
+  own-below new p (join og outer (nested-loop q) l r) h x =
       let w = columns schema l + columns schema r in
-      optional-under (Cell-below w) (cell-below w) (nested-loop-join-cell (present q) outer) q (optional-below F w w (omega arith) q (x .1 .1)) tt
-  own-below p (join outer (hash i j) l r) h x = no-true h
+      optional-under (Cell-below w) (said-below w) og (nested-loop-join-cell (present q) outer) q (optional-below F w w (omega arith) q (x .1 .1)) tt
+  own-below new p (join og outer (hash i j) l r) h x = no-true h
 
   -- a whole plan of at most so many cells
   plan-below : (cells : ℕ) (n : Node) → Sound schema text tables n → node-size n ≤ cells → Words-below (most-columns cells) (node-words n)
-  plan-below cells n x h = node-in (Cell-below (most-columns cells)) (cell-below (most-columns cells)) n (sound-below schema narrow text tables cells n x h)
+  plan-below cells n x h = node-in (Cell-below (most-columns cells)) (said-below (most-columns cells)) n (sound-below schema narrow text tables cells n x h)
 
   pub placed-below : (x′ : List ℕ) (k : ℕ) (pre post : List ℕ) (q : Node) → Sound schema text tables q → take k x′ ≡ pre ++ (node-words q ++ post)
-      → k ≤ length x′ → (cells : ℕ) → length x′ ≤ 6 * cells → Below (most-columns cells) x′ (length pre) (k - length post)
+      → k ≤ length x′ → (cells : ℕ) → length x′ ≤ cell-words * cells → Below (most-columns cells) x′ (length pre) (k - length post)
   placed-below x′ k pre post q x e h cells i =
       stand-below u (plan-below cells q x (omega (arith, words-long q, length-append (node-words q) post, length-append pre (node-words q ++ post), ap length e, length-take-le k x′ h)))
     where
@@ -315,7 +321,7 @@ module _ (schema : Schema) (narrow : (t : ℕ) → length (table-of schema t .co
 
   -- ---- the join of l and r with the predicate p
 
-  module _ (outer : Bool) (p : Expression) (l r : Node) (x : Sound schema text tables (join outer (nested-loop (some p)) l r)) where
+  module _ (og : ℕ) (outer : Bool) (p : Expression) (l r : Node) (x : Sound schema text tables (join og outer (nested-loop (some p)) l r)) where
     abbrev left : ℕ
     left = columns schema l
 
@@ -363,68 +369,68 @@ module _ (schema : Schema) (narrow : (t : ℕ) → length (table-of schema t .co
 
     -- the parts: of the left source, of the right source, and of the right source in the joined row's columns
     abbrev to-left : Option Expression
-    to-left = part-for Source.Left left 0 conjuncts
+    to-left = part-for og Source.Left left 0 conjuncts
 
     abbrev to-right : Option Expression
-    to-right = part-for Source.Right left left conjuncts
+    to-right = part-for og Source.Right left left conjuncts
 
     abbrev back-right : Option Expression
-    back-right = part-for Source.Right left 0 conjuncts
+    back-right = part-for og Source.Right left 0 conjuncts
 
     left-made : Optional On-left to-left
-    left-made = and-vec-of F (λ c. c < left) (push-left left conjuncts) (push-left-of F left right conjuncts each-made)
+    left-made = and-vec-of F (λ c. c < left) og (push-left left conjuncts) (push-left-of F left right conjuncts each-made)
 
-    pushed-right : Optional Not-left (and-vec (push-right left conjuncts))
-    pushed-right = and-vec-of F (Right left right) (push-right left conjuncts) (push-right-of F left right conjuncts each-made)
+    pushed-right : Optional Not-left (and-vec og (push-right left conjuncts))
+    pushed-right = and-vec-of F (Right left right) og (push-right left conjuncts) (push-right-of F left right conjuncts each-made)
 
     right-made : Optional On-right to-right
-    right-made = optional-map (shift-column-down left) Not-left On-right (shifted-down F left right) (and-vec (push-right left conjuncts)) pushed-right
+    right-made = optional-map (shift-column-down left) Not-left On-right (shifted-down F left right) (and-vec og (push-right left conjuncts)) pushed-right
 
     unshifted : (e : Expression) → Not-left e → On-both (shift-column-down 0 e)
     unshifted = moved F (λ c. c - 0) (Right left right) (λ c. c < left + right) (λ c h. let (i, j) = h in omega arith)
 
     back-made : Optional On-both back-right
-    back-made = optional-map (shift-column-down 0) Not-left On-both unshifted (and-vec (push-right left conjuncts)) pushed-right
+    back-made = optional-map (shift-column-down 0) Not-left On-both unshifted (and-vec og (push-right left conjuncts)) pushed-right
 
-    left-back : All On-both (push-part to-left l .1)
+    left-back : All On-both (push-part og to-left l .1)
     left-back =
-        all-map On-left On-both (weaker F (λ c. c < left) (λ c. c < left + right) (λ c h. omega arith)) (push-part to-left l .1) (part-back On-left to-left l left-made)
+        all-map On-left On-both (weaker F (λ c. c < left) (λ c. c < left + right) (λ c h. omega arith)) (push-part og to-left l .1) (part-back og On-left to-left l left-made)
 
-    stays-made : Optional On-both (stays left conjuncts l r)
+    stays-made : Optional On-both (stays og left conjuncts l r)
     stays-made =
-        and-vec-of F (λ c. c < left + right) (for-both left conjuncts ++ (push-part to-left l .1 ++ push-part back-right r .1))
-        (all-append On-both (for-both left conjuncts) (push-part to-left l .1 ++ push-part back-right r .1)
+        and-vec-of F (λ c. c < left + right) og (for-both left conjuncts ++ (push-part og to-left l .1 ++ push-part og back-right r .1))
+        (all-append On-both (for-both left conjuncts) (push-part og to-left l .1 ++ push-part og back-right r .1)
         (all-map (Across F left right) On-both (λ e k. k .0) (for-both left conjuncts) (across-of F left right conjuncts each-made))
-        (all-append On-both (push-part to-left l .1) (push-part back-right r .1) left-back (part-back On-both back-right r back-made)))
+        (all-append On-both (push-part og to-left l .1) (push-part og back-right r .1) left-back (part-back og On-both back-right r back-made)))
 
     -- the sources after the split
-    new-left : Emits schema text tables left (push-part to-left l .0)
-    new-left = part-keeps schema text tables to-left l (x .0) left-made .0
+    new-left : Emits schema text tables left (push-part og to-left l .0)
+    new-left = part-keeps schema text tables og to-left l (x .0) left-made .0
 
-    new-right : Emits schema text tables right (push-part to-right r .0)
-    new-right = part-keeps schema text tables to-right r (x .1 .0) right-made .0
+    new-right : Emits schema text tables right (push-part og to-right r .0)
+    new-right = part-keeps schema text tables og to-right r (x .1 .0) right-made .0
 
-    own-made : (o : Option Expression) (n : Node) → is-some (push-into p n) ≡ true → Emits schema text tables (columns schema n) (push-part o n .0)
-        → Words-below (columns schema n) (own-end (push-part o n .0))
-    own-made o n t k = subst (λ (w : ℕ). Words-below w (own-end (push-part o n .0))) (k .1) (own-below p (push-part o n .0) (still-taker p o n t) (k .0))
+    own-made : (o : Option Expression) (n : Node) → is-some (push-into og p n) ≡ true → Emits schema text tables (columns schema n) (push-part og o n .0)
+        → Words-below (columns schema n) (own-end (push-part og o n .0))
+    own-made o n t k = subst (λ (w : ℕ). Words-below w (own-end (push-part og o n .0))) (k .1) (own-below og p (push-part og o n .0) (still-taker og p o n t) (k .0))
 
     module _ {cnf : List ℕ} {end : ℕ} {plan : List ℕ} {lo mid m : ℕ} (v : ExpressionHere cnf 0 end (into-cnf p)) (on-left : NodeHere plan lo mid l) (on-right : NodeHere plan mid m r) where
       own-wrote : {into : Source} {n shift from upto : ℕ} {d : List ℕ} {k : ℕ} {d′ : List ℕ} (w : ℕ) (q : Node) → NodeHere plan from upto q
-          → WritesOwn into n shift plan from upto cnf end d k d′ → k ≤ length d → Words-below w (own-end (push-part (part-for into n shift conjuncts) q .0)) → Below w d′ 0 k
+          → WritesOwn og into n shift plan from upto cnf end d k d′ → k ≤ length d → Words-below w (own-end (push-part og (part-for og into n shift conjuncts) q .0)) → Below w d′ 0 k
       own-wrote {k = k} {d′ = d′} w q u f h b = go (eqb k 0) refl
         where
           go : (t : Bool) → eqb k 0 ≡ t → Below w d′ 0 k
           go true e = subst (λ (j : ℕ). Below w d′ 0 j) (sym (eqb-true k 0 e)) (nothing-below d′)
           go false e = wrote-below (f .own (eqb-false k 0 e) q u (into-cnf p) v) h b
 
-      parts-below : Parts-below p l r left right cnf end plan lo mid m
+      parts-below : Parts-below og p l r left right cnf end plan lo mid m
       parts-below = record {
         for-left-source = λ f h.
-            wrote-below (appends-vec (for-left left conjuncts) (f (into-cnf p) v)) h
-            (vec-words-below F left (for-left left conjuncts) (left-of F left right conjuncts each-made));
+            wrote-below (appends-vec og (for-left left conjuncts) (f (into-cnf p) v)) h
+            (vec-words-below F og left (for-left left conjuncts) (left-of F left right conjuncts each-made));
         for-right-source = λ f h.
-            wrote-below (appends-vec (map (shift-column-down 0) (for-right left conjuncts)) (f (into-cnf p) v)) h
-            (vec-words-below F (left + right) (map (shift-column-down 0) (for-right left conjuncts))
+            wrote-below (appends-vec og (map (shift-column-down 0) (for-right left conjuncts)) (f (into-cnf p) v)) h
+            (vec-words-below F og (left + right) (map (shift-column-down 0) (for-right left conjuncts))
             (map-of (shift-column-down 0) Not-left On-both unshifted (for-right left conjuncts) (right-of F left right conjuncts each-made)));
         left-part = λ f h. wrote-below (f (into-cnf p) v) h (optional-words-below F left to-left left-made);
         right-part = λ f h. wrote-below (f (into-cnf p) v) h (optional-words-below F right to-right right-made);
@@ -437,28 +443,28 @@ module _ (schema : Schema) (narrow : (t : ℕ) → length (table-of schema t .co
             (copy-steps i j shift) conjuncts each-made;
         left-own = λ t f h. own-wrote left l on-left f h (own-made to-left l t new-left);
         right-own = λ t f h. own-wrote right r on-right f h (own-made to-right r t new-right);
-        stays = λ f h. wrote-below (f l r on-left on-right (into-cnf p) v) h (optional-words-below F (left + right) (stays left conjuncts l r) stays-made);
+        stays = λ f h. wrote-below (f l r on-left on-right (into-cnf p) v) h (optional-words-below F (left + right) (stays og left conjuncts l r) stays-made);
         right-source = λ f h cells i.
             let g = f r on-right (into-cnf p) v in
-            wrote-below g h (plan-below cells (push-part to-right r .0) (new-right .0) (omega (arith, words-long (push-part to-right r .0), wrote-up g h)));
+            wrote-below g h (plan-below cells (push-part og to-right r .0) (new-right .0) (omega (arith, words-long (push-part og to-right r .0), wrote-up g h)));
       }
 
-    few-columns : (cells : ℕ) → node-size (join outer (nested-loop (some p)) l r) ≤ cells → left + right ≤ most-columns cells
-    few-columns cells h = omega (arith, sound-few schema narrow text tables (join outer (nested-loop (some p)) l r) x)
+    few-columns : (cells : ℕ) → node-size (join og outer (nested-loop (some p)) l r) ≤ cells → left + right ≤ most-columns cells
+    few-columns cells h = omega (arith, sound-few schema narrow text tables (join og outer (nested-loop (some p)) l r) x)
 
-    arrays-below : Arrays-below outer p l r left right
+    arrays-below : Arrays-below og outer p l r left right
     arrays-below = record {
       nnf = λ u f h. wrote-below (f p u) h (optional-words-below F (left + right) (some (into-nnf p)) nnf-made);
       cnf = λ u f h. wrote-below (f (into-nnf p) u) h (optional-words-below F (left + right) (some (distribute (into-nnf p))) cnf-made);
       parts = parts-below;
       split-join = λ {x′} {k} {pre} {post} f h cells i.
-          placed-below x′ k pre post (split left outer conjuncts l r) (split-keeps schema text tables outer conjuncts l r (x .0) (x .1 .0) each-made .0) (f .is h .1) h cells i;
+          placed-below x′ k pre post (split og left outer conjuncts l r) (split-keeps schema text tables og outer conjuncts l r (x .0) (x .1 .0) each-made .0) (f .is h .1) h cells i;
       few = few-columns;
       in-all = λ h n i. more n 262144 (omega (arith, few-columns 2048 h));
     }
 
 pub splits-below : Splits-below
-splits-below schema narrow text tables outer p l r x = arrays-below schema narrow text tables outer p l r x
+splits-below schema narrow text tables og outer p l r x = arrays-below schema narrow text tables og outer p l r x
 
 -- ---- the node there, before and after the step of the pass
 
@@ -467,15 +473,15 @@ narrow-tables : {schema : Schema} {widths : List ℕ} → Tables schema widths �
 narrow-tables w t = omega (arith, table-width w t, w .few t)
 
 pub held-below : Held-below
-held-below widths x t lo tail g outer p l r e =
-    splits-below (g .schema) (narrow-tables (g .given)) (g .text) (g .tables) outer p l r (subst (Sound (g .schema) (g .text) (g .tables)) e (g .held .fit .0))
+held-below widths x t lo tail g og outer p l r e =
+    splits-below (g .schema) (narrow-tables (g .given)) (g .text) (g .tables) og outer p l r (subst (Sound (g .schema) (g .text) (g .tables)) e (g .held .fit .0))
 
 -- beside Passes
 pub passes-below : {widths x : List ℕ} {t lo tail k : ℕ} {x′ : List ℕ} → PassAt widths x t lo tail → length x′ ≡ length x
     → Passes Room.maybe-push-join widths x t lo tail k x′ → Passes Room.maybe-push-join widths x t lo tail k x′ × Passes-below x lo tail k x′
 passes-below {widths} {x} {t} {lo} {tail} {k} {x′} g e f = (f, below)
   where
-    go : (cells : ℕ) → length x ≤ 6 * cells → k ≤ length x → (pre post : List ℕ) (p : Node) → length pre ≡ lo → length post ≡ tail → (answer : Answer Node)
+    go : (cells : ℕ) → length x ≤ cell-words * cells → k ≤ length x → (pre post : List ℕ) (p : Node) → length pre ≡ lo → length post ≡ tail → (answer : Answer Node)
         → Left (Kept (g .schema) (g .text) (g .tables) p) x′ k pre post answer → Below (most-columns cells) x′ lo (k - tail)
     go cells i h pre post p a b (done q) w =
         subst (λ (j : ℕ). Below (most-columns cells) x′ j (k - tail)) a

@@ -44,7 +44,7 @@ pub record Cell-below (n : ℕ) (k : Cell) : Type 0 where
   pub hash-join : k .tag ≡ Tags.hash-join → (k .a < n) × (k .b < n)
   pub index-lookup : k .tag ≡ Tags.index-lookup → k .c % 65536 < n
 
--- So of each cell that stands in s from word lo up to hi, six words a cell.
+-- So of each cell that stands in s from word lo up to hi, seven words a cell.
 pub record Below (n : ℕ) (s : List ℕ) (lo hi : ℕ) : Type 0 where
   pub each : All (Cell-below n) (cells-in (take (hi - lo) (drop lo s)))
 
@@ -54,19 +54,19 @@ pub record Steps-below (how : Change) (n : ℕ) (e : Expression) : Type 0 where
   pub each : {y : List ℕ} {at k : ℕ} {copy y′ : List ℕ} → Wrote y at (expression-words e) k copy → k ≤ length y
       → (passed : ℕ) → at + cell-words * passed ≤ k → Rewrites how copy at (at + cell-words * passed) y′ → Below n y′ at k
 
--- What stands in the arrays while the join of l and r with the predicate p is split. Each field says it of what one function has written, by that function's contract,
+-- What stands in the arrays while the join of l and r with the predicate p and the origin og is split. Each field says it of what one function has written, by that function's contract,
 -- from word `at` up to k, if there was room. x has the plan; z and w have the predicate's normal forms, and w is then lent as `cnf`, z as g; y is the scratch.
 
 -- The normal form stands in cnf up to `end`, l in x from lo up to mid and r from there up to m.
-pub record Parts-below (p : Expression) (l r : Node) (left right : ℕ) (cnf : List ℕ) (end : ℕ) (x : List ℕ) (lo mid m : ℕ) : Type 0 where
+pub record Parts-below (og : ℕ) (p : Expression) (l r : Node) (left right : ℕ) (cnf : List ℕ) (end : ℕ) (x : List ℕ) (lo mid m : ℕ) : Type 0 where
   -- g: for_left, for_right
-  pub for-left-source : {g : List ℕ} {k : ℕ} {g′ : List ℕ} → AppendsEach (λ e. for-left left (ands e)) cnf 0 end g 0 0 k g′ → k ≤ length g → Below left g′ 0 k
+  pub for-left-source : {g : List ℕ} {k : ℕ} {g′ : List ℕ} → AppendsEach og (λ e. for-left left (ands e)) cnf 0 end g 0 0 k g′ → k ≤ length g → Below left g′ 0 k
   pub for-right-source : {g : List ℕ} {k : ℕ} {g′ : List ℕ}
-      → AppendsEach (λ e. map (shift-column-down 0) (for-right left (ands e))) cnf 0 end g 0 0 k g′ → k ≤ length g → Below (left + right) g′ 0 k
+      → AppendsEach og (λ e. map (shift-column-down 0) (for-right left (ands e))) cnf 0 end g 0 0 k g′ → k ≤ length g → Below (left + right) g′ 0 k
   -- y: part, of the left source; of the right source, with its columns `left` lower; and of the right source in the joined row's columns, where it comes back
-  pub left-part : {y : List ℕ} {at k : ℕ} {y′ : List ℕ} → WritesPart Left left 0 cnf end y at k y′ → k ≤ length y → Below left y′ at k
-  pub right-part : {y : List ℕ} {at k : ℕ} {y′ : List ℕ} → WritesPart Right left left cnf end y at k y′ → k ≤ length y → Below right y′ at k
-  pub right-back : {y : List ℕ} {at k : ℕ} {y′ : List ℕ} → WritesPart Right left 0 cnf end y at k y′ → k ≤ length y → Below (left + right) y′ at k
+  pub left-part : {y : List ℕ} {at k : ℕ} {y′ : List ℕ} → WritesPart og Left left 0 cnf end y at k y′ → k ≤ length y → Below left y′ at k
+  pub right-part : {y : List ℕ} {at k : ℕ} {y′ : List ℕ} → WritesPart og Right left left cnf end y at k y′ → k ≤ length y → Below right y′ at k
+  pub right-back : {y : List ℕ} {at k : ℕ} {y′ : List ℕ} → WritesPart og Right left 0 cnf end y at k y′ → k ≤ length y → Below (left + right) y′ at k
   -- y, while `part` writes it: each conjunct, whose columns are made `left` lower; and each lookup, which is a conjunct too, that an equijoin of columns i and j copies
   -- to i for the left source, or to j, `shift` lower, for the right one
   pub while-shifted : All (Steps-below (Down left) (left + right)) (ands (into-cnf p))
@@ -74,16 +74,16 @@ pub record Parts-below (p : Expression) (l r : Node) (left right : ℕ) (cnf : L
       → All (λ lookup. Steps-below (Replace j i) (left + right) lookup × Steps-below (Replace i (j - shift)) (left + right) lookup) (ands (into-cnf p))) (ands (into-cnf p))
   -- y: own_part, the own words of a source that takes its part
   pub left-own : {y : List ℕ} {k : ℕ} {y′ : List ℕ}
-      → is-some (push-into p l) ≡ true → WritesOwn Left left 0 x lo mid cnf end y k y′ → k ≤ length y → Below left y′ 0 k
+      → is-some (push-into og p l) ≡ true → WritesOwn og Left left 0 x lo mid cnf end y k y′ → k ≤ length y → Below left y′ 0 k
   pub right-own : {y : List ℕ} {k : ℕ} {y′ : List ℕ}
-      → is-some (push-into p r) ≡ true → WritesOwn Right left left x mid m cnf end y k y′ → k ≤ length y → Below right y′ 0 k
+      → is-some (push-into og p r) ≡ true → WritesOwn og Right left left x mid m cnf end y k y′ → k ≤ length y → Below right y′ 0 k
   -- y: joined_predicate, what stays and what comes back
-  pub stays : {y : List ℕ} {at k : ℕ} {y′ : List ℕ} → Stays left x lo mid m cnf end y at k y′ → k ≤ length y → Below (left + right) y′ at k
+  pub stays : {y : List ℕ} {at k : ℕ} {y′ : List ℕ} → Stays og left x lo mid m cnf end y at k y′ → k ≤ length y → Below (left + right) y′ at k
   -- y: push_part, the whole right source with all that is below it, in an array that has room for `cells` cells
-  pub right-source : {y : List ℕ} {at k : ℕ} {y′ : List ℕ} → PushesPart Right left left x mid m cnf end y at k y′ → k ≤ length y
+  pub right-source : {y : List ℕ} {at k : ℕ} {y′ : List ℕ} → PushesPart og Right left left x mid m cnf end y at k y′ → k ≤ length y
       → (cells : ℕ) → length y ≤ cell-words * cells → Below (most-columns cells) y′ at k
 
-pub record Arrays-below (outer : Bool) (p : Expression) (l r : Node) (left right : ℕ) : Type 0 where
+pub record Arrays-below (og : ℕ) (outer : Bool) (p : Expression) (l r : Node) (left right : ℕ) : Type 0 where
   -- z and w: into_nnf, distribute
   pub nnf : {x : List ℕ} {lo hi : ℕ} {z : List ℕ} {k : ℕ} {z′ : List ℕ}
       → ExpressionHere x lo hi p → Maps into-nnf x lo hi z 0 k z′ → k ≤ length z → Below (left + right) z′ 0 k
@@ -91,27 +91,27 @@ pub record Arrays-below (outer : Bool) (p : Expression) (l r : Node) (left right
       → ExpressionHere z 0 hi (into-nnf p) → Maps distribute z 0 hi w 0 k w′ → k ≤ length w → Below (left + right) w′ 0 k
   -- g and y
   pub parts : {cnf : List ℕ} {end : ℕ} {x : List ℕ} {lo mid m : ℕ} → ExpressionHere cnf 0 end (into-cnf p) → NodeHere x lo mid l → NodeHere x mid m r
-      → Parts-below p l r left right cnf end x lo mid m
+      → Parts-below og p l r left right cnf end x lo mid m
   -- x: split, in an array that has room for `cells` cells
-  pub split-join : {x′ : List ℕ} {k : ℕ} {pre post : List ℕ} → Placed x′ k pre post (node-words (split left outer (ands (into-cnf p)) l r)) → k ≤ length x′
+  pub split-join : {x′ : List ℕ} {k : ℕ} {pre post : List ℕ} → Placed x′ k pre post (node-words (split og left outer (ands (into-cnf p)) l r)) → k ≤ length x′
       → (cells : ℕ) → length x′ ≤ cell-words * cells → Below (most-columns cells) x′ (length pre) (k - length post)
   -- The join's columns are few; so what is below them, or below those of one source, is below 262,144.
-  pub few : (cells : ℕ) → node-size (join outer (nested-loop (some p)) l r) ≤ cells → left + right ≤ most-columns cells
-  pub in-all : node-size (join outer (nested-loop (some p)) l r) ≤ 2048 → (n : ℕ) → n ≤ left + right
+  pub few : (cells : ℕ) → node-size (join og outer (nested-loop (some p)) l r) ≤ cells → left + right ≤ most-columns cells
+  pub in-all : node-size (join og outer (nested-loop (some p)) l r) ≤ 2048 → (n : ℕ) → n ≤ left + right
       → {s : List ℕ} {lo hi : ℕ} → Below n s lo hi → Below 262144 s lo hi
 
 -- Of every sound join with a predicate, over tables that have at most 256 columns. This and the next are proved in proofs/Below.antt, under their names in small
 -- letters.
 abbrev pub Splits-below : Type 0
 Splits-below =
-    (schema : Schema) → ((t : ℕ) → length (table-of schema t .columns) ≤ 256) → (text : List ℕ) (tables : ℕ) (outer : Bool) (p : Expression) (l r : Node)
-    → Sound schema text tables (join outer (nested-loop (some p)) l r) → Arrays-below outer p l r (columns schema l) (columns schema r)
+    (schema : Schema) → ((t : ℕ) → length (table-of schema t .columns) ≤ 256) → (text : List ℕ) (tables og : ℕ) (outer : Bool) (p : Expression) (l r : Node)
+    → Sound schema text tables (join og outer (nested-loop (some p)) l r) → Arrays-below og outer p l r (columns schema l) (columns schema r)
 
 -- So of the join that maybe_push_join is given: what it asks for is enough.
 abbrev pub Held-below : Type 0
 Held-below =
-    (widths x : List ℕ) (t lo tail : ℕ) (g : PassAt widths x t lo tail) (outer : Bool) (p : Expression) (l r : Node) → g .held .p ≡ join outer (nested-loop (some p)) l r
-    → Arrays-below outer p l r (columns (g .schema) l) (columns (g .schema) r)
+    (widths x : List ℕ) (t lo tail : ℕ) (g : PassAt widths x t lo tail) (og : ℕ) (outer : Bool) (p : Expression) (l r : Node) → g .held .p ≡ join og outer (nested-loop (some p)) l r
+    → Arrays-below og outer p l r (columns (g .schema) l) (columns (g .schema) r)
 
 -- The contract of maybe_push_join beside Passes: in an array that has room for `cells` cells, each number in the words of the node that is there then is below the most
 -- columns of so many cells.

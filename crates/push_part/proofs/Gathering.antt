@@ -23,22 +23,22 @@ abbrev cells : List Expression → ℕ
 cells [] = 0
 cells (x ∷ xs) = suc (size x) + cells xs
 
-all-cells : (x : Expression) (xs : List Expression) → suc (size (and-all x xs)) ≡ suc (size x) + cells xs
-all-cells x [] = omega arith
-all-cells x (y ∷ ys) = omega (arith, all-cells (and x y) ys)
+all-cells : (new : ℕ) (x : Expression) (xs : List Expression) → suc (size (and-all new x xs)) ≡ suc (size x) + cells xs
+all-cells new x [] = omega arith
+all-cells new x (y ∷ ys) = omega (arith, all-cells new (and new x y) ys)
 
 append-cells : (xs ys : List Expression) → cells (xs ++ ys) ≡ cells xs + cells ys
 append-cells [] ys = omega arith
 append-cells (x ∷ xs) ys = omega (arith, append-cells xs ys)
 
 ands-cells : (e : Expression) → cells (ands e) ≡ suc (size e)
-ands-cells (constant v) = refl
-ands-cells (column i) = refl
-ands-cells (unary o x) = omega arith
-ands-cells (binary (logical And) l r) = omega (arith, append-cells (ands l) (ands r), ands-cells l, ands-cells r)
-ands-cells (binary (logical Or) l r) = omega arith
-ands-cells (binary Equal l r) = omega arith
-ands-cells (binary (function f) l r) = omega arith
+ands-cells (constant og v) = refl
+ands-cells (column og i) = refl
+ands-cells (unary og o x) = omega arith
+ands-cells (binary og (logical And) l r) = omega (arith, append-cells (ands l) (ands r), ands-cells l, ands-cells r)
+ands-cells (binary og (logical Or) l r) = omega arith
+ands-cells (binary og Equal l r) = omega arith
+ands-cells (binary og (function f) l r) = omega arith
 
 keep-cells : (t : Expression → Bool) (xs : List Expression) → cells (keep t xs) ≤ cells xs
 keep-cells t [] = omega arith
@@ -48,27 +48,27 @@ keep-cells t (x ∷ xs) = step (t x) (keep-cells t xs)
     step true h = omega arith
     step false h = omega arith
 
-kept-long : (t : Expression → Bool) (e : Expression) → length (optional-words (and-vec (keep t (ands e)))) ≤ length (expression-words e)
-kept-long t e = go (keep t (ands e)) (keep-cells t (ands e))
+kept-long : (new : ℕ) (t : Expression → Bool) (e : Expression) → length (optional-words (and-vec new (keep t (ands e)))) ≤ length (expression-words e)
+kept-long new t e = go (keep t (ands e)) (keep-cells t (ands e))
   where
-    go : (xs : List Expression) → cells xs ≤ cells (ands e) → length (optional-words (and-vec xs)) ≤ length (expression-words e)
+    go : (xs : List Expression) → cells xs ≤ cells (ands e) → length (optional-words (and-vec new xs)) ≤ length (expression-words e)
     go [] h = omega arith
-    go (x ∷ xs) h = omega (arith, all-cells x xs, ands-cells e, expression-long (and-all x xs), expression-long e)
+    go (x ∷ xs) h = omega (arith, all-cells new x xs, ands-cells e, expression-long (and-all new x xs), expression-long e)
 
 module _ {s : List ℕ} {end : ℕ} {g : List ℕ} {m : ℕ} {g₁ : List ℕ} (l : length g ≡ length s) (short : getD s (end - 1) 0 < 4294967296) where
-  gathered : (t : Expression → Bool) (e : Expression) → ExpressionHere s 0 end e → Wrote g 0 (optional-words (and-vec (keep t (ands e)))) m g₁
-      → OptionalHere g₁ 0 m (and-vec (keep t (ands e)))
-  gathered t e u w =
-      written-conjuncts (and-vec (keep t (ands e))) w
-      (let k = kept-long t e in let (i, j) = part-in (u .part) in let z = u .part .high in w .room (omega (arith, k, z, here-size e u .long, here-start e u, short)) (omega arith))
+  gathered : (new : ℕ) (t : Expression → Bool) (e : Expression) → ExpressionHere s 0 end e → Wrote g 0 (optional-words (and-vec new (keep t (ands e)))) m g₁
+      → OptionalHere g₁ 0 m (and-vec new (keep t (ands e)))
+  gathered new t e u w =
+      written-conjuncts (and-vec new (keep t (ands e))) w
+      (let k = kept-long new t e in let (i, j) = part-in (u .part) in let z = u .part .high in w .room (omega (arith, k, z, here-size e u .long, here-start e u, short)) (omega arith))
 
-  pub left-gathered : (n : ℕ) → AppendsEach (λ e. for-left n (ands e)) s 0 end g 0 0 m g₁ → (e : Expression) → ExpressionHere s 0 end e
-      → OptionalHere g₁ 0 m (and-vec (for-left n (ands e)))
-  left-gathered n f e u = gathered (λ x. not (ref-right n x)) e u (appends-vec (for-left n (ands e)) (f e u))
+  pub left-gathered : (new n : ℕ) → AppendsEach new (λ e. for-left n (ands e)) s 0 end g 0 0 m g₁ → (e : Expression) → ExpressionHere s 0 end e
+      → OptionalHere g₁ 0 m (and-vec new (for-left n (ands e)))
+  left-gathered new n f e u = gathered new (λ x. not (ref-right n x)) e u (appends-vec new (for-left n (ands e)) (f e u))
 
-  pub right-gathered : (n : ℕ) → AppendsEach (λ e. map (shift-column-down 0) (for-right n (ands e))) s 0 end g 0 0 m g₁ → (e : Expression) → ExpressionHere s 0 end e
-      → OptionalHere g₁ 0 m (and-vec (for-right n (ands e)))
-  right-gathered n f e u =
-      gathered (λ x. not (ref-left n x)) e u
-      (subst (λ (xs : List Expression). Wrote g 0 (optional-words (and-vec xs)) m g₁) (map-shift-none (for-right n (ands e)))
-      (appends-vec (map (shift-column-down 0) (for-right n (ands e))) (f e u)))
+  pub right-gathered : (new n : ℕ) → AppendsEach new (λ e. map (shift-column-down 0) (for-right n (ands e))) s 0 end g 0 0 m g₁ → (e : Expression) → ExpressionHere s 0 end e
+      → OptionalHere g₁ 0 m (and-vec new (for-right n (ands e)))
+  right-gathered new n f e u =
+      gathered new (λ x. not (ref-left n x)) e u
+      (subst (λ (xs : List Expression). Wrote g 0 (optional-words (and-vec new xs)) m g₁) (map-shift-none (for-right n (ands e)))
+      (appends-vec new (map (shift-column-down 0) (for-right n (ands e))) (f e u)))

@@ -1,5 +1,6 @@
 // optimizer.rs, maybe_push_join: one of a join's sources with the part of the predicate that is for it, and what comes back from a source that takes none. The
-// predicate's normal form stands in a slice of its own, `cnf`, up to word `end`; the conjuncts for the other source are gathered into the lent slice g.
+// predicate's normal form stands in a slice of its own, `cnf`, up to word `end`; the conjuncts for the other source are gathered into the lent slice g. Each And
+// that is put together here has the origin that is given, the join's.
 use copied_lookups::Source;
 ghost use mathlib.Core.Path.{_≡_};
 ghost use lib.ListN.{length};
@@ -19,19 +20,20 @@ fn part(
     into: Source,
     n: usize,
     shift: usize,
+    origin: u32,
 ) -> usize
     requires { ⌜ ExpressionAt (now cnf) 0 end ⌝ }
     requires { ⌜ length (now g) ≡ length (now cnf) ⌝ }
-    ensures { λ r. ⌜ WritesPart into n shift (now (cnf .entry)) end (now (d .entry)) at r (now (d .exit)) ⌝ }
+    ensures { λ r. ⌜ WritesPart origin into n shift (now (cnf .entry)) end (now (d .entry)) at r (now (d .exit)) ⌝ }
 {
     match into {
         Source::Left => {
-            let m = conjuncts::for_right(cnf, 0, end, g, 0, 0, n, 0);
-            copied_lookups::push_left(cnf, 0, end, g, 0, m, d, at, n)
+            let m = conjuncts::for_right(cnf, 0, end, g, 0, 0, n, 0, origin);
+            copied_lookups::push_left(cnf, 0, end, g, 0, m, d, at, n, origin)
         }
         Source::Right => {
-            let m = conjuncts::for_left(cnf, 0, end, g, 0, 0, n);
-            copied_lookups::push_right(cnf, 0, end, g, 0, m, d, at, n, shift)
+            let m = conjuncts::for_left(cnf, 0, end, g, 0, 0, n, origin);
+            copied_lookups::push_right(cnf, 0, end, g, 0, m, d, at, n, shift, origin)
         }
     }
 }
@@ -49,18 +51,19 @@ pub fn own_part(
     into: Source,
     n: usize,
     shift: usize,
+    origin: u32,
 ) -> usize
     requires { ⌜ NodeAt (now s) lo hi ⌝ }
     requires { ⌜ ExpressionAt (now cnf) 0 end ⌝ }
     requires { ⌜ length (now g) ≡ length (now cnf) ⌝ }
-    ensures { λ r. ⌜ WritesOwn into n shift (now (s .entry)) lo hi (now (cnf .entry)) end (now (d .entry)) r (now (d .exit)) ⌝ }
+    ensures { λ r. ⌜ WritesOwn origin into n shift (now (s .entry)) lo hi (now (cnf .entry)) end (now (d .entry)) r (now (d .exit)) ⌝ }
 {
     if push_into::takes(s, lo, hi) {
-        let m = part(cnf, end, g, d, 0, into, n, shift);
+        let m = part(cnf, end, g, d, 0, into, n, shift, origin);
         if m == 0 {
             return 0;
         }
-        return push_into::with_predicate(s, lo, hi, d, 0, 0, m);
+        return push_into::with_predicate(s, lo, hi, d, 0, 0, m, origin);
     }
     0
 }
@@ -76,11 +79,12 @@ fn close(
     from: usize,
     mid: usize,
     at: usize,
+    origin: u32,
 ) -> usize
     requires { ⌜ TakerAt (now s) lo hi ⌝ }
     requires { ⌜ OwnStart (now s) lo hi m ⌝ }
     requires { ⌜ CloseableAt (now d) from mid at ⌝ }
-    ensures { λ r. ⌜ Closes (now (s .entry)) lo hi (now (d .entry)) from mid at r (now (d .exit)) ⌝ }
+    ensures { λ r. ⌜ Closes origin (now (s .entry)) lo hi (now (d .entry)) from mid at r (now (d .exit)) ⌝ }
 {
     if d.len() < at {
         return at;
@@ -88,7 +92,7 @@ fn close(
     if at == mid {
         return cells::copy(s, m, hi, d, at);
     }
-    push_into::with_predicate(s, lo, hi, d, from, mid, at)
+    push_into::with_predicate(s, lo, hi, d, from, mid, at, origin)
 }
 
 // The whole source from lo to hi with its part of the predicate, if it takes one.
@@ -104,17 +108,18 @@ pub fn push_part(
     into: Source,
     n: usize,
     shift: usize,
+    origin: u32,
 ) -> usize
     requires { ⌜ NodeAt (now s) lo hi ⌝ }
     requires { ⌜ ExpressionAt (now cnf) 0 end ⌝ }
     requires { ⌜ length (now g) ≡ length (now cnf) ⌝ }
-    ensures { λ r. ⌜ PushesPart into n shift (now (s .entry)) lo hi (now (cnf .entry)) end (now (d .entry)) at r (now (d .exit)) ⌝ }
+    ensures { λ r. ⌜ PushesPart origin into n shift (now (s .entry)) lo hi (now (cnf .entry)) end (now (d .entry)) at r (now (d .exit)) ⌝ }
 {
     if push_into::takes(s, lo, hi) {
         let m = nodes::own_start(s, lo, hi);
         let a = cells::copy(s, lo, m, d, at);
-        let b = part(cnf, end, g, d, a, into, n, shift);
-        return close(s, lo, hi, m, d, at, a, b);
+        let b = part(cnf, end, g, d, a, into, n, shift, origin);
+        return close(s, lo, hi, m, d, at, a, b, origin);
     }
     cells::copy(s, lo, hi, d, at)
 }
@@ -133,12 +138,13 @@ pub fn come_back(
     at: usize,
     into: Source,
     n: usize,
+    origin: u32,
 ) -> usize
     requires { ⌜ NodeAt (now s) lo hi ⌝ }
     requires { ⌜ ExpressionAt (now cnf) 0 end ⌝ }
     requires { ⌜ length (now g) ≡ length (now cnf) ⌝ }
     requires { ⌜ GatheredAt (now d) from at ⌝ }
-    ensures { λ r. ⌜ ComesBack into n (now (s .entry)) lo hi (now (cnf .entry)) end (now (d .entry)) from at r (now (d .exit)) ⌝ }
+    ensures { λ r. ⌜ ComesBack origin into n (now (s .entry)) lo hi (now (cnf .entry)) end (now (d .entry)) from at r (now (d .exit)) ⌝ }
 {
     if push_into::takes(s, lo, hi) {
         return at;
@@ -146,12 +152,12 @@ pub fn come_back(
     if d.len() < at {
         return at;
     }
-    let m = part(cnf, end, g, d, at, into, n, 0);
+    let m = part(cnf, end, g, d, at, into, n, 0, origin);
     if m == at {
         return at;
     }
     if d.len() < m {
         return m;
     }
-    conjuncts::and_over(d, from, at, m)
+    conjuncts::and_over(d, from, at, m, origin)
 }

@@ -1,5 +1,5 @@
 -- Laws on Items that pass columns through.
-use Prim.Native.Nat.{ℕ, suc, _+_, _-_, _≤_, _<_}
+use Prim.Native.Nat.{ℕ, suc, _+_, _-_, _*_, _≤_, _<_}
 use native.Mathlib.Omega.{arith}
 use mathlib.Core.Bool.{Bool, true, false, _&&_}
 use mathlib.Core.Path.{_≡_, refl, sym, ap, _∙_, subst}
@@ -11,7 +11,7 @@ use Rattle.sql.specs.Plan.{Label, unlabelled, unqualified, qualified}
 use Rattle.sql.specs.Optimizer.{is-column-number, is-unlabelled, pass-through}
 use Rattle.sheet.specs.Content.{item-cell}
 use Rattle.cells.specs.declared.Cell.{Cell}
-use Rattle.cells.specs.Cells.{cell-at, Part}
+use Rattle.cells.specs.Cells.{cell-words, cell-at, Part}
 use Rattle.cells.proofs.Laws.{part-left, part-right, body-part, cell-is}
 use Rattle.words.specs.Words.{cell, all-words, expression-words, item-words}
 use Rattle.words.specs.Place.{ExpressionHere}
@@ -21,7 +21,7 @@ use Rattle.labels.specs.Labels.{ItemEnds}
 use Rattle.remove_useless.specs.RemoveUseless.{ItemPasses}
 
 abbrev Item : Type 0
-Item = Expression × Label
+Item = Expression × Label × ℕ
 
 and-true : (b : Bool) → b ≡ (b && true)
 and-true true = refl
@@ -34,34 +34,34 @@ and-false false = refl
 -- ---- one Item
 
 module _ {s : List ℕ} {hi : ℕ} {c : Cell} (q : c ≡ cell-at s hi) where
-  said : (lo : ℕ) (e : Expression) (l : Label) → Part s lo hi (item-words (e, l)) → c ≡ cell (item-cell l)
-  said lo e l p = q ∙ cell-is (expression-words e) (cell (item-cell l)) p
+  said : (lo : ℕ) (e : Expression) (l : Label) (og : ℕ) → Part s lo hi (item-words (e, l, og)) → c ≡ cell og (item-cell l)
+  said lo e l og p = q ∙ cell-is (expression-words e) (cell og (item-cell l)) p
 
   pub labelled-item : (i : ℕ) → 0 < c .flag → ItemPasses s hi i false
   unfolding cell
-  labelled-item i z lo (e, unlabelled) p = absurd (omega (arith, ap (λ (k : Cell). k .flag) (said lo e unlabelled p)))
-  labelled-item i z lo (e, unqualified n) p = and-false (is-column-number i e)
-  labelled-item i z lo (e, qualified t n) p = and-false (is-column-number i e)
+  labelled-item i z lo (e, unlabelled, og) p = absurd (omega (arith, ap (λ (k : Cell). k .flag) (said lo e unlabelled og p)))
+  labelled-item i z lo (e, unqualified n, og) p = and-false (is-column-number i e)
+  labelled-item i z lo (e, qualified t n, og) p = and-false (is-column-number i e)
 
-  module _ {d : Cell} (f : d ≡ cell-at s (hi - 6)) (y : c .flag ≤ 0) (i : ℕ) where
+  module _ {d : Cell} (f : d ≡ cell-at s (hi - cell-words)) (y : c .flag ≤ 0) (i : ℕ) where
     pub column-item : d .tag ≡ 6 → ItemPasses s hi i (eqb (d .a) i)
     unfolding cell
-    column-item z lo (e, unlabelled) p =
-        let u : ExpressionHere s lo (hi - 6) e = record { part = body-part (expression-words e) (cell (item-cell unlabelled)) p } in
-        by-column (λ e. ExpressionHere s lo (hi - 6) e → eqb (d .a) i ≡ is-column-number i e) (λ j u. ap (λ (k : Cell). eqb (k .a) i) (f ∙ root-is (column j) u)) e
+    column-item z lo (e, unlabelled, og) p =
+        let u : ExpressionHere s lo (hi - cell-words) e = record { part = body-part (expression-words e) (cell og (item-cell unlabelled)) p } in
+        by-column (λ e. ExpressionHere s lo (hi - cell-words) e → eqb (d .a) i ≡ is-column-number i e) (λ og j u. ap (λ (k : Cell). eqb (k .a) i) (f ∙ root-is (column og j) u)) e
         (sym (root-tag e u) ∙ sym (ap (λ (k : Cell). k .tag) f) ∙ z) u
         ∙ and-true (is-column-number i e)
-    column-item z lo (e, unqualified n) p = absurd (omega (arith, ap (λ (k : Cell). k .flag) (said lo e (unqualified n) p)))
-    column-item z lo (e, qualified t n) p = absurd (omega (arith, ap (λ (k : Cell). k .flag) (said lo e (qualified t n) p)))
+    column-item z lo (e, unqualified n, og) p = absurd (omega (arith, ap (λ (k : Cell). k .flag) (said lo e (unqualified n) og p)))
+    column-item z lo (e, qualified t n, og) p = absurd (omega (arith, ap (λ (k : Cell). k .flag) (said lo e (qualified t n) og p)))
 
     pub other-item : (d .tag ≡ 6 → ⊥) → ItemPasses s hi i false
-    other-item z lo (e, l) p = go e (record { part = body-part (expression-words e) (cell (item-cell l)) p })
+    other-item z lo (e, l, og) p = go e (record { part = body-part (expression-words e) (cell og (item-cell l)) p })
       where
-        go : (e : Expression) → ExpressionHere s lo (hi - 6) e → false ≡ (is-column-number i e && is-unlabelled l)
-        go (constant v) u = refl
-        go (column j) u = absurd (z (ap (λ (k : Cell). k .tag) f ∙ root-tag (column j) u))
-        go (unary o x) u = refl
-        go (binary o a b) u = refl
+        go : (e : Expression) → ExpressionHere s lo (hi - cell-words) e → false ≡ (is-column-number i e && is-unlabelled l)
+        go (constant og v) u = refl
+        go (column og j) u = absurd (z (ap (λ (k : Cell). k .tag) f ∙ root-tag (column og j) u))
+        go (unary og o x) u = refl
+        go (binary og o a b) u = refl
 
 -- ---- all of them
 
@@ -95,23 +95,23 @@ all-last [] x = append-nil (item-words x)
 all-last (y ∷ ys) x = ap (λ (l : List ℕ). item-words y ++ l) (all-last ys x) ∙ sym (append-assoc (item-words y) (all-words item-words ys) (item-words x))
 
 -- The last i of the n Items are known to pass; those before them are left, and say whether all do.
-pub record Unasked (s : List ℕ) (lo end i : ℕ) (items : List (Expression × Label)) : Type 0 where
-  pub front : List (Expression × Label)
+pub record Unasked (s : List ℕ) (lo end i : ℕ) (items : List (Expression × Label × ℕ)) : Type 0 where
+  pub front : List (Expression × Label × ℕ)
   pub part : Part s lo end (all-words item-words front)
   pub count : i ≡ length front
   pub same : pass-through 0 items ≡ pass-through 0 front
 
-pub unasked-all : {s : List ℕ} {lo hi n : ℕ} (items : List (Expression × Label)) → Part s lo hi (all-words item-words items) → n ≡ length items → Unasked s lo hi n items
+pub unasked-all : {s : List ℕ} {lo hi n : ℕ} (items : List (Expression × Label × ℕ)) → Part s lo hi (all-words item-words items) → n ≡ length items → Unasked s lo hi n items
 unasked-all items p e = record { front = items; part = p; count = e; same = refl }
 
-pub unasked-none : {s : List ℕ} {lo end i : ℕ} (items : List (Expression × Label)) → i ≤ 0 → Unasked s lo end i items → true ≡ pass-through 0 items
+pub unasked-none : {s : List ℕ} {lo end i : ℕ} (items : List (Expression × Label × ℕ)) → i ≤ 0 → Unasked s lo end i items → true ≡ pass-through 0 items
 unasked-none {s} {lo} {end} {i} items z g = go (g .front) (g .count) ∙ sym (g .same)
   where
-    go : (front : List (Expression × Label)) → i ≡ length front → true ≡ pass-through 0 front
+    go : (front : List (Expression × Label × ℕ)) → i ≡ length front → true ≡ pass-through 0 front
     go [] e = refl
     go (x ∷ xs) e = absurd (omega arith)
 
-module _ {s : List ℕ} {lo end i : ℕ} (items : List (Expression × Label)) (z : 0 < i) (g : Unasked s lo end i items) where
+module _ {s : List ℕ} {lo end i : ℕ} (items : List (Expression × Label × ℕ)) (z : 0 < i) (g : Unasked s lo end i items) where
   -- the last of those left
   with-last : (P : Type 0) → ((front : List Item) (x : Item) → Part s lo (lo + length (all-words item-words front)) (all-words item-words front)
       → Part s (lo + length (all-words item-words front)) end (item-words x) → i ≡ length front + 1
@@ -140,22 +140,22 @@ module _ {s : List ℕ} {lo end i : ℕ} (items : List (Expression × Label)) (z
         (λ front x p r n h. and-false (pass-through 0 front) ∙ ap (λ (t : Bool). pass-through 0 front && t) (sym e ∙ f (lo + length (all-words item-words front)) x r) ∙ sym h)
 
     -- an Item that passes has two cells
-    two-cells : (e : Expression) (l : Label) → true ≡ (is-column-number (i - 1) e && is-unlabelled l) → length (item-words (e, l)) ≡ 12
-    two-cells (constant v) l h = let w : _≡_ {A = ℕ} 0 1 = cc in absurd (omega arith)
-    two-cells (column j) l h = omega (arith, length-append (expression-words (column j)) (Rattle.cells.specs.Cells.words (cell (item-cell l)) (length (expression-words (column j)) + 6)), expression-long (column j))
-    two-cells (unary o x) l h = let w : _≡_ {A = ℕ} 0 1 = cc in absurd (omega arith)
-    two-cells (binary o x y) l h = let w : _≡_ {A = ℕ} 0 1 = cc in absurd (omega arith)
+    two-cells : (e : Expression) (l : Label) (origin : ℕ) → true ≡ (is-column-number (i - 1) e && is-unlabelled l) → length (item-words (e, l, origin)) ≡ 2 * cell-words
+    two-cells (constant og v) l origin h = let w : _≡_ {A = ℕ} 0 1 = cc in absurd (omega arith)
+    two-cells (column og j) l origin h = omega (arith, length-append (expression-words (column og j)) (Rattle.cells.specs.Cells.words (cell origin (item-cell l)) (length (expression-words (column og j)) + cell-words)), expression-long (column og j))
+    two-cells (unary og o x) l origin h = let w : _≡_ {A = ℕ} 0 1 = cc in absurd (omega arith)
+    two-cells (binary og o x y) l origin h = let w : _≡_ {A = ℕ} 0 1 = cc in absurd (omega arith)
 
-    pub unasked-long : b ≡ true → 12 ≤ end
+    pub unasked-long : b ≡ true → 2 * cell-words ≤ end
     unasked-long e =
-        with-last (12 ≤ end) (λ front x p r n h. omega (arith, two-cells (x .0) (x .1) (sym e ∙ f (lo + length (all-words item-words front)) x r), r .high))
+        with-last (2 * cell-words ≤ end) (λ front x p r n h. omega (arith, two-cells (x .0) (x .1) (x .2) (sym e ∙ f (lo + length (all-words item-words front)) x r), r .high))
 
-    pub unasked-next : b ≡ true → Unasked s lo (end - 12) (i - 1) items
+    pub unasked-next : b ≡ true → Unasked s lo (end - 2 * cell-words) (i - 1) items
     unasked-next e =
-        with-last (Unasked s lo (end - 12) (i - 1) items)
+        with-last (Unasked s lo (end - 2 * cell-words) (i - 1) items)
         (λ front x p r n h.
         let t = sym e ∙ f (lo + length (all-words item-words front)) x r in
-        let j : lo + length (all-words item-words front) ≡ end - 12 = omega (arith, two-cells (x .0) (x .1) t, r .high) in
+        let j : lo + length (all-words item-words front) ≡ end - 2 * cell-words = omega (arith, two-cells (x .0) (x .1) (x .2) t, r .high) in
         record {
           front = front;
           part = subst (λ (m : ℕ). Part s lo m (all-words item-words front)) j p;

@@ -14,7 +14,7 @@ use Rattle.sql.specs.Optimizer.{optional-verdict, is-always, remove-true, pass-
 use Rattle.sheet.specs.Content.{scan-cell, nested-loop-join-cell}
 use Rattle.sheet.specs.Cells.{present}
 use Rattle.cells.specs.declared.Cell.{Cell}
-use Rattle.cells.specs.Cells.{sized, cell-at, tag-at, Part}
+use Rattle.cells.specs.Cells.{cell-words, sized, cell-at, tag-at, Part}
 use Rattle.cells.specs.Room.{Wrote, Seals}
 use Rattle.cells.proofs.Laws.{nothing as none-written}
 use Rattle.words.specs.Words.{cell, all-words, optional-words, item-words, node-words, source-words}
@@ -43,163 +43,163 @@ module _ {y : List ℕ} {lo hi : ℕ} where
 
   -- ---- a Scan
   module _ (z : tag-at y hi ≡ 62) where
-    a-scan : (P : Node → Type 0) → ((t : ℕ) (al : Option ℕ) (q : Option Expression) → NodeHere y lo hi (leaf (scan t al q)) → P (leaf (scan t al q)))
+    a-scan : (P : Node → Type 0) → ((og t : ℕ) (al : Option ℕ) (q : Option Expression) → NodeHere y lo hi (leaf og (scan t al q)) → P (leaf og (scan t al q)))
         → (p : Node) → NodeHere y lo hi p → P p
     a-scan P f p u = by-scan (λ p. NodeHere y lo hi p → P p) f p (tag-is p u z) u
 
-    predicate-part : (t : ℕ) (al : Option ℕ) (q : Option Expression) → NodeHere y lo hi (leaf (scan t al q)) → Part y lo (hi - 6) (optional-words q)
-    predicate-part t al q u = own-part (leaf (scan t al q)) u {m = lo} (omega arith)
+    predicate-part : (og t : ℕ) (al : Option ℕ) (q : Option Expression) → NodeHere y lo hi (leaf og (scan t al q)) → Part y lo (hi - cell-words) (optional-words q)
+    predicate-part og t al q u = own-part (leaf og (scan t al q)) u {m = lo} (omega arith)
 
-    pub scan-predicate : NodeAt y lo hi → OptionalAt y lo (hi - 6)
-    scan-predicate t = a-scan (λ p. OptionalAt y lo (hi - 6)) (λ i al q u. record { predicate = q; part = predicate-part i al q u }) (t .p) (t .here)
+    pub scan-predicate : NodeAt y lo hi → OptionalAt y lo (hi - cell-words)
+    scan-predicate t = a-scan (λ p. OptionalAt y lo (hi - cell-words)) (λ og i al q u. record { predicate = q; part = predicate-part og i al q u }) (t .p) (t .here)
 
-    module _ {c : Cell} (e : c ≡ cell-at y hi) (f : OptionalTrue y lo (hi - 6) true) where
-      scan-cell-is : (t : ℕ) (al : Option ℕ) (q : Option Expression) → NodeHere y lo hi (leaf (scan t al q)) → c ≡ cell (scan-cell (present q) t al)
-      scan-cell-is t al q u = e ∙ node-cell-is (leaf (scan t al q)) u
+    module _ {c : Cell} (e : c ≡ cell-at y hi) (f : OptionalTrue y lo (hi - cell-words) true) where
+      scan-cell-is : (og t : ℕ) (al : Option ℕ) (q : Option Expression) → NodeHere y lo hi (leaf og (scan t al q)) → c ≡ cell og (scan-cell (present q) t al)
+      scan-cell-is og t al q u = e ∙ node-cell-is (leaf og (scan t al q)) u
 
       pub scan-flag : NodeAt y lo hi → 1 ≤ c .flag
       unfolding cell
-      scan-flag t = a-scan (λ p. 1 ≤ c .flag) (λ i al q u. go i al q (scan-cell-is i al q u) (f q (predicate-part i al q u))) (t .p) (t .here)
+      scan-flag t = a-scan (λ p. 1 ≤ c .flag) (λ og i al q u. go og i al q (scan-cell-is og i al q u) (f q (predicate-part og i al q u))) (t .p) (t .here)
         where
-          go : (i : ℕ) (al : Option ℕ) (q : Option Expression) → c ≡ cell (scan-cell (present q) i al) → true ≡ is-always (optional-verdict q) → 1 ≤ c .flag
-          go i al none k h = clash h
-          go i none (some x) k h = omega (arith, ap (λ (k : Cell). k .flag) k)
-          go i (some r) (some x) k h = omega (arith, ap (λ (k : Cell). k .flag) k)
+          go : (og i : ℕ) (al : Option ℕ) (q : Option Expression) → c ≡ cell og (scan-cell (present q) i al) → true ≡ is-always (optional-verdict q) → 1 ≤ c .flag
+          go og i al none k h = clash h
+          go og i none (some x) k h = omega (arith, ap (λ (k : Cell). k .flag) k)
+          go og i (some r) (some x) k h = omega (arith, ap (λ (k : Cell). k .flag) k)
 
-      pub scan-written : {n : ℕ} {y′ : List ℕ} → Seals y lo lo (record { tag = 62; flag = c .flag - 1; a = c .a; b = c .b; c = 0 }) n y′ → Rewrites y lo hi n y′
+      pub scan-written : {n : ℕ} {y′ : List ℕ} → Seals y lo lo (record { origin = c .origin; tag = 62; flag = c .flag - 1; a = c .a; b = c .b; c = 0 }) n y′ → Rewrites y lo hi n y′
       unfolding cell node-words
       scan-written {n} {y′} s schema p u =
           a-scan (λ p. Wrote y lo (node-words (remove-useless schema p)) n y′)
-          (λ t al q u.
-          let h = f q (predicate-part t al q u) in
-          subst (λ (o : Option Expression). Wrote y lo (node-words (leaf (scan t al o))) n y′) (sym (removed q (sym h)))
-          (subst (λ (k : Cell). Wrote y lo (sized [] k) n y′) (go t al q (scan-cell-is t al q u) h) (s y [] refl (none-written y lo)))) p u
+          (λ og t al q u.
+          let h = f q (predicate-part og t al q u) in
+          subst (λ (o : Option Expression). Wrote y lo (node-words (leaf og (scan t al o))) n y′) (sym (removed q (sym h)))
+          (subst (λ (k : Cell). Wrote y lo (sized [] k) n y′) (go og t al q (scan-cell-is og t al q u) h) (s y [] refl (none-written y lo)))) p u
         where
-          go : (t : ℕ) (al : Option ℕ) (q : Option Expression) → c ≡ cell (scan-cell (present q) t al) → true ≡ is-always (optional-verdict q)
-              → record { tag = 62; flag = c .flag - 1; a = c .a; b = c .b; c = 0 } ≡ cell (scan-cell false t al)
-          go t al none k h = clash h
-          go t none (some x) k h = ap (λ (k : Cell). record { tag = 62; flag = k .flag - 1; a = k .a; b = k .b; c = 0 }) k
-          go t (some r) (some x) k h = ap (λ (k : Cell). record { tag = 62; flag = k .flag - 1; a = k .a; b = k .b; c = 0 }) k
+          go : (og t : ℕ) (al : Option ℕ) (q : Option Expression) → c ≡ cell og (scan-cell (present q) t al) → true ≡ is-always (optional-verdict q)
+              → record { origin = c .origin; tag = 62; flag = c .flag - 1; a = c .a; b = c .b; c = 0 } ≡ cell og (scan-cell false t al)
+          go og t al none k h = clash h
+          go og t none (some x) k h = ap (λ (k : Cell). record { origin = k .origin; tag = 62; flag = k .flag - 1; a = k .a; b = k .b; c = 0 }) k
+          go og t (some r) (some x) k h = ap (λ (k : Cell). record { origin = k .origin; tag = 62; flag = k .flag - 1; a = k .a; b = k .b; c = 0 }) k
 
-    pub scan-same : OptionalTrue y lo (hi - 6) false → Rewrites y lo hi hi y
+    pub scan-same : OptionalTrue y lo (hi - cell-words) false → Rewrites y lo hi hi y
     scan-same f schema p u =
         a-scan (λ p. Wrote y lo (node-words (remove-useless schema p)) hi y)
-        (λ t al q u. subst (λ (o : Option Expression). Wrote y lo (node-words (leaf (scan t al o))) hi y) (sym (kept q (sym (f q (predicate-part t al q u)))))
-        (here-wrote (leaf (scan t al q)) u)) p u
+        (λ og t al q u. subst (λ (o : Option Expression). Wrote y lo (node-words (leaf og (scan t al o))) hi y) (sym (kept q (sym (f q (predicate-part og t al q u)))))
+        (here-wrote (leaf og (scan t al q)) u)) p u
 
   -- ---- a NestedLoopJoin
   module _ (z : tag-at y hi ≡ 56) {m : ℕ} (own : OwnStart y lo hi m) where
     a-join : (P : Node → Type 0)
-        → ((outer : Bool) (q : Option Expression) (l r : Node) → NodeHere y lo hi (join outer (nested-loop q) l r) → P (join outer (nested-loop q) l r))
+        → ((og : ℕ) (outer : Bool) (q : Option Expression) (l r : Node) → NodeHere y lo hi (join og outer (nested-loop q) l r) → P (join og outer (nested-loop q) l r))
         → (p : Node) → NodeHere y lo hi p → P p
     a-join P f p u = by-nested-loop (λ p. NodeHere y lo hi p → P p) f p (tag-is p u z) u
 
-    join-part : (outer : Bool) (q : Option Expression) (l r : Node) → NodeHere y lo hi (join outer (nested-loop q) l r) → Part y m (hi - 6) (optional-words q)
-    join-part outer q l r u = own-part (join outer (nested-loop q) l r) u (own (join outer (nested-loop q) l r) u)
+    join-part : (og : ℕ) (outer : Bool) (q : Option Expression) (l r : Node) → NodeHere y lo hi (join og outer (nested-loop q) l r) → Part y m (hi - cell-words) (optional-words q)
+    join-part og outer q l r u = own-part (join og outer (nested-loop q) l r) u (own (join og outer (nested-loop q) l r) u)
 
-    pub join-predicate : NodeAt y lo hi → OptionalAt y m (hi - 6)
-    join-predicate t = a-join (λ p. OptionalAt y m (hi - 6)) (λ outer q l r u. record { predicate = q; part = join-part outer q l r u }) (t .p) (t .here)
+    pub join-predicate : NodeAt y lo hi → OptionalAt y m (hi - cell-words)
+    join-predicate t = a-join (λ p. OptionalAt y m (hi - cell-words)) (λ og outer q l r u. record { predicate = q; part = join-part og outer q l r u }) (t .p) (t .here)
 
-    module _ {c : Cell} (e : c ≡ cell-at y hi) (f : OptionalTrue y m (hi - 6) true) where
-      join-cell-is : (outer : Bool) (q : Option Expression) (l r : Node) → NodeHere y lo hi (join outer (nested-loop q) l r) → c ≡ cell (nested-loop-join-cell (present q) outer)
-      join-cell-is outer q l r u = e ∙ node-cell-is (join outer (nested-loop q) l r) u
+    module _ {c : Cell} (e : c ≡ cell-at y hi) (f : OptionalTrue y m (hi - cell-words) true) where
+      join-cell-is : (og : ℕ) (outer : Bool) (q : Option Expression) (l r : Node) → NodeHere y lo hi (join og outer (nested-loop q) l r) → c ≡ cell og (nested-loop-join-cell (present q) outer)
+      join-cell-is og outer q l r u = e ∙ node-cell-is (join og outer (nested-loop q) l r) u
 
       pub join-flag : NodeAt y lo hi → 1 ≤ c .flag
       unfolding cell
-      join-flag t = a-join (λ p. 1 ≤ c .flag) (λ outer q l r u. go outer q (join-cell-is outer q l r u) (f q (join-part outer q l r u))) (t .p) (t .here)
+      join-flag t = a-join (λ p. 1 ≤ c .flag) (λ og outer q l r u. go og outer q (join-cell-is og outer q l r u) (f q (join-part og outer q l r u))) (t .p) (t .here)
         where
-          go : (outer : Bool) (q : Option Expression) → c ≡ cell (nested-loop-join-cell (present q) outer) → true ≡ is-always (optional-verdict q) → 1 ≤ c .flag
-          go outer none k h = clash h
-          go false (some x) k h = omega (arith, ap (λ (k : Cell). k .flag) k)
-          go true (some x) k h = omega (arith, ap (λ (k : Cell). k .flag) k)
+          go : (og : ℕ) (outer : Bool) (q : Option Expression) → c ≡ cell og (nested-loop-join-cell (present q) outer) → true ≡ is-always (optional-verdict q) → 1 ≤ c .flag
+          go og outer none k h = clash h
+          go og false (some x) k h = omega (arith, ap (λ (k : Cell). k .flag) k)
+          go og true (some x) k h = omega (arith, ap (λ (k : Cell). k .flag) k)
 
-      pub join-written : {n : ℕ} {y′ : List ℕ} → Seals y lo m (record { tag = 56; flag = c .flag - 1; a = 0; b = 0; c = 0 }) n y′ → Rewrites y lo hi n y′
+      pub join-written : {n : ℕ} {y′ : List ℕ} → Seals y lo m (record { origin = c .origin; tag = 56; flag = c .flag - 1; a = 0; b = 0; c = 0 }) n y′ → Rewrites y lo hi n y′
       unfolding cell node-words
       join-written {n} {y′} s schema p u =
           a-join (λ p. Wrote y lo (node-words (remove-useless schema p)) n y′)
-          (λ outer q l r u.
-          let h = f q (join-part outer q l r u) in
-          let x = source-part (join outer (nested-loop q) l r) u (own (join outer (nested-loop q) l r) u) in
-          subst (λ (o : Option Expression). Wrote y lo (node-words (join outer (nested-loop o) l r)) n y′) (sym (removed q (sym h)))
-          (subst (λ (w : List ℕ). Wrote y lo (sized (node-words l ++ w) (cell (nested-loop-join-cell false outer))) n y′) (sym (append-nil (node-words r)))
-          (subst (λ (k : Cell). Wrote y lo (sized (node-words l ++ node-words r) k) n y′) (go outer q (join-cell-is outer q l r u) h)
+          (λ og outer q l r u.
+          let h = f q (join-part og outer q l r u) in
+          let x = source-part (join og outer (nested-loop q) l r) u (own (join og outer (nested-loop q) l r) u) in
+          subst (λ (o : Option Expression). Wrote y lo (node-words (join og outer (nested-loop o) l r)) n y′) (sym (removed q (sym h)))
+          (subst (λ (w : List ℕ). Wrote y lo (sized (node-words l ++ w) (cell og (nested-loop-join-cell false outer))) n y′) (sym (append-nil (node-words r)))
+          (subst (λ (k : Cell). Wrote y lo (sized (node-words l ++ node-words r) k) n y′) (go og outer q (join-cell-is og outer q l r u) h)
           (s y (node-words l ++ node-words r) refl (part-wrote x))))) p u
         where
-          go : (outer : Bool) (q : Option Expression) → c ≡ cell (nested-loop-join-cell (present q) outer) → true ≡ is-always (optional-verdict q)
-              → record { tag = 56; flag = c .flag - 1; a = 0; b = 0; c = 0 } ≡ cell (nested-loop-join-cell false outer)
-          go outer none k h = clash h
-          go false (some x) k h = ap (λ (k : Cell). record { tag = 56; flag = k .flag - 1; a = 0; b = 0; c = 0 }) k
-          go true (some x) k h = ap (λ (k : Cell). record { tag = 56; flag = k .flag - 1; a = 0; b = 0; c = 0 }) k
+          go : (og : ℕ) (outer : Bool) (q : Option Expression) → c ≡ cell og (nested-loop-join-cell (present q) outer) → true ≡ is-always (optional-verdict q)
+              → record { origin = c .origin; tag = 56; flag = c .flag - 1; a = 0; b = 0; c = 0 } ≡ cell og (nested-loop-join-cell false outer)
+          go og outer none k h = clash h
+          go og false (some x) k h = ap (λ (k : Cell). record { origin = k .origin; tag = 56; flag = k .flag - 1; a = 0; b = 0; c = 0 }) k
+          go og true (some x) k h = ap (λ (k : Cell). record { origin = k .origin; tag = 56; flag = k .flag - 1; a = 0; b = 0; c = 0 }) k
 
-    pub join-same : OptionalTrue y m (hi - 6) false → Rewrites y lo hi hi y
+    pub join-same : OptionalTrue y m (hi - cell-words) false → Rewrites y lo hi hi y
     join-same f schema p u =
         a-join (λ p. Wrote y lo (node-words (remove-useless schema p)) hi y)
-        (λ outer q l r u. subst (λ (o : Option Expression). Wrote y lo (node-words (join outer (nested-loop o) l r)) hi y)
-        (sym (kept q (sym (f q (join-part outer q l r u))))) (here-wrote (join outer (nested-loop q) l r) u)) p u
+        (λ og outer q l r u. subst (λ (o : Option Expression). Wrote y lo (node-words (join og outer (nested-loop o) l r)) hi y)
+        (sym (kept q (sym (f q (join-part og outer q l r u))))) (here-wrote (join og outer (nested-loop q) l r) u)) p u
 
   -- ---- a Filter
   module _ (z : tag-at y hi ≡ 51) where
-    a-filter : (P : Node → Type 0) → ((e : Expression) (n : Node) → NodeHere y lo hi (over (filter e) n) → P (over (filter e) n)) → (p : Node) → NodeHere y lo hi p → P p
+    a-filter : (P : Node → Type 0) → ((og : ℕ) (e : Expression) (n : Node) → NodeHere y lo hi (over og (filter e) n) → P (over og (filter e) n)) → (p : Node) → NodeHere y lo hi p → P p
     a-filter P f p u = by-filter (λ p. NodeHere y lo hi p → P p) f p (tag-is p u z) u
 
-    pub filter-ends : NodeAt y lo hi → ExpressionEnds y (hi - 6)
+    pub filter-ends : NodeAt y lo hi → ExpressionEnds y (hi - cell-words)
     filter-ends t =
-        a-filter (λ p. ExpressionEnds y (hi - 6))
-        (λ e n u. record { lo = lo + length (source-words (over (filter e) n)); e = e; part = own-part (over (filter e) n) u refl }) (t .p) (t .here)
+        a-filter (λ p. ExpressionEnds y (hi - cell-words))
+        (λ og e n u. record { lo = lo + length (source-words (over og (filter e) n)); e = e; part = own-part (over og (filter e) n) u refl }) (t .p) (t .here)
 
-    pub filter-source : {m : ℕ} → OwnStart y lo hi m → AlwaysTrue y (hi - 6) true → Stays y lo hi m
+    pub filter-source : {m : ℕ} → OwnStart y lo hi m → AlwaysTrue y (hi - cell-words) true → Stays y lo hi m
     filter-source {m} own f schema p u =
         a-filter (λ p. NodeHere y lo m (remove-useless schema p))
-        (λ e n u. subst (λ (b : Bool). NodeHere y lo m (cond b n (over (filter e) n)))
-        (f (lo + length (source-words (over (filter e) n))) e (own-part (over (filter e) n) u refl)) (over-source (filter e) n u (own (over (filter e) n) u))) p u
+        (λ og e n u. subst (λ (b : Bool). NodeHere y lo m (cond b n (over og (filter e) n)))
+        (f (lo + length (source-words (over og (filter e) n))) e (own-part (over og (filter e) n) u refl)) (over-source og (filter e) n u (own (over og (filter e) n) u))) p u
 
-    pub filter-same : AlwaysTrue y (hi - 6) false → Stays y lo hi hi
+    pub filter-same : AlwaysTrue y (hi - cell-words) false → Stays y lo hi hi
     filter-same f schema p u =
         a-filter (λ p. NodeHere y lo hi (remove-useless schema p))
-        (λ e n u. subst (λ (b : Bool). NodeHere y lo hi (cond b n (over (filter e) n)))
-        (f (lo + length (source-words (over (filter e) n))) e (own-part (over (filter e) n) u refl)) u) p u
+        (λ og e n u. subst (λ (b : Bool). NodeHere y lo hi (cond b n (over og (filter e) n)))
+        (f (lo + length (source-words (over og (filter e) n))) e (own-part (over og (filter e) n) u refl)) u) p u
 
   -- ---- a Projection
   module _ (z : tag-at y hi ≡ 60) {m : ℕ} (own : OwnStart y lo hi m) {c : Cell} (e : c ≡ cell-at y hi) where
     a-projection : (P : Node → Type 0)
-        → ((is : List (Expression × Label)) (n : Node) → NodeHere y lo hi (over (other (projection is)) n) → Part y m (hi - 6) (all-words item-words is) → c .a ≡ length is
-        → P (over (other (projection is)) n))
+        → ((og : ℕ) (is : List (Expression × Label × ℕ)) (n : Node) → NodeHere y lo hi (over og (other (projection is)) n) → Part y m (hi - cell-words) (all-words item-words is) → c .a ≡ length is
+        → P (over og (other (projection is)) n))
         → (p : Node) → NodeHere y lo hi p → P p
     a-projection P f p u =
         by-projection (λ p. NodeHere y lo hi p → P p)
-        (λ is n u. f is n u (own-part (over (other (projection is)) n) u (own (over (other (projection is)) n) u)) (a-here e (over (other (projection is)) n) u)) p (tag-is p u z) u
+        (λ og is n u. f og is n u (own-part (over og (other (projection is)) n) u (own (over og (other (projection is)) n) u)) (a-here e (over og (other (projection is)) n) u)) p (tag-is p u z) u
 
-    pub items-at : NodeAt y lo hi → ItemsAt y m (hi - 6) (c .a)
-    items-at t = a-projection (λ p. ItemsAt y m (hi - 6) (c .a)) (λ is n u p k. record { items = is; part = p; count = k }) (t .p) (t .here)
+    pub items-at : NodeAt y lo hi → ItemsAt y m (hi - cell-words) (c .a)
+    items-at t = a-projection (λ p. ItemsAt y m (hi - cell-words) (c .a)) (λ og is n u p k. record { items = is; part = p; count = k }) (t .p) (t .here)
 
     pub projection-one : SourceCount y lo hi 1
-    projection-one p u = a-projection (λ p. 1 ≡ Rattle.words.specs.Words.source-count p) (λ is n u p k. refl) p u
+    projection-one p u = a-projection (λ p. 1 ≡ Rattle.words.specs.Words.source-count p) (λ og is n u p k. refl) p u
 
-    module _ {b : Bool} (f : PassesThrough y m (hi - 6) (c .a) b) {widths : List ℕ} where
+    module _ {b : Bool} (f : PassesThrough y m (hi - cell-words) (c .a) b) {widths : List ℕ} where
       pub projection-source : b ≡ true → {w : ℕ} → ColumnCount widths y lo m w → w ≡ c .a → Projects widths y lo hi m
       projection-source h {w} g i schema p k u =
           a-projection (λ p. NodeHere y lo m (remove-useless schema p))
-          (λ is n u p j.
-          let v = over-source (other (projection is)) n u (own (over (other (projection is)) n) u) in
+          (λ og is n u p j.
+          let v = over-source og (other (projection is)) n u (own (over og (other (projection is)) n) u) in
           let x : eqb (columns schema n) (length is) ≡ true = eq-eqb (columns schema n) (length is) (sym (g schema n k v) ∙ i ∙ j) in
           let r : is-noop schema is n ≡ true = ap (λ (t : Bool). t && pass-through 0 is) x ∙ sym (f is p j) ∙ h in
-          subst (λ (t : Bool). NodeHere y lo m (cond t n (over (other (projection is)) n))) (sym r) v) p u
+          subst (λ (t : Bool). NodeHere y lo m (cond t n (over og (other (projection is)) n))) (sym r) v) p u
 
       pub projection-wide : {w : ℕ} → ColumnCount widths y lo m w → (w ≡ c .a → ⊥) → Projects widths y lo hi hi
       projection-wide {w} g i schema p k u =
           a-projection (λ p. NodeHere y lo hi (remove-useless schema p))
-          (λ is n u p j.
-          let v = over-source (other (projection is)) n u (own (over (other (projection is)) n) u) in
+          (λ og is n u p j.
+          let v = over-source og (other (projection is)) n u (own (over og (other (projection is)) n) u) in
           let x : eqb (columns schema n) (length is) ≡ false = ne-eqb (columns schema n) (length is) (λ q. i (g schema n k v ∙ q ∙ sym j)) in
           let r : is-noop schema is n ≡ false = ap (λ (t : Bool). t && pass-through 0 is) x in
-          subst (λ (t : Bool). NodeHere y lo hi (cond t n (over (other (projection is)) n))) (sym r) u) p u
+          subst (λ (t : Bool). NodeHere y lo hi (cond t n (over og (other (projection is)) n))) (sym r) u) p u
 
       pub projection-same : b ≡ false → Projects widths y lo hi hi
       projection-same h schema p k u =
           a-projection (λ p. NodeHere y lo hi (remove-useless schema p))
-          (λ is n u p j.
+          (λ og is n u p j.
           let r : is-noop schema is n ≡ false = go (eqb (columns schema n) (length is)) (pass-through 0 is) (sym (f is p j) ∙ h) in
-          subst (λ (t : Bool). NodeHere y lo hi (cond t n (over (other (projection is)) n))) (sym r) u) p u
+          subst (λ (t : Bool). NodeHere y lo hi (cond t n (over og (other (projection is)) n))) (sym r) u) p u
         where
           go : (s t : Bool) → t ≡ false → (s && t) ≡ false
           go true t k = k
@@ -220,16 +220,16 @@ module _ {y : List ℕ} {lo hi : ℕ} where
     others-removed a b d e schema p k u = go p u (node-tag p u ∙ tagged p)
       where
         go : (p : Node) → NodeHere y lo hi p → tag-at y hi ≡ tag-of p → Wrote y lo (node-words (remove-useless schema p)) hi y
-        go (leaf (scan t al q)) u i = absurd (a i)
-        go (leaf (lookup x t al vs)) u i = here-wrote (leaf (lookup x t al vs)) u
-        go (leaf (nothing ls)) u i = here-wrote (leaf (nothing ls)) u
-        go (leaf (values rs)) u i = here-wrote (leaf (values rs)) u
-        go (over (filter x) n) u i = absurd (d i)
-        go (over (other (limit x)) n) u i = here-wrote (over (other (limit x)) n) u
-        go (over (other (offset x)) n) u i = here-wrote (over (other (offset x)) n) u
-        go (over (other (order ks)) n) u i = here-wrote (over (other (order ks)) n) u
-        go (over (other (projection is)) n) u i = absurd (e i)
-        go (over (other (remap ts)) n) u i = here-wrote (over (other (remap ts)) n) u
-        go (over (other (aggregate es gs)) n) u i = here-wrote (over (other (aggregate es gs)) n) u
-        go (join outer (nested-loop q) l r) u i = absurd (b i)
-        go (join outer (hash i₁ j₁) l r) u i = here-wrote (join outer (hash i₁ j₁) l r) u
+        go (leaf og (scan t al q)) u i = absurd (a i)
+        go (leaf og (lookup x t al vs)) u i = here-wrote (leaf og (lookup x t al vs)) u
+        go (leaf og (nothing ls)) u i = here-wrote (leaf og (nothing ls)) u
+        go (leaf og (values rs)) u i = here-wrote (leaf og (values rs)) u
+        go (over og (filter x) n) u i = absurd (d i)
+        go (over og (other (limit x)) n) u i = here-wrote (over og (other (limit x)) n) u
+        go (over og (other (offset x)) n) u i = here-wrote (over og (other (offset x)) n) u
+        go (over og (other (order ks)) n) u i = here-wrote (over og (other (order ks)) n) u
+        go (over og (other (projection is)) n) u i = absurd (e i)
+        go (over og (other (remap ts)) n) u i = here-wrote (over og (other (remap ts)) n) u
+        go (over og (other (aggregate es gs)) n) u i = here-wrote (over og (other (aggregate es gs)) n) u
+        go (join og outer (nested-loop q) l r) u i = absurd (b i)
+        go (join og outer (hash i₁ j₁) l r) u i = here-wrote (join og outer (hash i₁ j₁) l r) u

@@ -7,7 +7,7 @@ use mathlib.Core.List.{List}
 use mathlib.Core.Option.{Option, none, some}
 use lib.Dec.{eqb}
 use Rattle.value.specs.Value.{False, Unknown, True, integer, float, string, truth, datum}
-use Rattle.sql.specs.Expression.{Expression, constant, column, unary, binary}
+use Rattle.sql.specs.Expression.{origin, Expression, constant, column, unary, binary}
 use Rattle.sql.specs.Optimizer.{verdict, is-always}
 use Rattle.cells.specs.declared.Cell.{Cell}
 use Rattle.cells.specs.Cells.{cell-at, Part}
@@ -21,29 +21,29 @@ module _ {s : List ℕ} {hi : ℕ} {c : Cell} (q : c ≡ cell-at s hi) where
   unfolding cell
   boolean-always z lo e p = go e (q ∙ root-is e (record { part = p }))
     where
-      go : (e : Expression) → c ≡ cell (root e) → eqb (c .a) 1 ≡ is-always (verdict e)
-      go (constant (truth True)) k = ap (λ (x : Cell). eqb (x .a) 1) k
-      go (constant (truth False)) k = ap (λ (x : Cell). eqb (x .a) 1) k
-      go (constant (truth Unknown)) k = absurd (omega (arith, z, ap (λ (x : Cell). x .tag) k))
-      go (constant (datum (integer n))) k = absurd (omega (arith, z, ap (λ (x : Cell). x .tag) k))
-      go (constant (datum (float b))) k = absurd (omega (arith, z, ap (λ (x : Cell). x .tag) k))
-      go (constant (datum (string r t))) k = absurd (omega (arith, z, ap (λ (x : Cell). x .tag) k))
-      go (column i) k = absurd (omega (arith, z, ap (λ (x : Cell). x .tag) k))
-      go (unary o x) k = absurd (omega (arith, z, ap (λ (x : Cell). x .tag) k, unary-range o))
-      go (binary o l r) k = absurd (omega (arith, z, ap (λ (x : Cell). x .tag) k, binary-range o .0))
+      go : (e : Expression) → c ≡ cell (origin e) (root e) → eqb (c .a) 1 ≡ is-always (verdict e)
+      go (constant og (truth True)) k = ap (λ (x : Cell). eqb (x .a) 1) k
+      go (constant og (truth False)) k = ap (λ (x : Cell). eqb (x .a) 1) k
+      go (constant og (truth Unknown)) k = absurd (omega (arith, z, ap (λ (x : Cell). x .tag) k))
+      go (constant og (datum (integer n))) k = absurd (omega (arith, z, ap (λ (x : Cell). x .tag) k))
+      go (constant og (datum (float b))) k = absurd (omega (arith, z, ap (λ (x : Cell). x .tag) k))
+      go (constant og (datum (string r t))) k = absurd (omega (arith, z, ap (λ (x : Cell). x .tag) k))
+      go (column og i) k = absurd (omega (arith, z, ap (λ (x : Cell). x .tag) k))
+      go (unary og o x) k = absurd (omega (arith, z, ap (λ (x : Cell). x .tag) k, unary-range o))
+      go (binary og o l r) k = absurd (omega (arith, z, ap (λ (x : Cell). x .tag) k, binary-range o .0))
 
   pub other-always : (c .tag ≡ 2 → ⊥) → AlwaysTrue s hi false
   unfolding cell
   other-always z lo e p = go e (q ∙ root-is e (record { part = p }))
     where
-      go : (e : Expression) → c ≡ cell (root e) → false ≡ is-always (verdict e)
-      go (constant (truth True)) k = absurd (z (ap (λ (x : Cell). x .tag) k))
-      go (constant (truth False)) k = refl
-      go (constant (truth Unknown)) k = refl
-      go (constant (datum d)) k = refl
-      go (column i) k = refl
-      go (unary o x) k = refl
-      go (binary o l r) k = refl
+      go : (e : Expression) → c ≡ cell (origin e) (root e) → false ≡ is-always (verdict e)
+      go (constant og (truth True)) k = absurd (z (ap (λ (x : Cell). x .tag) k))
+      go (constant og (truth False)) k = refl
+      go (constant og (truth Unknown)) k = refl
+      go (constant og (datum d)) k = refl
+      go (column og i) k = refl
+      go (unary og o x) k = refl
+      go (binary og o l r) k = refl
 
 module _ {s : List ℕ} {lo hi : ℕ} where
   pub absent-always : lo ≡ hi → OptionalTrue s lo hi false

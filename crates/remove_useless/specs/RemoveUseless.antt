@@ -29,16 +29,16 @@ OptionalTrue s lo hi r = (e : Option Expression) → Part s lo hi (optional-word
 
 -- r says whether the Item that ends before word hi is column i without a label.
 abbrev pub ItemPasses : List ℕ → ℕ → ℕ → Bool → Type 0
-ItemPasses s hi i r = (lo : ℕ) (item : Expression × Label) → Part s lo hi (item-words item) → r ≡ (is-column-number i (item .0) && is-unlabelled (item .1))
+ItemPasses s hi i r = (lo : ℕ) (item : Expression × Label × ℕ) → Part s lo hi (item-words item) → r ≡ (is-column-number i (item .0) && is-unlabelled (item .1))
 
 -- Some n Items stand there.
 pub record ItemsAt (s : List ℕ) (lo hi n : ℕ) : Type 0 where
-  pub items : List (Expression × Label)
+  pub items : List (Expression × Label × ℕ)
   pub part : Part s lo hi (all-words item-words items)
   pub count : n ≡ length items
 
 abbrev pub PassesThrough : List ℕ → ℕ → ℕ → ℕ → Bool → Type 0
-PassesThrough s lo hi n r = (items : List (Expression × Label)) → Part s lo hi (all-words item-words items) → n ≡ length items → r ≡ pass-through 0 items
+PassesThrough s lo hi n r = (items : List (Expression × Label × ℕ)) → Part s lo hi (all-words item-words items) → n ≡ length items → r ≡ pass-through 0 items
 
 -- The node from lo up to hi, without what is useless, stands in y′ from lo up to r, behind the same words.
 abbrev pub Rewrites : List ℕ → ℕ → ℕ → ℕ → List ℕ → Type 0

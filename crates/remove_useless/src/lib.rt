@@ -40,6 +40,7 @@ fn scan_without_true(y: &mut [u32], lo: usize, hi: usize) -> usize
     if optional_is_always(y, lo, hi - cells::CELL_WORDS) {
         let c = cells::cell_at(y, hi);
         let k = cells::Cell {
+            origin: c.origin,
             tag: tags::SCAN,
             flag: c.flag - 1,
             a: c.a,
@@ -59,10 +60,11 @@ fn join_without_true(y: &mut [u32], lo: usize, hi: usize) -> usize
 {
     let m = nodes::own_start(y, lo, hi);
     if optional_is_always(y, m, hi - cells::CELL_WORDS) {
-        let c = cells::cell_at(y, hi);
+        let nested = cells::cell_at(y, hi);
         let k = cells::Cell {
+            origin: nested.origin,
             tag: tags::NESTED_LOOP_JOIN,
-            flag: c.flag - 1,
+            flag: nested.flag - 1,
             a: 0,
             b: 0,
             c: 0,

@@ -37,30 +37,30 @@ module _ (room : ℕ) (schema : Schema) where
   filter-fits : (k : ℕ) → Keeps (Room.maybe-push-filter room schema k)
   unfolding Room.maybe-push-filter
   filter-fits zero rest n m h i = let z : node-size n ≡ node-size m = ap node-size (done-same h) in omega arith
-  filter-fits (suc k) rest (leaf l) m h i = let z : node-size (leaf l) ≡ node-size m = ap node-size (done-same h) in omega arith
-  filter-fits (suc k) rest (over (filter p) source) m h i = go (push-into p source) h
+  filter-fits (suc k) rest (leaf og l) m h i = let z : node-size (leaf og l) ≡ node-size m = ap node-size (done-same h) in omega arith
+  filter-fits (suc k) rest (over og (filter p) source) m h i = go (push-into og p source) h
     where
       on : Node → Answer Node
       on pushed = Room.step room schema rest pushed >>= Room.maybe-push-filter room schema k rest >>= Room.maybe-push-join room schema rest
 
-      go : (o : Option Node) → go-on on (over (filter p) source) o ≡ done m → rest + node-size m ≤ room
-      go none j = let z : node-size (over (filter p) source) ≡ node-size m = ap node-size (done-same j) in omega arith
+      go : (o : Option Node) → go-on on (over og (filter p) source) o ≡ done m → rest + node-size m ≤ room
+      go none j = let z : node-size (over og (filter p) source) ≡ node-size m = ap node-size (done-same j) in omega arith
       go (some pushed) j =
           let a = after (Room.step room schema rest pushed >>= Room.maybe-push-filter room schema k rest) (Room.maybe-push-join room schema rest) m j in
           join-fits rest (a .of) m (a .second)
-  filter-fits (suc k) rest (over (other o) source) m h i = let z : node-size (over (other o) source) ≡ node-size m = ap node-size (done-same h) in omega arith
-  filter-fits (suc k) rest (join outer j left right) m h i = let z : node-size (join outer j left right) ≡ node-size m = ap node-size (done-same h) in omega arith
+  filter-fits (suc k) rest (over og (other o) source) m h i = let z : node-size (over og (other o) source) ≡ node-size m = ap node-size (done-same h) in omega arith
+  filter-fits (suc k) rest (join og outer j left right) m h i = let z : node-size (join og outer j left right) ≡ node-size m = ap node-size (done-same h) in omega arith
 
   sources-fit : (f : ℕ → Node → Answer Node) → Keeps f → Keeps (Room.each-source room schema f)
-  sources-fit f k rest (leaf l) m h i = let z : node-size (leaf l) ≡ node-size m = ap node-size (done-same h) in omega arith
-  sources-fit f k rest (over o source) m h i =
-      let a = after (f (rest + over-size o) source) (λ s. done (over o s)) m h in
+  sources-fit f k rest (leaf og l) m h i = let z : node-size (leaf og l) ≡ node-size m = ap node-size (done-same h) in omega arith
+  sources-fit f k rest (over og o source) m h i =
+      let a = after (f (rest + over-size o) source) (λ s. done (over og o s)) m h in
       let p = k (rest + over-size o) source (a .of) (a .first) (omega arith) in
       let z : node-size (a .of) + over-size o ≡ node-size m = ap node-size (done-same (a .second)) in
       omega arith
-  sources-fit f k rest (join outer j left right) m h i =
-      let a = after (f (rest + (node-size right + join-size j)) left) (λ l. f (rest + (node-size l + join-size j)) right >>= λ r. done (join outer j l r)) m h in
-      let b = after (f (rest + (node-size (a .of) + join-size j)) right) (λ r. done (join outer j (a .of) r)) m (a .second) in
+  sources-fit f k rest (join og outer j left right) m h i =
+      let a = after (f (rest + (node-size right + join-size j)) left) (λ l. f (rest + (node-size l + join-size j)) right >>= λ r. done (join og outer j l r)) m h in
+      let b = after (f (rest + (node-size (a .of) + join-size j)) right) (λ r. done (join og outer j (a .of) r)) m (a .second) in
       let p = k (rest + (node-size right + join-size j)) left (a .of) (a .first) (omega arith) in
       let q = k (rest + (node-size (a .of) + join-size j)) right (b .of) (b .first) (omega arith) in
       let z : node-size (a .of) + node-size (b .of) + join-size j ≡ node-size m = ap node-size (done-same (b .second)) in
@@ -80,18 +80,18 @@ module _ (room : ℕ) (schema : Schema) where
 
   pub lookup-fits : Keeps (Room.IndexLookup room schema)
   unfolding Room.IndexLookup Room.index-lookup
-  lookup-fits rest (leaf l) m h i =
-      let a = after (if-room (Room.normal-forms-fit room schema (scan-filter l)) (leaf l)) (λ k. Room.step room schema rest (Optimizer.index-lookup schema l)) m h in
-      step-fits rest (Optimizer.index-lookup schema l) m (a .second)
-  lookup-fits rest (over o source) m h i =
-      let a = after (Room.IndexLookup room schema (rest + over-size o) source) (λ s. done (over o s)) m h in
+  lookup-fits rest (leaf og l) m h i =
+      let a = after (if-room (Room.normal-forms-fit room schema (scan-filter l)) (leaf og l)) (λ k. Room.step room schema rest (Optimizer.index-lookup schema og l)) m h in
+      step-fits rest (Optimizer.index-lookup schema og l) m (a .second)
+  lookup-fits rest (over og o source) m h i =
+      let a = after (Room.IndexLookup room schema (rest + over-size o) source) (λ s. done (over og o s)) m h in
       let p = lookup-fits (rest + over-size o) source (a .of) (a .first) (omega arith) in
       let z : node-size (a .of) + over-size o ≡ node-size m = ap node-size (done-same (a .second)) in
       omega arith
-  lookup-fits rest (join outer j left right) m h i =
+  lookup-fits rest (join og outer j left right) m h i =
       let a = after (Room.IndexLookup room schema (rest + (node-size right + join-size j)) left)
-      (λ l. Room.IndexLookup room schema (rest + (node-size l + join-size j)) right >>= λ r. done (join outer j l r)) m h in
-      let b = after (Room.IndexLookup room schema (rest + (node-size (a .of) + join-size j)) right) (λ r. done (join outer j (a .of) r)) m (a .second) in
+      (λ l. Room.IndexLookup room schema (rest + (node-size l + join-size j)) right >>= λ r. done (join og outer j l r)) m h in
+      let b = after (Room.IndexLookup room schema (rest + (node-size (a .of) + join-size j)) right) (λ r. done (join og outer j (a .of) r)) m (a .second) in
       let p = lookup-fits (rest + (node-size right + join-size j)) left (a .of) (a .first) (omega arith) in
       let q = lookup-fits (rest + (node-size (a .of) + join-size j)) right (b .of) (b .first) (omega arith) in
       let z : node-size (a .of) + node-size (b .of) + join-size j ≡ node-size m = ap node-size (done-same (b .second)) in
@@ -103,15 +103,15 @@ module _ (room : ℕ) (schema : Schema) where
 
   pub circuit-fits : (rest : ℕ) (n m : Node) → Room.ShortCircuit room schema rest n ≡ done m → rest + node-size m ≤ room
   unfolding Room.ShortCircuit
-  circuit-fits rest (leaf l) m h = one-fits rest (leaf l) m h
-  circuit-fits rest (over o source) m h =
-      let a = after (Room.ShortCircuit room schema (rest + over-size o) source) (λ s. Room.short-circuit room schema rest (over o s)) m h in
-      one-fits rest (over o (a .of)) m (a .second)
-  circuit-fits rest (join outer j left right) m h =
+  circuit-fits rest (leaf og l) m h = one-fits rest (leaf og l) m h
+  circuit-fits rest (over og o source) m h =
+      let a = after (Room.ShortCircuit room schema (rest + over-size o) source) (λ s. Room.short-circuit room schema rest (over og o s)) m h in
+      one-fits rest (over og o (a .of)) m (a .second)
+  circuit-fits rest (join og outer j left right) m h =
       let a = after (Room.ShortCircuit room schema (rest + (node-size right + join-size j)) left)
-      (λ l. Room.ShortCircuit room schema (rest + (node-size l + join-size j)) right >>= λ r. Room.short-circuit room schema rest (join outer j l r)) m h in
-      let b = after (Room.ShortCircuit room schema (rest + (node-size (a .of) + join-size j)) right) (λ r. Room.short-circuit room schema rest (join outer j (a .of) r)) m (a .second) in
-      one-fits rest (join outer j (a .of) (b .of)) m (b .second)
+      (λ l. Room.ShortCircuit room schema (rest + (node-size l + join-size j)) right >>= λ r. Room.short-circuit room schema rest (join og outer j l r)) m h in
+      let b = after (Room.ShortCircuit room schema (rest + (node-size (a .of) + join-size j)) right) (λ r. Room.short-circuit room schema rest (join og outer j (a .of) r)) m (a .second) in
+      one-fits rest (join og outer j (a .of) (b .of)) m (b .second)
 
   -- One pass, and all five.
   pub pass-fits : (k : ℕ) (n m : Node) → Room.pass room schema k n ≡ done m → node-size n ≤ room → node-size m ≤ room

@@ -62,14 +62,14 @@ module _ (room more : ℕ) (larger : room ≤ more) (schema : Schema) where
   filter-larger : (k rest : ℕ) (n : Node) → Follows (Room.maybe-push-filter room schema k rest n) (Room.maybe-push-filter more schema k rest n)
   unfolding Room.maybe-push-filter
   filter-larger zero rest n = λ m h. h
-  filter-larger (suc k) rest (leaf l) = λ m h. h
-  filter-larger (suc k) rest (over (filter p) source) = go (push-into p source) (filter-larger k rest)
+  filter-larger (suc k) rest (leaf og l) = λ m h. h
+  filter-larger (suc k) rest (over og (filter p) source) = go (push-into og p source) (filter-larger k rest)
     where
       on : ℕ → Node → Answer Node
       on r pushed = Room.step r schema rest pushed >>= Room.maybe-push-filter r schema k rest >>= Room.maybe-push-join r schema rest
 
       go : (o : Option Node) → ((n : Node) → Follows (Room.maybe-push-filter room schema k rest n) (Room.maybe-push-filter more schema k rest n))
-          → Follows (go-on (on room) (over (filter p) source) o) (go-on (on more) (over (filter p) source) o)
+          → Follows (go-on (on room) (over og (filter p) source) o) (go-on (on more) (over og (filter p) source) o)
       go none below = λ m h. h
       go (some pushed) below =
           follows-then (Room.step room schema rest pushed >>= Room.maybe-push-filter room schema k rest) (Room.step more schema rest pushed >>= Room.maybe-push-filter more schema k rest)
@@ -77,20 +77,20 @@ module _ (room more : ℕ) (larger : room ≤ more) (schema : Schema) where
           (follows-then (Room.step room schema rest pushed) (Room.step more schema rest pushed) (Room.maybe-push-filter room schema k rest) (Room.maybe-push-filter more schema k rest)
           (step-larger rest pushed) below)
           (join-larger rest)
-  filter-larger (suc k) rest (over (other o) source) = λ m h. h
-  filter-larger (suc k) rest (join outer j left right) = λ m h. h
+  filter-larger (suc k) rest (over og (other o) source) = λ m h. h
+  filter-larger (suc k) rest (join og outer j left right) = λ m h. h
 
   sources-larger : (f g : ℕ → Node → Answer Node) → ((rest : ℕ) (n : Node) → Follows (f rest n) (g rest n))
       → (rest : ℕ) (n : Node) → Follows (Room.each-source room schema f rest n) (Room.each-source more schema g rest n)
-  sources-larger f g k rest (leaf l) = λ m h. h
-  sources-larger f g k rest (over o source) =
-      follows-then (f (rest + over-size o) source) (g (rest + over-size o) source) (λ s. done (over o s)) (λ s. done (over o s)) (k (rest + over-size o) source) (λ s m h. h)
-  sources-larger f g k rest (join outer j left right) =
+  sources-larger f g k rest (leaf og l) = λ m h. h
+  sources-larger f g k rest (over og o source) =
+      follows-then (f (rest + over-size o) source) (g (rest + over-size o) source) (λ s. done (over og o s)) (λ s. done (over og o s)) (k (rest + over-size o) source) (λ s m h. h)
+  sources-larger f g k rest (join og outer j left right) =
       let on-left = rest + (node-size right + join-size j) in
       follows-then (f on-left left) (g on-left left)
-      (λ l. f (rest + (node-size l + join-size j)) right >>= λ r. done (join outer j l r)) (λ l. g (rest + (node-size l + join-size j)) right >>= λ r. done (join outer j l r))
+      (λ l. f (rest + (node-size l + join-size j)) right >>= λ r. done (join og outer j l r)) (λ l. g (rest + (node-size l + join-size j)) right >>= λ r. done (join og outer j l r))
       (k on-left left)
-      (λ l. follows-then (f (rest + (node-size l + join-size j)) right) (g (rest + (node-size l + join-size j)) right) (λ r. done (join outer j l r)) (λ r. done (join outer j l r))
+      (λ l. follows-then (f (rest + (node-size l + join-size j)) right) (g (rest + (node-size l + join-size j)) right) (λ r. done (join og outer j l r)) (λ r. done (join og outer j l r))
       (k (rest + (node-size l + join-size j)) right) (λ r m h. h))
 
   from-larger : (k rest : ℕ) (n : Node) → Follows (Room.push-filters-from room schema k rest n) (Room.push-filters-from more schema k rest n)
@@ -109,22 +109,22 @@ module _ (room more : ℕ) (larger : room ≤ more) (schema : Schema) where
 
   pub lookup-larger : (rest : ℕ) (n : Node) → Follows (Room.IndexLookup room schema rest n) (Room.IndexLookup more schema rest n)
   unfolding Room.IndexLookup Room.index-lookup
-  lookup-larger rest (leaf l) =
+  lookup-larger rest (leaf og l) =
       let here = Room.normal-forms-fit room schema (scan-filter l) in
       let there = Room.normal-forms-fit more schema (scan-filter l) in
-      follows-then (if-room here (leaf l)) (if-room there (leaf l)) (λ k. Room.step room schema rest (Optimizer.index-lookup schema l)) (λ k. Room.step more schema rest (Optimizer.index-lookup schema l))
-      (if-room-follows here there (leaf l) (forms-larger (scan-filter l))) (λ k. step-larger rest (Optimizer.index-lookup schema l))
-  lookup-larger rest (over o source) =
-      follows-then (Room.IndexLookup room schema (rest + over-size o) source) (Room.IndexLookup more schema (rest + over-size o) source) (λ s. done (over o s)) (λ s. done (over o s))
+      follows-then (if-room here (leaf og l)) (if-room there (leaf og l)) (λ k. Room.step room schema rest (Optimizer.index-lookup schema og l)) (λ k. Room.step more schema rest (Optimizer.index-lookup schema og l))
+      (if-room-follows here there (leaf og l) (forms-larger (scan-filter l))) (λ k. step-larger rest (Optimizer.index-lookup schema og l))
+  lookup-larger rest (over og o source) =
+      follows-then (Room.IndexLookup room schema (rest + over-size o) source) (Room.IndexLookup more schema (rest + over-size o) source) (λ s. done (over og o s)) (λ s. done (over og o s))
       (lookup-larger (rest + over-size o) source) (λ s m h. h)
-  lookup-larger rest (join outer j left right) =
+  lookup-larger rest (join og outer j left right) =
       let on-left = rest + (node-size right + join-size j) in
       follows-then (Room.IndexLookup room schema on-left left) (Room.IndexLookup more schema on-left left)
-      (λ l. Room.IndexLookup room schema (rest + (node-size l + join-size j)) right >>= λ r. done (join outer j l r))
-      (λ l. Room.IndexLookup more schema (rest + (node-size l + join-size j)) right >>= λ r. done (join outer j l r))
+      (λ l. Room.IndexLookup room schema (rest + (node-size l + join-size j)) right >>= λ r. done (join og outer j l r))
+      (λ l. Room.IndexLookup more schema (rest + (node-size l + join-size j)) right >>= λ r. done (join og outer j l r))
       (lookup-larger on-left left)
       (λ l. follows-then (Room.IndexLookup room schema (rest + (node-size l + join-size j)) right) (Room.IndexLookup more schema (rest + (node-size l + join-size j)) right)
-      (λ r. done (join outer j l r)) (λ r. done (join outer j l r)) (lookup-larger (rest + (node-size l + join-size j)) right) (λ r m h. h))
+      (λ r. done (join og outer j l r)) (λ r. done (join og outer j l r)) (lookup-larger (rest + (node-size l + join-size j)) right) (λ r m h. h))
 
   one-larger : (rest : ℕ) (n : Node) → Follows (Room.short-circuit room schema rest n) (Room.short-circuit more schema rest n)
   unfolding Room.short-circuit
@@ -132,20 +132,20 @@ module _ (room more : ℕ) (larger : room ≤ more) (schema : Schema) where
 
   pub circuit-larger : (rest : ℕ) (n : Node) → Follows (Room.ShortCircuit room schema rest n) (Room.ShortCircuit more schema rest n)
   unfolding Room.ShortCircuit
-  circuit-larger rest (leaf l) = one-larger rest (leaf l)
-  circuit-larger rest (over o source) =
+  circuit-larger rest (leaf og l) = one-larger rest (leaf og l)
+  circuit-larger rest (over og o source) =
       follows-then (Room.ShortCircuit room schema (rest + over-size o) source) (Room.ShortCircuit more schema (rest + over-size o) source)
-      (λ s. Room.short-circuit room schema rest (over o s)) (λ s. Room.short-circuit more schema rest (over o s))
-      (circuit-larger (rest + over-size o) source) (λ s. one-larger rest (over o s))
-  circuit-larger rest (join outer j left right) =
+      (λ s. Room.short-circuit room schema rest (over og o s)) (λ s. Room.short-circuit more schema rest (over og o s))
+      (circuit-larger (rest + over-size o) source) (λ s. one-larger rest (over og o s))
+  circuit-larger rest (join og outer j left right) =
       let on-left = rest + (node-size right + join-size j) in
       follows-then (Room.ShortCircuit room schema on-left left) (Room.ShortCircuit more schema on-left left)
-      (λ l. Room.ShortCircuit room schema (rest + (node-size l + join-size j)) right >>= λ r. Room.short-circuit room schema rest (join outer j l r))
-      (λ l. Room.ShortCircuit more schema (rest + (node-size l + join-size j)) right >>= λ r. Room.short-circuit more schema rest (join outer j l r))
+      (λ l. Room.ShortCircuit room schema (rest + (node-size l + join-size j)) right >>= λ r. Room.short-circuit room schema rest (join og outer j l r))
+      (λ l. Room.ShortCircuit more schema (rest + (node-size l + join-size j)) right >>= λ r. Room.short-circuit more schema rest (join og outer j l r))
       (circuit-larger on-left left)
       (λ l. follows-then (Room.ShortCircuit room schema (rest + (node-size l + join-size j)) right) (Room.ShortCircuit more schema (rest + (node-size l + join-size j)) right)
-      (λ r. Room.short-circuit room schema rest (join outer j l r)) (λ r. Room.short-circuit more schema rest (join outer j l r))
-      (circuit-larger (rest + (node-size l + join-size j)) right) (λ r. one-larger rest (join outer j l r)))
+      (λ r. Room.short-circuit room schema rest (join og outer j l r)) (λ r. Room.short-circuit more schema rest (join og outer j l r))
+      (circuit-larger (rest + (node-size l + join-size j)) right) (λ r. one-larger rest (join og outer j l r)))
 
   -- One pass, and all five.
   pub pass-larger : (k : ℕ) (n : Node) → Follows (Room.pass room schema k n) (Room.pass more schema k n)

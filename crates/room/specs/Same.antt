@@ -35,8 +35,8 @@ module _ (room : ℕ) (schema : Schema) where
   filter-same : (k rest : ℕ) (n m : Node) → Room.maybe-push-filter room schema k rest n ≡ done m → Optimizer.maybe-push-filter schema k n ≡ m
   unfolding Room.maybe-push-filter Optimizer.maybe-push-filter
   filter-same zero rest n m h = done-same h
-  filter-same (suc k) rest (leaf l) m h = done-same h
-  filter-same (suc k) rest (over (filter p) source) m h = go (push-into p source) h (filter-same k rest)
+  filter-same (suc k) rest (leaf og l) m h = done-same h
+  filter-same (suc k) rest (over og (filter p) source) m h = go (push-into og p source) h (filter-same k rest)
     where
       on : Node → Answer Node
       on pushed = Room.step room schema rest pushed >>= Room.maybe-push-filter room schema k rest >>= Room.maybe-push-join room schema rest
@@ -44,17 +44,17 @@ module _ (room : ℕ) (schema : Schema) where
       plain : Node → Node
       plain pushed = Optimizer.maybe-push-join schema (Optimizer.maybe-push-filter schema k pushed)
 
-      go : (o : Option Node) → go-on on (over (filter p) source) o ≡ done m
+      go : (o : Option Node) → go-on on (over og (filter p) source) o ≡ done m
           → ((n m : Node) → Room.maybe-push-filter room schema k rest n ≡ done m → Optimizer.maybe-push-filter schema k n ≡ m)
-          → Optimizer.go-on plain (over (filter p) source) o ≡ m
+          → Optimizer.go-on plain (over og (filter p) source) o ≡ m
       go none j ih = done-same j
       go (some pushed) j ih =
           let a = after (Room.step room schema rest pushed >>= Room.maybe-push-filter room schema k rest) (Room.maybe-push-join room schema rest) m j in
           let b = after (Room.step room schema rest pushed) (Room.maybe-push-filter room schema k rest) (a .of) (a .first) in
           ap (λ z. Optimizer.maybe-push-join schema (Optimizer.maybe-push-filter schema k z)) (step-same rest pushed (b .of) (b .first))
           ∙ (ap (Optimizer.maybe-push-join schema) (ih (b .of) (a .of) (b .second)) ∙ join-same rest (a .of) m (a .second))
-  filter-same (suc k) rest (over (other o) source) m h = done-same h
-  filter-same (suc k) rest (join outer j left right) m h = done-same h
+  filter-same (suc k) rest (over og (other o) source) m h = done-same h
+  filter-same (suc k) rest (join og outer j left right) m h = done-same h
 
   pub push-same : (k rest : ℕ) (n m : Node) → Room.push-filters room schema k rest n ≡ done m → Optimizer.push-filters schema k n ≡ m
   push-same k rest n m h =
@@ -63,16 +63,16 @@ module _ (room : ℕ) (schema : Schema) where
 
   sources-same : (f : ℕ → Node → Answer Node) (g : Node → Node) → ((rest : ℕ) (n m : Node) → f rest n ≡ done m → g n ≡ m)
       → (rest : ℕ) (n m : Node) → Room.each-source room schema f rest n ≡ done m → map-sources g n ≡ m
-  sources-same f g k rest (leaf l) m h = done-same h
-  sources-same f g k rest (over o source) m h =
-      let a = after (f (rest + over-size o) source) (λ s. done (over o s)) m h in
-      ap (over o) (k (rest + over-size o) source (a .of) (a .first)) ∙ done-same (a .second)
-  sources-same f g k rest (join outer j left right) m h =
+  sources-same f g k rest (leaf og l) m h = done-same h
+  sources-same f g k rest (over og o source) m h =
+      let a = after (f (rest + over-size o) source) (λ s. done (over og o s)) m h in
+      ap (over og o) (k (rest + over-size o) source (a .of) (a .first)) ∙ done-same (a .second)
+  sources-same f g k rest (join og outer j left right) m h =
       let on-left = rest + (node-size right + join-size j) in
-      let a = after (f on-left left) (λ l. f (rest + (node-size l + join-size j)) right >>= λ r. done (join outer j l r)) m h in
+      let a = after (f on-left left) (λ l. f (rest + (node-size l + join-size j)) right >>= λ r. done (join og outer j l r)) m h in
       let on-right = rest + (node-size (a .of) + join-size j) in
-      let b = after (f on-right right) (λ r. done (join outer j (a .of) r)) m (a .second) in
-      ap₂ (join outer j) (k on-left left (a .of) (a .first)) (k on-right right (b .of) (b .first)) ∙ done-same (b .second)
+      let b = after (f on-right right) (λ r. done (join og outer j (a .of) r)) m (a .second) in
+      ap₂ (join og outer j) (k on-left left (a .of) (a .first)) (k on-right right (b .of) (b .first)) ∙ done-same (b .second)
 
   from-same : (k rest : ℕ) (n m : Node) → Room.push-filters-from room schema k rest n ≡ done m → Optimizer.push-filters-from schema k n ≡ m
   unfolding Room.push-filters-from Optimizer.push-filters-from
@@ -88,25 +88,25 @@ module _ (room : ℕ) (schema : Schema) where
 
   -- ---- IndexLookup
 
-  leaf-same : (rest : ℕ) (l : Leaf) (m : Node) → Room.index-lookup room schema rest l ≡ done m → Optimizer.index-lookup schema l ≡ m
+  leaf-same : (og rest : ℕ) (l : Leaf) (m : Node) → Room.index-lookup room schema og rest l ≡ done m → Optimizer.index-lookup schema og l ≡ m
   unfolding Room.index-lookup
-  leaf-same rest l m h =
-      let a = after (if-room (Room.normal-forms-fit room schema (scan-filter l)) (leaf l)) (λ k. Room.step room schema rest (Optimizer.index-lookup schema l)) m h in
-      step-same rest (Optimizer.index-lookup schema l) m (a .second)
+  leaf-same og rest l m h =
+      let a = after (if-room (Room.normal-forms-fit room schema (scan-filter l)) (leaf og l)) (λ k. Room.step room schema rest (Optimizer.index-lookup schema og l)) m h in
+      step-same rest (Optimizer.index-lookup schema og l) m (a .second)
 
   pub lookup-same : (rest : ℕ) (n m : Node) → Room.IndexLookup room schema rest n ≡ done m → Optimizer.IndexLookup schema n ≡ m
   unfolding Room.IndexLookup Optimizer.IndexLookup
-  lookup-same rest (leaf l) m h = leaf-same rest l m h
-  lookup-same rest (over o source) m h =
-      let a = after (Room.IndexLookup room schema (rest + over-size o) source) (λ s. done (over o s)) m h in
-      ap (over o) (lookup-same (rest + over-size o) source (a .of) (a .first)) ∙ done-same (a .second)
-  lookup-same rest (join outer j left right) m h =
+  lookup-same rest (leaf og l) m h = leaf-same og rest l m h
+  lookup-same rest (over og o source) m h =
+      let a = after (Room.IndexLookup room schema (rest + over-size o) source) (λ s. done (over og o s)) m h in
+      ap (over og o) (lookup-same (rest + over-size o) source (a .of) (a .first)) ∙ done-same (a .second)
+  lookup-same rest (join og outer j left right) m h =
       let on-left = rest + (node-size right + join-size j) in
       let a = after (Room.IndexLookup room schema on-left left)
-      (λ l. Room.IndexLookup room schema (rest + (node-size l + join-size j)) right >>= λ r. done (join outer j l r)) m h in
+      (λ l. Room.IndexLookup room schema (rest + (node-size l + join-size j)) right >>= λ r. done (join og outer j l r)) m h in
       let on-right = rest + (node-size (a .of) + join-size j) in
-      let b = after (Room.IndexLookup room schema on-right right) (λ r. done (join outer j (a .of) r)) m (a .second) in
-      ap₂ (join outer j) (lookup-same on-left left (a .of) (a .first)) (lookup-same on-right right (b .of) (b .first)) ∙ done-same (b .second)
+      let b = after (Room.IndexLookup room schema on-right right) (λ r. done (join og outer j (a .of) r)) m (a .second) in
+      ap₂ (join og outer j) (lookup-same on-left left (a .of) (a .first)) (lookup-same on-right right (b .of) (b .first)) ∙ done-same (b .second)
 
   -- ---- ShortCircuit
 
@@ -116,18 +116,18 @@ module _ (room : ℕ) (schema : Schema) where
 
   pub circuit-same : (rest : ℕ) (n m : Node) → Room.ShortCircuit room schema rest n ≡ done m → Optimizer.ShortCircuit schema n ≡ m
   unfolding Room.ShortCircuit
-  circuit-same rest (leaf l) m h = one-same rest (leaf l) m h
-  circuit-same rest (over o source) m h =
-      let a = after (Room.ShortCircuit room schema (rest + over-size o) source) (λ s. Room.short-circuit room schema rest (over o s)) m h in
-      ap (λ z. Optimizer.short-circuit schema (over o z)) (circuit-same (rest + over-size o) source (a .of) (a .first)) ∙ one-same rest (over o (a .of)) m (a .second)
-  circuit-same rest (join outer j left right) m h =
+  circuit-same rest (leaf og l) m h = one-same rest (leaf og l) m h
+  circuit-same rest (over og o source) m h =
+      let a = after (Room.ShortCircuit room schema (rest + over-size o) source) (λ s. Room.short-circuit room schema rest (over og o s)) m h in
+      ap (λ z. Optimizer.short-circuit schema (over og o z)) (circuit-same (rest + over-size o) source (a .of) (a .first)) ∙ one-same rest (over og o (a .of)) m (a .second)
+  circuit-same rest (join og outer j left right) m h =
       let on-left = rest + (node-size right + join-size j) in
       let a = after (Room.ShortCircuit room schema on-left left)
-      (λ l. Room.ShortCircuit room schema (rest + (node-size l + join-size j)) right >>= λ r. Room.short-circuit room schema rest (join outer j l r)) m h in
+      (λ l. Room.ShortCircuit room schema (rest + (node-size l + join-size j)) right >>= λ r. Room.short-circuit room schema rest (join og outer j l r)) m h in
       let on-right = rest + (node-size (a .of) + join-size j) in
-      let b = after (Room.ShortCircuit room schema on-right right) (λ r. Room.short-circuit room schema rest (join outer j (a .of) r)) m (a .second) in
-      ap₂ (λ x y. Optimizer.short-circuit schema (join outer j x y)) (circuit-same on-left left (a .of) (a .first)) (circuit-same on-right right (b .of) (b .first))
-      ∙ one-same rest (join outer j (a .of) (b .of)) m (b .second)
+      let b = after (Room.ShortCircuit room schema on-right right) (λ r. Room.short-circuit room schema rest (join og outer j (a .of) r)) m (a .second) in
+      ap₂ (λ x y. Optimizer.short-circuit schema (join og outer j x y)) (circuit-same on-left left (a .of) (a .first)) (circuit-same on-right right (b .of) (b .first))
+      ∙ one-same rest (join og outer j (a .of) (b .of)) m (b .second)
 
   -- ---- all of them
 

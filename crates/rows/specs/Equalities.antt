@@ -29,10 +29,10 @@ of-binary row (function f) l r = []
 
 -- And and Or evaluate both their sides, so an expression's every part is met.
 abbrev pub of-expression : Row → Expression → List Compared
-of-expression row (constant v) = []
-of-expression row (column c) = []
-of-expression row (unary o x) = of-expression row x
-of-expression row (binary o l r) = of-expression row l ++ (of-expression row r ++ of-binary row o l r)
+of-expression row (constant og v) = []
+of-expression row (column og c) = []
+of-expression row (unary og o x) = of-expression row x
+of-expression row (binary og o l r) = of-expression row l ++ (of-expression row r ++ of-binary row o l r)
 
 abbrev pub of-optional : Option Expression → Row → List Compared
 of-optional none row = []
@@ -40,7 +40,7 @@ of-optional (some e) row = of-expression row e
 
 abbrev pub of-join : Join → ℕ → Row → List Compared
 of-join (nested-loop predicate) n row = of-optional predicate row
-of-join (hash left-column right-column) n row = of-expression row (binary Equal (column left-column) (column (n + right-column)))
+of-join (hash left-column right-column) n row = of-expression row (binary 0 Equal (column 0 left-column) (column 0 (n + right-column)))
 
 abbrev pub of-list : List Expression → Row → List Compared
 of-list es row = flat-map (of-expression row) es
@@ -65,12 +65,12 @@ module _ (database : Database) where
   of-leaf (scan table alias predicate) = flat-map (of-optional predicate) (database .table-rows table)
   of-leaf (lookup access table alias constants) = []
   of-leaf (nothing labels) = []
-  of-leaf (values rows) = flat-map (λ es. of-list es []) rows
+  of-leaf (values rows) = flat-map (λ es. of-list (es .0) []) rows
 
   abbrev pub equalities : Node → List Compared
-  equalities (leaf l) = of-leaf l
-  equalities (over o source) = equalities source ++ in-rows (read database source) (of-over o)
-  equalities (join outer j left right) = equalities left ++ (equalities right ++
+  equalities (leaf og l) = of-leaf l
+  equalities (over og o source) = equalities source ++ in-rows (read database source) (of-over o)
+  equalities (join og outer j left right) = equalities left ++ (equalities right ++
       in-rows (read database left) (λ ls. in-rows (read database right) (λ rs.
       flat-map (of-join j (columns (database .schema) left)) (joined-rows ls rs))))
 

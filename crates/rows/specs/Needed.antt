@@ -49,7 +49,7 @@ numbers = record {
 
 -- #0 = 2 ^ 53 AND #0 = #1: the copied constant is compared with the Integer exactly, and the row is gone.
 abbrev kinds : Node
-kinds = join false (nested-loop (some (and (equals A (number 9007199254740992)) (equals A B)))) (leaf (scan 0 none none)) (leaf (scan 1 none none))
+kinds = join 0 false (nested-loop (some (and 0 (equals A (number 9007199254740992)) (equals A B)))) (leaf 0 (scan 0 none none)) (leaf 0 (scan 1 none none))
 
 pub kinds-before : read numbers kinds ≡ ok ((datum (float 0x4340000000000000) ∷ datum (integer (pos 9007199254740993)) ∷ []) ∷ [])
 unfolding compare-floats Ieee.eq Ieee.lt Ieee.ofInt Ieee.round Ieee.ofBits
@@ -66,7 +66,7 @@ kinds-differ = refl
 -- ---- No join is outer.
 
 abbrev outer : Node
-outer = join true (nested-loop (some (equals A (number 1)))) (leaf (scan 0 none none)) (leaf (scan 1 none none))
+outer = join 0 true (nested-loop (some (equals A (number 1)))) (leaf 0 (scan 0 none none)) (leaf 0 (scan 1 none none))
 
 pub outer-before : read numbers outer ≡ ok ((datum (float 0x4340000000000000) ∷ null ∷ []) ∷ [])
 unfolding compare-floats Ieee.eq Ieee.lt Ieee.ofInt Ieee.round Ieee.ofBits
@@ -80,7 +80,7 @@ outer-after = refl
 
 -- #0 = true fails at a number; the lookup that it becomes never fails.
 abbrev fails : Node
-fails = leaf (scan 0 none (some (equals A (constant (boolean true)))))
+fails = leaf 0 (scan 0 none (some (equals A (constant 0 (boolean true)))))
 
 pub fails-before : read numbers fails ≡ err mismatch
 fails-before = refl

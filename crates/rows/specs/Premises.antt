@@ -4,6 +4,6 @@ use Rattle.sql.specs.Plan.{Node, leaf, over, join}
 
 -- No join is outer.
 abbrev pub no-outer : Node → Bool
-no-outer (leaf l) = true
-no-outer (over o source) = no-outer source
-no-outer (join outer j left right) = not outer && (no-outer left && no-outer right)
+no-outer (leaf og l) = true
+no-outer (over og o source) = no-outer source
+no-outer (join og outer j left right) = not outer && (no-outer left && no-outer right)

@@ -8,10 +8,10 @@ use Rattle.value.specs.Value.{Truth, False, Unknown, True, Datum, Value, truth,
 use Rattle.value.specs.Comparison.{equal}
 use Rattle.value.specs.Undefined.{is-unknown, is-nan-datum}
 use Rattle.sql.specs.Schema.{Schema, table-of}
-use Rattle.sql.specs.Expression.{Expression, column, binary, Equal, Row, bind, evaluate}
+use Rattle.sql.specs.Expression.{Marked, Expression, column, binary, Equal, Row, bind, evaluate}
 use Rattle.sql.specs.Plan.{Label, Access, by-key, by-index, Leaf, scan, lookup, nothing, values, Other, limit, offset, order, projection, remap, aggregate, Over, filter, other, Join, nested-loop, hash, Node, leaf, over, join, columns, values-columns, remap-columns, remap-source, up-to}
 use Rattle.sql.specs.Optimizer.{cons-if, keep}
-use Rattle.rows.specs.Database.{Database}
+use Rattle.rows.specs.Database.{unmarked, unmarked-aggregate, Database}
 
 -- ---- lists of what may fail
 
@@ -45,7 +45,7 @@ optional-holds (some predicate) row = holds predicate row
 -- of a joined row, whose first n values are the left source's; HashJoin reads as the equality
 abbrev pub join-holds : Join → ℕ → Row → Result Bool
 join-holds (nested-loop predicate) n row = optional-holds predicate row
-join-holds (hash left-column right-column) n row = holds (binary Equal (column left-column) (column (n + right-column))) row
+join-holds (hash left-column right-column) n row = holds (binary 0 Equal (column 0 left-column) (column 0 (n + right-column))) row
 
 -- Left row by left row, in the right source's order inside.
 abbrev pub joined-rows : List Row → List Row → List Row
@@ -87,8 +87,8 @@ abbrev pub any : {A : Type 0} → (A → Bool) → List A → Bool
 any f [] = false
 any f (x ∷ xs) = f x || any f xs
 
-abbrev pub looked-up : ℕ → List Value → Row → Bool
-looked-up c constants row = any (λ constant. takes constant (getD row c null)) constants
+abbrev pub looked-up : ℕ → List (Marked Value) → Row → Bool
+looked-up c constants row = any (λ constant. takes (constant .0) (getD row c null)) constants
 
 abbrev pub lookup-column : Schema → ℕ → Access → ℕ
 lookup-column schema table by-key = table-of schema table .primary-key
@@ -105,8 +105,8 @@ fit zero row = []
 fit (suc n) [] = null ∷ fit n []
 fit (suc n) (v ∷ row) = v ∷ fit n row
 
-abbrev pub values-row : ℕ → List Expression → Result Row
-values-row n es = bind (evaluate-all es []) (λ row. ok (fit n row))
+abbrev pub values-row : ℕ → Marked (List Expression) → Result Row
+values-row n es = bind (evaluate-all (es .0) []) (λ row. ok (fit n row))
 
 -- row number i, if there is one
 abbrev pub pick : ℕ → List Row → List Row
@@ -123,13 +123,13 @@ abbrev pub optional-value : Row → Option ℕ → Value
 optional-value row none = null
 optional-value row (some i) = getD row i null
 
-abbrev pub remap-row : List (Option ℕ) → Row → Row
+abbrev pub remap-row : List (Marked (Option ℕ)) → Row → Row
 remap-row targets row = map (λ to. optional-value row (remap-source 0 targets to)) (up-to 0 (remap-columns targets))
 
-abbrev pub expressions : {A : Type 0} → List (Expression × A) → List Expression
+abbrev pub expressions : {A : Type 0} → List (Expression × A × ℕ) → List Expression
 expressions items = map (λ item. item .0) items
 
-abbrev pub directions : List (Expression × Bool) → List Bool
+abbrev pub directions : List (Expression × Bool × ℕ) → List Bool
 directions key = map (λ k. k .1) key
 
 module _ (database : Database) where
@@ -149,12 +149,12 @@ module _ (database : Database) where
       bind (each (evaluate-all (expressions key)) rows) (λ keys. ok (pick-all (database .arrangement (directions key) keys) rows))
   read-over (other (projection items)) rows = each (evaluate-all (expressions items)) rows
   read-over (other (remap targets)) rows = ok (map (remap-row targets) rows)
-  read-over (other (aggregate group-by aggregates)) rows = ok (database .aggregated group-by aggregates rows)
+  read-over (other (aggregate group-by aggregates)) rows = ok (database .aggregated (map unmarked group-by) (map unmarked-aggregate aggregates) rows)
 
   -- All sources are read whole.
   abbrev pub read : Node → Result (List Row)
-  read (leaf l) = read-leaf l
-  read (over o source) = bind (read source) (read-over o)
-  read (join outer j left right) =
+  read (leaf og l) = read-leaf l
+  read (over og o source) = bind (read source) (read-over o)
+  read (join og outer j left right) =
       bind (read left) (λ ls. bind (read right) (λ rs.
       read-join outer (join-holds j (columns (database .schema) left)) (columns (database .schema) right) ls rs))

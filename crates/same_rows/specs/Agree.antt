@@ -55,11 +55,11 @@ one-kind-right xs ys h = and-right (all of-one-kind xs) (all of-one-kind ys) (sy
 -- ---- values
 
 abbrev shape : Expression → Shape
-shape (constant v) = no-column
-shape (column c) = even-nots
-shape (unary Not x) = turn (shape x)
-shape (unary (function f) x) = no-column
-shape (binary o l r) = no-column
+shape (constant og v) = no-column
+shape (column og c) = even-nots
+shape (unary og Not x) = turn (shape x)
+shape (unary og (function f) x) = no-column
+shape (binary og o l r) = no-column
 
 plain-from : (v : Value) → plain (from-value v) ≡ ok v
 plain-from (truth t) = refl
@@ -130,23 +130,23 @@ not-no-datum (truth t) d h = let z : truth (Logic.not t) ≡ datum d = ok-same h
 not-no-datum (datum g) d h = no-value h
 
 even-column : (row : Row) (e : Expression) (d : Datum) → evaluate row e ≡ ok (datum d) → is-even (shape e) ≡ is-some (is-column e)
-even-column row (constant v) d h = refl
-even-column row (column c) d h = refl
-even-column row (unary Not x) d h = let c = came (evaluate row x) logical-not (datum d) h in not-no-datum (c .of) d (c .second)
-even-column row (unary (function f) x) d h = refl
-even-column row (binary o l r) d h = refl
+even-column row (constant og v) d h = refl
+even-column row (column og c) d h = refl
+even-column row (unary og Not x) d h = let c = came (evaluate row x) logical-not (datum d) h in not-no-datum (c .of) d (c .second)
+even-column row (unary og (function f) x) d h = refl
+even-column row (binary og o l r) d h = refl
 
 data-agree : (row : Row) (l r : Expression) (f g : Datum) (v : Value) → evaluate row l ≡ ok (datum f) → evaluate row r ≡ ok (datum g)
     → OneKind (of-columns row (is-column l) (is-column r)) → answer is-equal (compare f g) ≡ ok v
     → known (found ((is-some (is-column l) && is-some (is-column r)) && mixed f g) (compare f g)) ≡ from-value v
-data-agree row (constant u) r f g v i j k h = answer-agrees (compare f g) v h
-data-agree row (column c) (constant u) f g v i j k h = answer-agrees (compare f g) v h
-data-agree row (column c) (column d) f g v i j k h =
+data-agree row (constant og u) r f g v i j k h = answer-agrees (compare f g) v h
+data-agree row (column og c) (constant og′ u) f g v i j k h = answer-agrees (compare f g) v h
+data-agree row (column og c) (column og′ d) f g v i j k h =
     columns-agree f g v (rw (ok-same i, ok-same j) at (and-left (of-one-kind (getD row c null, getD row d null)) true k)) h
-data-agree row (column c) (unary o x) f g v i j k h = answer-agrees (compare f g) v h
-data-agree row (column c) (binary o x y) f g v i j k h = answer-agrees (compare f g) v h
-data-agree row (unary o x) r f g v i j k h = answer-agrees (compare f g) v h
-data-agree row (binary o x y) r f g v i j k h = answer-agrees (compare f g) v h
+data-agree row (column og c) (unary og′ o x) f g v i j k h = answer-agrees (compare f g) v h
+data-agree row (column og c) (binary og′ o x y) f g v i j k h = answer-agrees (compare f g) v h
+data-agree row (unary og o x) r f g v i j k h = answer-agrees (compare f g) v h
+data-agree row (binary og o x y) r f g v i j k h = answer-agrees (compare f g) v h
 
 equal-agrees : (row : Row) (l r : Expression) (a b v : Value) → evaluate row l ≡ ok a → evaluate row r ≡ ok b → OneKind (of-columns row (is-column l) (is-column r)) → equal a b ≡ ok v
     → known (equal-totals (is-even (shape l) && is-even (shape r)) (from-value a) (from-value b)) ≡ from-value v
@@ -164,15 +164,15 @@ module _ (row : Row) where
   binary-agrees (function f) l r a b v i j k h = function2-agrees f (shape l) (shape r) a b v h
 
   value-agrees : (e : Expression) (v : Value) → evaluate row e ≡ ok v → OneKind (of-expression row e) → total (at row) e ≡ valued (shape e) (from-value v)
-  value-agrees (constant u) v h k = ap (λ z. valued no-column (from-value z)) (ok-same h)
-  value-agrees (column c) v h k = ap (λ z. valued even-nots (from-value z)) (ok-same h)
-  value-agrees (unary Not x) v h k =
+  value-agrees (constant og u) v h k = ap (λ z. valued no-column (from-value z)) (ok-same h)
+  value-agrees (column og c) v h k = ap (λ z. valued even-nots (from-value z)) (ok-same h)
+  value-agrees (unary og Not x) v h k =
       let c = came (evaluate row x) logical-not v h in
       ap (total-unary Not) (value-agrees x (c .of) (c .first) k) ∙ not-agrees (shape x) (c .of) v (c .second)
-  value-agrees (unary (function f) x) v h k =
+  value-agrees (unary og (function f) x) v h k =
       let c = came (evaluate row x) (evaluate-unary (function f)) v h in
       ap (total-unary (function f)) (value-agrees x (c .of) (c .first) k) ∙ function1-agrees f (shape x) (c .of) v (c .second)
-  value-agrees (binary o l r) v h k =
+  value-agrees (binary og o l r) v h k =
       let c = came (evaluate row l) (λ x. bind (evaluate row r) (evaluate-binary o x)) v h in
       let d = came (evaluate row r) (evaluate-binary o (c .of)) v (c .second) in
       let m = one-kind-right (of-expression row l) (of-expression row r ++ of-binary row o l r) k in
@@ -204,7 +204,7 @@ optional-same (some e) row b h k = holds-same e row b h k
 
 join-same : (j : Join) (n : ℕ) (row : Row) (b : Bool) → join-holds j n row ≡ ok b → OneKind (of-join j n row) → join-true j n row ≡ b
 join-same (nested-loop o) n row b h k = optional-same o row b h k
-join-same (hash x y) n row b h k = holds-same (binary Equal (column x) (column (n + y))) row b h k
+join-same (hash x y) n row b h k = holds-same (binary 0 Equal (column 0 x) (column 0 (n + y))) row b h k
 
 each-same : {A B : Type 0} (f : A → Result B) (g : A → B) (c : A → List Compared) → ((x : A) (y : B) → f x ≡ ok y → OneKind (c x) → g x ≡ y)
     → (xs : List A) (ys : List B) → each f xs ≡ ok ys → OneKind (flat-map c xs) → map g xs ≡ ys
@@ -225,9 +225,9 @@ keep-each-same f g c k (x ∷ xs) ys h m =
 list-same : (es : List Expression) (row those : Row) → evaluate-all es row ≡ ok those → OneKind (of-list es row) → values-at es row ≡ those
 list-same es row those h k = each-same (evaluate row) (value-at (at row)) (of-expression row) (value-same row) es those h k
 
-values-same : (n : ℕ) (es : List Expression) (row : Row) → values-row n es ≡ ok row → OneKind (of-list es []) → fit n (values-at es []) ≡ row
+values-same : (n : ℕ) (es : List Expression × ℕ) (row : Row) → values-row n es ≡ ok row → OneKind (of-list (es .0) []) → fit n (values-at (es .0) []) ≡ row
 values-same n es row h k =
-    let c = came (evaluate-all es []) (λ z. ok (fit n z)) row h in ap (fit n) (list-same es [] (c .of) (c .first) k) ∙ ok-same (c .second)
+    let c = came (evaluate-all (es .0) []) (λ z. ok (fit n z)) row h in ap (fit n) (list-same (es .0) [] (c .of) (c .first) k) ∙ ok-same (c .second)
 
 one-kind-in : (r : Result (List Row)) (f : List Row → List Compared) (rows : List Row) → r ≡ ok rows → OneKind (in-rows r f) → OneKind (f rows)
 one-kind-in r f rows h m = rw h at m
@@ -238,7 +238,7 @@ module _ (database : Database) where
   leaf-same (lookup access table alias constants) rows h m = ok-same h
   leaf-same (nothing labels) rows h m = ok-same h
   leaf-same (values es) rows h m =
-      each-same (values-row (values-columns es)) (λ e. fit (values-columns es) (values-at e [])) (λ e. of-list e []) (values-same (values-columns es)) es rows h m
+      each-same (values-row (values-columns es)) (λ e. fit (values-columns es) (values-at (e .0) [])) (λ e. of-list (e .0) []) (values-same (values-columns es)) es rows h m
 
   over-same : (o : Over) (n : ℕ) (source rows : List Row) → read-over database o source ≡ ok rows → OneKind (of-over o source) → total-over database o (n, source) .1 ≡ rows
   over-same (filter p) n source rows h m = keep-each-same (holds p) (λ row. true-at (at row) p) (λ row. of-expression row p) (holds-same p) source rows h m
@@ -258,15 +258,15 @@ module _ (database : Database) where
   total-over-rows o t rows h = ap (λ z. total-over database o (t .0, z) .1) h
 
   pub read-same : (n : Node) → no-outer n ≡ true → (rows : List Row) → read database n ≡ ok rows → OneKind (equalities database n) → total-table database n .1 ≡ rows
-  read-same (leaf l) i rows h m = leaf-same l rows h m
-  read-same (over o source) i rows h m =
+  read-same (leaf og l) i rows h m = leaf-same l rows h m
+  read-same (over og o source) i rows h m =
       let c = came (read database source) (read-over database o) rows h in
       let here = in-rows (read database source) (of-over o) in
       total-over-rows o (total-table database source) (c .of) (read-same source i (c .of) (c .first) (one-kind-left (equalities database source) here m))
       ∙ over-same o (total-table database source .0) (c .of) rows (c .second)
       (one-kind-in (read database source) (of-over o) (c .of) (c .first) (one-kind-right (equalities database source) here m))
-  read-same (join true j left right) i rows h m = false≢true i
-  read-same (join false j left right) i rows h m =
+  read-same (join og true j left right) i rows h m = false≢true i
+  read-same (join og false j left right) i rows h m =
       let n = columns (database .schema) left in
       let on : List Row → List Row → Result (List Row) = λ ls rs. keep-each (join-holds j n) (joined-rows ls rs) in
       let met : List Row → List Row → List Compared = λ ls rs. flat-map (of-join j n) (joined-rows ls rs) in

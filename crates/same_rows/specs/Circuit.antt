@@ -6,10 +6,10 @@ use mathlib.Core.List.{List, [], _∷_, map}
 use mathlib.Core.Option.{Option, none, some}
 use native.Mathlib.Omega.{arith}
 use lib.Dec.{eqb}
-use lib.ListN.{length, drop}
+use lib.ListN.{length-map, length, drop}
 use Rattle.value.specs.Value.{False, Unknown, True, Value, truth, datum}
-use Rattle.sql.specs.Expression.{Expression, constant, column, unary, binary, Row}
-use Rattle.sql.specs.Plan.{Label, Leaf, scan, lookup, nothing, values, Other, limit, offset, order, projection, remap, aggregate, Over, filter, other, Join, nested-loop, hash, Node, leaf, over, join, columns}
+use Rattle.sql.specs.Expression.{origin, Expression, constant, column, unary, binary, Row}
+use Rattle.sql.specs.Plan.{Label, Leaf, scan, lookup, nothing, values, Other, limit, offset, order, projection, remap, aggregate, Over, filter, other, Join, nested-loop, hash, Node, leaf, over, join, columns, node-origin, column-labels}
 use Rattle.sql.specs.Optimizer.{keep, Verdict, always, never, unknown, verdict, optional-verdict, is-always, is-never, remove-true, is-unlabelled, is-column-number, pass-through, is-empty-list, is-nothing, is-empty-other, is-empty-join, is-empty, is-noop, remove-useless, empty-or-node, short-circuit, ShortCircuit}
 use Rattle.rows.specs.Database.{Wide, no-rows, and-row, Database}
 use Rattle.rows.specs.Reading.{joined-rows, looked-up, lookup-column, pick-all, expressions, directions}
@@ -21,22 +21,22 @@ use Rattle.same_rows.specs.Split.{keep-same, keep-all}
 -- ---- constant predicates
 
 always-true : (p : Expression) → is-always (verdict p) ≡ true → (row : Columns) → true-at row p ≡ true
-always-true (constant (truth True)) h row = refl
-always-true (constant (truth Unknown)) h row = false≢true h
-always-true (constant (truth False)) h row = false≢true h
-always-true (constant (datum d)) h row = false≢true h
-always-true (column c) h row = false≢true h
-always-true (unary o x) h row = false≢true h
-always-true (binary o l r) h row = false≢true h
+always-true (constant og (truth True)) h row = refl
+always-true (constant og (truth Unknown)) h row = false≢true h
+always-true (constant og (truth False)) h row = false≢true h
+always-true (constant og (datum d)) h row = false≢true h
+always-true (column og c) h row = false≢true h
+always-true (unary og o x) h row = false≢true h
+always-true (binary og o l r) h row = false≢true h
 
 never-true : (p : Expression) → is-never (verdict p) ≡ true → (row : Columns) → true-at row p ≡ false
-never-true (constant (truth True)) h row = false≢true h
-never-true (constant (truth Unknown)) h row = refl
-never-true (constant (truth False)) h row = refl
-never-true (constant (datum d)) h row = false≢true h
-never-true (column c) h row = false≢true h
-never-true (unary o x) h row = false≢true h
-never-true (binary o l r) h row = false≢true h
+never-true (constant og (truth True)) h row = false≢true h
+never-true (constant og (truth Unknown)) h row = refl
+never-true (constant og (truth False)) h row = refl
+never-true (constant og (datum d)) h row = false≢true h
+never-true (column og c) h row = false≢true h
+never-true (unary og o x) h row = false≢true h
+never-true (binary og o l r) h row = false≢true h
 
 optional-never : (p : Option Expression) → is-never (optional-verdict p) ≡ true → (row : Columns) → optional-true-at row p ≡ false
 optional-never none h row = false≢true h
@@ -63,13 +63,13 @@ to-from : (v : Value) → to-value (from-value v) ≡ v
 to-from (truth t) = refl
 to-from (datum d) = refl
 
-is-that-column : (i : ℕ) (e : Expression) → is-column-number i e ≡ true → e ≡ column i
-is-that-column i (constant v) h = false≢true h
-is-that-column i (column c) h = ap column (eqb-eq c i h)
-is-that-column i (unary o x) h = false≢true h
-is-that-column i (binary o l r) h = false≢true h
+is-that-column : (i : ℕ) (e : Expression) → is-column-number i e ≡ true → e ≡ column (origin e) i
+is-that-column i (constant og v) h = false≢true h
+is-that-column i (column og c) h = ap (column og) (eqb-eq c i h)
+is-that-column i (unary og o x) h = false≢true h
+is-that-column i (binary og o l r) h = false≢true h
 
-pass-through-row : (row : Columns) (i : ℕ) (items : List (Expression × Label)) (those : Row) → pass-through i items ≡ true → length those ≡ length items
+pass-through-row : (row : Columns) (i : ℕ) (items : List (Expression × Label × ℕ)) (those : Row) → pass-through i items ≡ true → length those ≡ length items
     → ((j : ℕ) → row (i + j) ≡ at those j) → map (value-at row) (expressions items) ≡ those
 pass-through-row row i [] [] h k g = refl
 pass-through-row row i [] (v ∷ those) h k g = absurd (omega arith)
@@ -82,7 +82,7 @@ pass-through-row row i (item ∷ items) (v ∷ those) h k g =
     (pass-through-row row (suc i) items those (and-right (is-column-number i (item .0) && is-unlabelled (item .1)) (pass-through (suc i) items) h) (omega arith)
     (λ j. ap row (let z : suc i + j ≡ i + suc j = omega arith in z) ∙ g (suc j)))
 
-pass-through-rows : (items : List (Expression × Label)) {n : ℕ} {rows : List Row} → Wide n rows → n ≡ length items → pass-through 0 items ≡ true
+pass-through-rows : (items : List (Expression × Label × ℕ)) {n : ℕ} {rows : List Row} → Wide n rows → n ≡ length items → pass-through 0 items ≡ true
     → map (values-at (expressions items)) rows ≡ rows
 pass-through-rows items no-rows h k = refl
 pass-through-rows items (and-row {row} w ws) h k =
@@ -113,47 +113,47 @@ empty-list (x ∷ xs) h = false≢true h
 module _ (database : Database) where
   -- ---- the first part
 
-  filter-if : (p : Expression) (source : Node) (b : Bool) → is-always (verdict p) ≡ b
-      → total-table database (cond b source (over (filter p) source)) ≡ total-table database (over (filter p) source)
-  filter-if p source true h =
+  filter-if : (og : ℕ) (p : Expression) (source : Node) (b : Bool) → is-always (verdict p) ≡ b
+      → total-table database (cond b source (over og (filter p) source)) ≡ total-table database (over og (filter p) source)
+  filter-if og p source true h =
       ap (λ z. (total-table database source .0, z)) (sym (keep-every (λ row. true-at (at row) p) (λ row. always-true p h (at row)) (total-table database source .1)))
-  filter-if p source false h = refl
+  filter-if og p source false h = refl
 
-  projection-if : (items : List (Expression × Label)) (source : Node) (b : Bool) → is-noop (database .schema) items source ≡ b
-      → total-table database (cond b source (over (other (projection items)) source)) ≡ total-table database (over (other (projection items)) source)
-  projection-if items source true h =
+  projection-if : (og : ℕ) (items : List (Expression × Label × ℕ)) (source : Node) (b : Bool) → is-noop (database .schema) items source ≡ b
+      → total-table database (cond b source (over og (other (projection items)) source)) ≡ total-table database (over og (other (projection items)) source)
+  projection-if og items source true h =
       let same-width = eqb (columns (database .schema) source) (length items) in
       let w = total-columns database source ∙ eqb-eq (columns (database .schema) source) (length items) (and-left same-width (pass-through 0 items) h) in
       ap₂ {C = Table} (λ x y. (x, y)) w (sym (pass-through-rows items (wide database source) w (and-right same-width (pass-through 0 items) h)))
-  projection-if items source false h = refl
+  projection-if og items source false h = refl
 
   useless-table : (n : Node) → total-table database (remove-useless (database .schema) n) ≡ total-table database n
-  useless-table (leaf (scan table alias p)) = ap (λ z. (total-table database (leaf (scan table alias p)) .0, z))
+  useless-table (leaf og (scan table alias p)) = ap (λ z. (total-table database (leaf og (scan table alias p)) .0, z))
       (keep-same (λ row. optional-true-at (at row) (remove-true p)) (λ row. optional-true-at (at row) p) (λ row. remove-true-same p (at row)) (database .table-rows table))
-  useless-table (leaf (lookup access table alias constants)) = refl
-  useless-table (leaf (nothing labels)) = refl
-  useless-table (leaf (values rows)) = refl
-  useless-table (over (filter p) source) = filter-if p source (is-always (verdict p)) refl
-  useless-table (over (other (limit amount)) source) = refl
-  useless-table (over (other (offset amount)) source) = refl
-  useless-table (over (other (order key)) source) = refl
-  useless-table (over (other (projection items)) source) = projection-if items source (is-noop (database .schema) items source) refl
-  useless-table (over (other (remap targets)) source) = refl
-  useless-table (over (other (aggregate group-by aggregates)) source) = refl
-  useless-table (join outer (nested-loop p) left right) = ap (λ z. (total-table database left .0 + total-table database right .0, z))
+  useless-table (leaf og (lookup access table alias constants)) = refl
+  useless-table (leaf og (nothing labels)) = refl
+  useless-table (leaf og (values rows)) = refl
+  useless-table (over og (filter p) source) = filter-if og p source (is-always (verdict p)) refl
+  useless-table (over og (other (limit amount)) source) = refl
+  useless-table (over og (other (offset amount)) source) = refl
+  useless-table (over og (other (order key)) source) = refl
+  useless-table (over og (other (projection items)) source) = projection-if og items source (is-noop (database .schema) items source) refl
+  useless-table (over og (other (remap targets)) source) = refl
+  useless-table (over og (other (aggregate group-by aggregates)) source) = refl
+  useless-table (join og outer (nested-loop p) left right) = ap (λ z. (total-table database left .0 + total-table database right .0, z))
       (keep-same (λ row. optional-true-at (at row) (remove-true p)) (λ row. optional-true-at (at row) p) (λ row. remove-true-same p (at row))
       (joined-rows (total-table database left .1) (total-table database right .1)))
-  useless-table (join outer (hash a b) left right) = refl
+  useless-table (join og outer (hash a b) left right) = refl
 
   -- ---- emptied nodes
 
   nothing-rows : (n : Node) → is-nothing n ≡ true → total-table database n .1 ≡ []
-  nothing-rows (leaf (scan table alias p)) h = false≢true h
-  nothing-rows (leaf (lookup access table alias constants)) h = false≢true h
-  nothing-rows (leaf (nothing labels)) h = refl
-  nothing-rows (leaf (values rows)) h = false≢true h
-  nothing-rows (over o source) h = false≢true h
-  nothing-rows (join outer j left right) h = false≢true h
+  nothing-rows (leaf og (scan table alias p)) h = false≢true h
+  nothing-rows (leaf og (lookup access table alias constants)) h = false≢true h
+  nothing-rows (leaf og (nothing labels)) h = refl
+  nothing-rows (leaf og (values rows)) h = false≢true h
+  nothing-rows (over og o source) h = false≢true h
+  nothing-rows (join og outer j left right) h = false≢true h
 
   empty-other : (o : Other) (source : Node) → is-empty-other o (is-nothing source) ≡ true → total-other database o (total-table database source .1) ≡ []
   empty-other (limit zero) source h = refl
@@ -169,17 +169,17 @@ module _ (database : Database) where
   empty-join (hash a b) n rows h = false≢true h
 
   empty-rows : (n : Node) → is-empty n ≡ true → total-table database n .1 ≡ []
-  empty-rows (leaf (scan table alias p)) h = keep-none (λ row. optional-true-at (at row) p) (λ row. optional-never p h (at row)) (database .table-rows table)
-  empty-rows (leaf (lookup access table alias constants)) h =
+  empty-rows (leaf og (scan table alias p)) h = keep-none (λ row. optional-true-at (at row) p) (λ row. optional-never p h (at row)) (database .table-rows table)
+  empty-rows (leaf og (lookup access table alias constants)) h =
       let c = lookup-column (database .schema) table access in
       keep-none (looked-up c constants) (λ row. ap (λ z. looked-up c z row) (empty-list constants h)) (database .table-rows table)
-  empty-rows (leaf (nothing labels)) h = refl
-  empty-rows (leaf (values rows)) h = ap (λ z. total-table database (leaf (values z)) .1) (empty-list rows h)
-  empty-rows (over (filter p) source) h = either-way (is-never (verdict p)) (is-nothing source) h
+  empty-rows (leaf og (nothing labels)) h = refl
+  empty-rows (leaf og (values rows)) h = ap (λ z. total-table database (leaf og (values z)) .1) (empty-list rows h)
+  empty-rows (over og (filter p) source) h = either-way (is-never (verdict p)) (is-nothing source) h
       (λ k. keep-none (λ row. true-at (at row) p) (λ row. never-true p k (at row)) (total-table database source .1))
       (λ k. ap (keep (λ row. true-at (at row) p)) (nothing-rows source k))
-  empty-rows (over (other o) source) h = empty-other o source h
-  empty-rows (join outer j left right) h = either-way (is-empty-join j) (is-nothing left || is-nothing right) h
+  empty-rows (over og (other o) source) h = empty-other o source h
+  empty-rows (join og outer j left right) h = either-way (is-empty-join j) (is-nothing left || is-nothing right) h
       (λ k. empty-join j (total-table database left .0) (joined-rows (total-table database left .1) (total-table database right .1)) k)
       (λ k. either-way (is-nothing left) (is-nothing right) k
       (λ i. ap (λ z. keep (join-true j (total-table database left .0)) (joined-rows z (total-table database right .1))) (nothing-rows left i))
@@ -187,7 +187,7 @@ module _ (database : Database) where
       ∙ ap (keep (join-true j (total-table database left .0))) (joined-none (total-table database left .1))))
 
   empty-table : (b : Bool) (n : Node) → is-empty n ≡ b → total-table database (empty-or-node (database .schema) b n) ≡ total-table database n
-  empty-table true n h = ap₂ {C = Table} (λ x y. (x, y)) (length-labels (database .schema) n ∙ sym (total-columns database n)) (sym (empty-rows n h))
+  empty-table true n h = ap₂ {C = Table} (λ x y. (x, y)) (length-map (column-labels (database .schema) n) (λ (l : Label). (l, node-origin n)) ∙ length-labels (database .schema) n ∙ sym (total-columns database n)) (sym (empty-rows n h))
   empty-table false n h = refl
 
   one-table : (n : Node) → total-table database (short-circuit (database .schema) n) ≡ total-table database n
@@ -195,7 +195,7 @@ module _ (database : Database) where
       empty-table (is-empty (remove-useless (database .schema) n)) (remove-useless (database .schema) n) refl ∙ useless-table n
 
   pub circuit-table : (n : Node) → total-table database (ShortCircuit (database .schema) n) ≡ total-table database n
-  circuit-table (leaf l) = one-table (leaf l)
-  circuit-table (over o source) = one-table (over o (ShortCircuit (database .schema) source)) ∙ ap (total-over database o) (circuit-table source)
-  circuit-table (join outer j left right) =
-      one-table (join outer j (ShortCircuit (database .schema) left) (ShortCircuit (database .schema) right)) ∙ ap₂ (total-join j) (circuit-table left) (circuit-table right)
+  circuit-table (leaf og l) = one-table (leaf og l)
+  circuit-table (over og o source) = one-table (over og o (ShortCircuit (database .schema) source)) ∙ ap (total-over database o) (circuit-table source)
+  circuit-table (join og outer j left right) =
+      one-table (join og outer j (ShortCircuit (database .schema) left) (ShortCircuit (database .schema) right)) ∙ ap₂ (total-join j) (circuit-table left) (circuit-table right)

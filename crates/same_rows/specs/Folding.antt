@@ -8,7 +8,7 @@ use native.Mathlib.Omega.{arith}
 use lib.ListN.{length, take, drop}
 use Rattle.value.specs.Value.{Truth, False, Unknown, True, Datum, Value, truth, datum, Result, ok, err}
 use Rattle.sql.specs.Schema.{Schema}
-use Rattle.sql.specs.Expression.{Logical, And, Or, Unary, Binary, logical, Equal, function, Expression, constant, column, unary, binary, Row, size, bind, evaluate-unary, evaluate-binary, evaluate, contains-column}
+use Rattle.sql.specs.Expression.{origin, Logical, And, Or, Unary, Binary, logical, Equal, function, Expression, constant, column, unary, binary, Row, size, bind, evaluate-unary, evaluate-binary, evaluate, contains-column}
 use Rattle.sql.specs.Plan.{Label, Leaf, scan, lookup, nothing, values, Other, limit, offset, order, projection, remap, aggregate, Over, filter, other, Join, nested-loop, hash, Node, leaf, over, join, leaf-columns, other-columns, values-columns, columns, row-size, key-size, item-size, node-size}
 use Rattle.sql.specs.Answer.{Answer, done, refused, _>>=_, at-place}
 use Rattle.sql.specs.Optimizer.{cons-if, Operand, deciding, neutral, undetermined, truth-operand, operand, decided, simplify-logical, simplify, fold-by, fold, fold-expression, fold-each, fold-optional, fold-row, fold-part, fold-leaf, fold-over, fold-join, ConstantFolding}
@@ -23,10 +23,10 @@ use Rattle.same_rows.specs.Agree.{no-value, ok-same, Came, came}
 -- ---- an expression without columns has one value
 
 still : (row those : Row) (e : Expression) → contains-column (λ c. true) e ≡ false → evaluate row e ≡ evaluate those e
-still row those (constant v) h = refl
-still row those (column c) h = false≢true (sym h)
-still row those (unary o x) h = ap (λ z. bind z (evaluate-unary o)) (still row those x h)
-still row those (binary o l r) h =
+still row those (constant og v) h = refl
+still row those (column og c) h = false≢true (sym h)
+still row those (unary og o x) h = ap (λ z. bind z (evaluate-unary o)) (still row those x h)
+still row those (binary og o l r) h =
     let in-l = contains-column (λ c. true) l in
     let in-r = contains-column (λ c. true) r in
     ap₂ (λ x y. bind x (λ a. bind y (evaluate-binary o a))) (still row those l (or-left in-l in-r h)) (still row those r (or-right in-l in-r h))
@@ -37,11 +37,11 @@ logical-value : (o : Logical) (a b : Truth) → evaluate-binary (logical o) (tru
 logical-value And a b = refl
 logical-value Or a b = refl
 
-module _ (o : Logical) (a b : Truth) (l r : Expression) (row : Row) (left : evaluate row l ≡ ok (truth a)) (right : evaluate row r ≡ ok (truth b)) where
+module _ (og : ℕ) (o : Logical) (a b : Truth) (l r : Expression) (row : Row) (left : evaluate row l ≡ ok (truth a)) (right : evaluate row r ≡ ok (truth b)) where
   simplified : (s t : Operand)
       → (s ≡ deciding → table o a b ≡ decided o) → (t ≡ deciding → table o a b ≡ decided o)
       → (s ≡ neutral → table o a b ≡ b) → (t ≡ neutral → table o a b ≡ a)
-      → evaluate row (simplify-logical o s t l r) ≡ ok (truth (table o a b))
+      → evaluate row (simplify-logical og o s t l r) ≡ ok (truth (table o a b))
   simplified deciding t dl dr nl nr = ap (λ z. ok (truth z)) (sym (dl refl))
   simplified neutral deciding dl dr nl nr = ap (λ z. ok (truth z)) (sym (dr refl))
   simplified neutral neutral dl dr nl nr = right ∙ ap (λ z. ok (truth z)) (sym (nl refl))
@@ -83,18 +83,18 @@ truth-same : {a b : Truth} → _≡_ {A = Result Value} (ok (truth a)) (ok (trut
 truth-same h = cc
 
 operand-decides : (o : Logical) (e : Expression) (a : Truth) (row : Row) → evaluate row e ≡ ok (truth a) → operand o e ≡ deciding → a ≡ decided o
-operand-decides o (constant (truth t)) a row i h = sym (truth-same i) ∙ truth-decides o t h
-operand-decides o (constant (datum d)) a row i h = undetermined≢deciding h
-operand-decides o (column c) a row i h = undetermined≢deciding h
-operand-decides o (unary p x) a row i h = undetermined≢deciding h
-operand-decides o (binary p x y) a row i h = undetermined≢deciding h
+operand-decides o (constant og (truth t)) a row i h = sym (truth-same i) ∙ truth-decides o t h
+operand-decides o (constant og (datum d)) a row i h = undetermined≢deciding h
+operand-decides o (column og c) a row i h = undetermined≢deciding h
+operand-decides o (unary og p x) a row i h = undetermined≢deciding h
+operand-decides o (binary og p x y) a row i h = undetermined≢deciding h
 
 operand-neutral : (o : Logical) (e : Expression) (a : Truth) (row : Row) → evaluate row e ≡ ok (truth a) → operand o e ≡ neutral → a ≡ neutral-truth o
-operand-neutral o (constant (truth t)) a row i h = sym (truth-same i) ∙ truth-neutral o t h
-operand-neutral o (constant (datum d)) a row i h = undetermined≢neutral h
-operand-neutral o (column c) a row i h = undetermined≢neutral h
-operand-neutral o (unary p x) a row i h = undetermined≢neutral h
-operand-neutral o (binary p x y) a row i h = undetermined≢neutral h
+operand-neutral o (constant og (truth t)) a row i h = sym (truth-same i) ∙ truth-neutral o t h
+operand-neutral o (constant og (datum d)) a row i h = undetermined≢neutral h
+operand-neutral o (column og c) a row i h = undetermined≢neutral h
+operand-neutral o (unary og p x) a row i h = undetermined≢neutral h
+operand-neutral o (binary og p x y) a row i h = undetermined≢neutral h
 
 decided-left : (o : Logical) (b : Truth) → table o (decided o) b ≡ decided o
 decided-left And b = refl
@@ -120,34 +120,34 @@ neutral-right Or False = refl
 neutral-right Or Unknown = refl
 neutral-right Or True = refl
 
-simplify-truths : (o : Logical) (l r : Expression) (row : Row) (a b : Truth) (v : Value) → evaluate row l ≡ ok (truth a) → evaluate row r ≡ ok (truth b)
-    → evaluate-binary (logical o) (truth a) (truth b) ≡ ok v → evaluate row (simplify-logical o (operand o l) (operand o r) l r) ≡ ok v
-simplify-truths o l r row a b v i j h =
-    simplified o a b l r row i j (operand o l) (operand o r)
+simplify-truths : (og : ℕ) (o : Logical) (l r : Expression) (row : Row) (a b : Truth) (v : Value) → evaluate row l ≡ ok (truth a) → evaluate row r ≡ ok (truth b)
+    → evaluate-binary (logical o) (truth a) (truth b) ≡ ok v → evaluate row (simplify-logical og o (operand o l) (operand o r) l r) ≡ ok v
+simplify-truths og o l r row a b v i j h =
+    simplified og o a b l r row i j (operand o l) (operand o r)
     (λ k. ap (λ z. table o z b) (operand-decides o l a row i k) ∙ decided-left o b)
     (λ k. ap (λ z. table o a z) (operand-decides o r b row j k) ∙ decided-right o a)
     (λ k. ap (λ z. table o z b) (operand-neutral o l a row i k) ∙ neutral-left o b)
     (λ k. ap (λ z. table o a z) (operand-neutral o r b row j k) ∙ neutral-right o a)
     ∙ (sym (logical-value o a b) ∙ h)
 
-simplify-values : (o : Logical) (l r : Expression) (row : Row) (x y v : Value) → evaluate row l ≡ ok x → evaluate row r ≡ ok y → evaluate-binary (logical o) x y ≡ ok v
-    → evaluate row (simplify-logical o (operand o l) (operand o r) l r) ≡ ok v
-simplify-values o l r row (truth a) (truth b) v i j h = simplify-truths o l r row a b v i j h
-simplify-values And l r row (truth a) (datum g) v i j h = no-value h
-simplify-values And l r row (datum f) y v i j h = no-value h
-simplify-values Or l r row (truth a) (datum g) v i j h = no-value h
-simplify-values Or l r row (datum f) y v i j h = no-value h
+simplify-values : (og : ℕ) (o : Logical) (l r : Expression) (row : Row) (x y v : Value) → evaluate row l ≡ ok x → evaluate row r ≡ ok y → evaluate-binary (logical o) x y ≡ ok v
+    → evaluate row (simplify-logical og o (operand o l) (operand o r) l r) ≡ ok v
+simplify-values og o l r row (truth a) (truth b) v i j h = simplify-truths og o l r row a b v i j h
+simplify-values og And l r row (truth a) (datum g) v i j h = no-value h
+simplify-values og And l r row (datum f) y v i j h = no-value h
+simplify-values og Or l r row (truth a) (datum g) v i j h = no-value h
+simplify-values og Or l r row (datum f) y v i j h = no-value h
 
 simplify-keeps : (row : Row) (e : Expression) (v : Value) → evaluate row e ≡ ok v → evaluate row (simplify e) ≡ ok v
-simplify-keeps row (constant u) v h = h
-simplify-keeps row (column c) v h = h
-simplify-keeps row (unary o x) v h = h
-simplify-keeps row (binary (logical o) l r) v h =
+simplify-keeps row (constant og u) v h = h
+simplify-keeps row (column og c) v h = h
+simplify-keeps row (unary og o x) v h = h
+simplify-keeps row (binary og (logical o) l r) v h =
     let a = came (evaluate row l) (λ x. bind (evaluate row r) (evaluate-binary (logical o) x)) v h in
     let b = came (evaluate row r) (evaluate-binary (logical o) (a .of)) v (a .second) in
-    simplify-values o l r row (a .of) (b .of) v (a .first) (b .first) (b .second)
-simplify-keeps row (binary Equal l r) v h = h
-simplify-keeps row (binary (function f) l r) v h = h
+    simplify-values og o l r row (a .of) (b .of) v (a .first) (b .first) (b .second)
+simplify-keeps row (binary og Equal l r) v h = h
+simplify-keeps row (binary og (function f) l r) v h = h
 
 -- ---- a folded expression has the same value
 
@@ -155,27 +155,27 @@ fold-by-keeps : (row : Row) (place : ℕ) (e : Expression) (t : Bool) → contai
     → fold-by t place e ≡ done d → evaluate row e ≡ ok v → evaluate row d ≡ ok v
 fold-by-keeps row place e true n d v k h = ap (evaluate row) (sym (done-same k)) ∙ simplify-keeps row e v h
 fold-by-keeps row place e false n d v k h =
-    let z : constant v ≡ d = done-same (sym (ap (λ w. at-place place (bind w (λ u. ok (constant u)))) (still [] row e n ∙ h)) ∙ k) in
+    let z : constant (origin e) v ≡ d = done-same (sym (ap (λ w. at-place place (bind w (λ u. ok (constant (origin e) u)))) (still [] row e n ∙ h)) ∙ k) in
     ap (evaluate row) (sym z)
 
 fold-keeps : (row : Row) (place : ℕ) (e d : Expression) (v : Value) → fold place e ≡ done d → evaluate row e ≡ ok v → evaluate row d ≡ ok v
 fold-keeps row place e d v k h = fold-by-keeps row place e (contains-column (λ c. true) e) refl d v k h
 
 expression-keeps : (row : Row) (first : ℕ) (e d : Expression) (v : Value) → fold-expression first e ≡ done d → evaluate row e ≡ ok v → evaluate row d ≡ ok v
-expression-keeps row first (constant u) d v k h = fold-keeps row first (constant u) d v k h
-expression-keeps row first (column c) d v k h = fold-keeps row first (column c) d v k h
-expression-keeps row first (unary o x) d v k h =
-    let a = after (fold-expression first x) (λ y. fold (first + size x) (unary o y)) d k in
+expression-keeps row first (constant og u) d v k h = fold-keeps row first (constant og u) d v k h
+expression-keeps row first (column og c) d v k h = fold-keeps row first (column og c) d v k h
+expression-keeps row first (unary og o x) d v k h =
+    let a = after (fold-expression first x) (λ y. fold (first + size x) (unary og o y)) d k in
     let b = came (evaluate row x) (evaluate-unary o) v h in
-    fold-keeps row (first + size x) (unary o (a .of)) d v (a .second)
+    fold-keeps row (first + size x) (unary og o (a .of)) d v (a .second)
     (ap (λ z. bind z (evaluate-unary o)) (expression-keeps row first x (a .of) (b .of) (a .first) (b .first)) ∙ b .second)
-expression-keeps row first (binary o l r) d v k h =
+expression-keeps row first (binary og o l r) d v k h =
     let place = first + (size l + size r) in
-    let a = after (fold-expression first l) (λ x. fold-expression (first + size l) r >>= λ y. fold place (binary o x y)) d k in
-    let c = after (fold-expression (first + size l) r) (λ y. fold place (binary o (a .of) y)) d (a .second) in
+    let a = after (fold-expression first l) (λ x. fold-expression (first + size l) r >>= λ y. fold place (binary og o x y)) d k in
+    let c = after (fold-expression (first + size l) r) (λ y. fold place (binary og o (a .of) y)) d (a .second) in
     let b = came (evaluate row l) (λ x. bind (evaluate row r) (evaluate-binary o x)) v h in
     let e = came (evaluate row r) (evaluate-binary o (b .of)) v (b .second) in
-    fold-keeps row place (binary o (a .of) (c .of)) d v (c .second)
+    fold-keeps row place (binary og o (a .of) (c .of)) d v (c .second)
     (ap₂ (λ x y. bind x (λ u. bind y (evaluate-binary o u))) (expression-keeps row first l (a .of) (b .of) (a .first) (b .first))
     (expression-keeps row (first + size l) r (c .of) (e .of) (c .first) (e .first)) ∙ e .second)
 
@@ -220,28 +220,33 @@ module _ {A : Type 0} (f : ℕ → A → Answer A) (cells : A → ℕ) where
       let a = folded first x xs ys k in
       ap (map g) (sym (a .is)) ∙ ap₂ _∷_ (same first x (a .y) (a .part)) (map-folded g same (first + cells x) xs (a .more) (a .rest))
 
-row-keeps : (row : Row) (first : ℕ) (es ds : List Expression) → fold-row first es ≡ done ds → (those : Row) → evaluate-all es row ≡ ok those → evaluate-all ds row ≡ ok those
-row-keeps row first es ds k those h = each-folded fold-expression size (evaluate row) (expression-keeps row) first es ds k those h
+row-of : (first : ℕ) (es ds : List Expression × ℕ) → fold-row first es ≡ done ds → fold-each fold-expression size first (es .0) ≡ done (ds .0)
+row-of first es ds k =
+    let a = after (fold-each fold-expression size first (es .0)) (λ ys. done (ys, es .1)) ds k in
+    a .first ∙ ap (λ z. done (z .0)) (done-same (a .second))
+
+row-keeps : (row : Row) (first : ℕ) (es ds : List Expression × ℕ) → fold-row first es ≡ done ds → (those : Row) → evaluate-all (es .0) row ≡ ok those → evaluate-all (ds .0) row ≡ ok those
+row-keeps row first es ds k those h = each-folded fold-expression size (evaluate row) (expression-keeps row) first (es .0) (ds .0) (row-of first es ds k) those h
 
 each-map : {A B C : Type 0} (g : B → Result C) (f : A → B) (xs : List A) → each g (map f xs) ≡ each (λ x. g (f x)) xs
 each-map g f [] = refl
 each-map g f (x ∷ xs) = ap (λ z. bind (g (f x)) (λ y. bind z (λ ys. ok (y ∷ ys)))) (each-map g f xs)
 
-module _ {A : Type 0} (cells : Expression × A → ℕ) where
-  part-of : (n : ℕ) (x y : Expression × A) → fold-part n x ≡ done y → After (fold-expression n (x .0)) (λ e. done (e, x .1)) y
-  part-of n x y k = after (fold-expression n (x .0)) (λ e. done (e, x .1)) y k
+module _ {A : Type 0} (cells : Expression × A × ℕ → ℕ) where
+  part-of : (n : ℕ) (x y : Expression × A × ℕ) → fold-part n x ≡ done y → After (fold-expression n (x .0)) (λ e. done (e, x .1, x .2)) y
+  part-of n x y k = after (fold-expression n (x .0)) (λ e. done (e, x .1, x .2)) y k
 
-  parts-keep : (row : Row) (first : ℕ) (ps qs : List (Expression × A)) → fold-each fold-part cells first ps ≡ done qs
+  parts-keep : (row : Row) (first : ℕ) (ps qs : List (Expression × A × ℕ)) → fold-each fold-part cells first ps ≡ done qs
       → (those : Row) → evaluate-all (expressions ps) row ≡ ok those → evaluate-all (expressions qs) row ≡ ok those
   parts-keep row first ps qs k those h =
       each-map (evaluate row) (λ p. p .0) qs
       ∙ each-folded fold-part cells (λ p. evaluate row (p .0)) keeps first ps qs k those (sym (each-map (evaluate row) (λ p. p .0) ps) ∙ h)
     where
-      keeps : (n : ℕ) (x y : Expression × A) (v : Value) → fold-part n x ≡ done y → evaluate row (x .0) ≡ ok v → evaluate row (y .0) ≡ ok v
+      keeps : (n : ℕ) (x y : Expression × A × ℕ) (v : Value) → fold-part n x ≡ done y → evaluate row (x .0) ≡ ok v → evaluate row (y .0) ≡ ok v
       keeps n x y v i j = let a = part-of n x y i in
           ap (λ z. evaluate row (z .0)) (sym (done-same (a .second))) ∙ expression-keeps row n (x .0) (a .of) v (a .first) j
 
-  parts-rest : (first : ℕ) (ps qs : List (Expression × A)) → fold-each fold-part cells first ps ≡ done qs → map (λ p. p .1) qs ≡ map (λ p. p .1) ps
+  parts-rest : (first : ℕ) (ps qs : List (Expression × A × ℕ)) → fold-each fold-part cells first ps ≡ done qs → map (λ p. p .1) qs ≡ map (λ p. p .1) ps
   parts-rest first ps qs k =
       map-folded fold-part cells (λ p. p .1) (λ n x y i. ap (λ z. z .1) (sym (done-same (part-of n x y i .second)))) first ps qs k
 
@@ -271,15 +276,15 @@ optional-keeps first (some e) q k row b h =
     let a = after (fold-expression first e) (λ x. done (some x)) q k in
     ap (λ z. optional-holds z row) (sym (done-same (a .second))) ∙ holds-keeps first e (a .of) (a .first) row b h
 
-values-keeps : (n first : ℕ) (es ds : List Expression) (row : Row) → fold-row first es ≡ done ds → values-row n es ≡ ok row → values-row n ds ≡ ok row
+values-keeps : (n first : ℕ) (es ds : List Expression × ℕ) (row : Row) → fold-row first es ≡ done ds → values-row n es ≡ ok row → values-row n ds ≡ ok row
 values-keeps n first es ds row k h =
-    let c = came (evaluate-all es []) (λ z. ok (fit n z)) row h in ap (λ z. bind z (λ w. ok (fit n w))) (row-keeps [] first es ds k (c .of) (c .first)) ∙ c .second
+    let c = came (evaluate-all (es .0) []) (λ z. ok (fit n z)) row h in ap (λ z. bind z (λ w. ok (fit n w))) (row-keeps [] first es ds k (c .of) (c .first)) ∙ c .second
 
-values-columns-same : (first : ℕ) (rows folded-rows : List (List Expression)) → fold-each fold-row row-size first rows ≡ done folded-rows → values-columns folded-rows ≡ values-columns rows
+values-columns-same : (first : ℕ) (rows folded-rows : List (List Expression × ℕ)) → fold-each fold-row row-size first rows ≡ done folded-rows → values-columns folded-rows ≡ values-columns rows
 values-columns-same first [] ys k = ap values-columns (sym (done-same k))
 values-columns-same first (x ∷ xs) ys k =
     let a = folded fold-row row-size first x xs ys k in
-    ap values-columns (sym (a .is)) ∙ length-folded fold-expression size first x (a .y) (a .part)
+    ap values-columns (sym (a .is)) ∙ length-folded fold-expression size first (x .0) (a .y .0) (row-of first x (a .y) (a .part))
 
 module _ (database : Database) where
   leaf-keeps : (first : ℕ) (l m : Leaf) → fold-leaf first l ≡ done m → (rows : List Row) → read-leaf database l ≡ ok rows → read-leaf database m ≡ ok rows
@@ -333,56 +338,56 @@ module _ (schema : Schema) where
       let a = after (fold-each fold-row row-size first es) (λ qs. done (values qs)) m k in
       ap (leaf-columns schema) (sym (done-same (a .second))) ∙ values-columns-same first es (a .of) (a .first)
 
-  over-columns-same : (first : ℕ) (o p : Over) → fold-over first o ≡ done p → (m n : Node) → columns schema m ≡ columns schema n → columns schema (over p m) ≡ columns schema (over o n)
-  over-columns-same first (filter e) p k m n h = let a = after (fold-expression first e) (λ z. done (filter z)) p k in ap (λ z. columns schema (over z m)) (sym (done-same (a .second))) ∙ h
-  over-columns-same first (other (limit amount)) p k m n h = ap (λ z. columns schema (over z m)) (sym (done-same k)) ∙ h
-  over-columns-same first (other (offset amount)) p k m n h = ap (λ z. columns schema (over z m)) (sym (done-same k)) ∙ h
-  over-columns-same first (other (order key)) p k m n h =
-      let a = after (fold-each fold-part key-size first key) (λ qs. done (other (order qs))) p k in ap (λ z. columns schema (over z m)) (sym (done-same (a .second))) ∙ h
-  over-columns-same first (other (projection items)) p k m n h =
+  over-columns-same : (og first : ℕ) (o p : Over) → fold-over first o ≡ done p → (m n : Node) → columns schema m ≡ columns schema n → columns schema (over og p m) ≡ columns schema (over og o n)
+  over-columns-same og first (filter e) p k m n h = let a = after (fold-expression first e) (λ z. done (filter z)) p k in ap (λ z. columns schema (over og z m)) (sym (done-same (a .second))) ∙ h
+  over-columns-same og first (other (limit amount)) p k m n h = ap (λ z. columns schema (over og z m)) (sym (done-same k)) ∙ h
+  over-columns-same og first (other (offset amount)) p k m n h = ap (λ z. columns schema (over og z m)) (sym (done-same k)) ∙ h
+  over-columns-same og first (other (order key)) p k m n h =
+      let a = after (fold-each fold-part key-size first key) (λ qs. done (other (order qs))) p k in ap (λ z. columns schema (over og z m)) (sym (done-same (a .second))) ∙ h
+  over-columns-same og first (other (projection items)) p k m n h =
       let a = after (fold-each fold-part item-size first items) (λ qs. done (other (projection qs))) p k in
-      ap (λ z. columns schema (over z m)) (sym (done-same (a .second))) ∙ length-folded fold-part item-size first items (a .of) (a .first)
-  over-columns-same first (other (remap targets)) p k m n h = ap (λ z. columns schema (over z m)) (sym (done-same k))
-  over-columns-same first (other (aggregate group-by aggregates)) p k m n h = ap (λ z. columns schema (over z m)) (sym (done-same k))
+      ap (λ z. columns schema (over og z m)) (sym (done-same (a .second))) ∙ length-folded fold-part item-size first items (a .of) (a .first)
+  over-columns-same og first (other (remap targets)) p k m n h = ap (λ z. columns schema (over og z m)) (sym (done-same k))
+  over-columns-same og first (other (aggregate group-by aggregates)) p k m n h = ap (λ z. columns schema (over og z m)) (sym (done-same k))
 
 -- ---- the pass
 
 -- the parts of a folded node
-abbrev then-source : ℕ → Node → Over → Answer Node
-then-source first source p = ConstantFolding first source >>= λ s. done (over p s)
+abbrev then-source : ℕ → ℕ → Node → Over → Answer Node
+then-source og first source p = ConstantFolding first source >>= λ s. done (over og p s)
 
-abbrev then-right : ℕ → Bool → Node → Node → Join → Node → Answer Node
-then-right first outer left right k l = ConstantFolding (first + node-size left) right >>= λ r. done (join outer k l r)
+abbrev then-right : ℕ → ℕ → Bool → Node → Node → Join → Node → Answer Node
+then-right og first outer left right k l = ConstantFolding (first + node-size left) right >>= λ r. done (join og outer k l r)
 
-abbrev then-left : ℕ → Bool → Node → Node → Join → Answer Node
-then-left first outer left right k = ConstantFolding first left >>= λ l. then-right first outer left right k l
+abbrev then-left : ℕ → ℕ → Bool → Node → Node → Join → Answer Node
+then-left og first outer left right k = ConstantFolding first left >>= λ l. then-right og first outer left right k l
 
 module _ (schema : Schema) where
   pub folding-columns : (first : ℕ) (n m : Node) → ConstantFolding first n ≡ done m → columns schema m ≡ columns schema n
-  folding-columns first (leaf l) m k = let a = after (fold-leaf first l) (λ z. done (leaf z)) m k in
+  folding-columns first (leaf og l) m k = let a = after (fold-leaf first l) (λ z. done (leaf og z)) m k in
       ap (columns schema) (sym (done-same (a .second))) ∙ leaf-columns-same schema first l (a .of) (a .first)
-  folding-columns first (over o source) m k =
-      let a = after (fold-over (first + node-size source) o) (then-source first source) m k in
-      let b = after (ConstantFolding first source) (λ s. done (over (a .of) s)) m (a .second) in
+  folding-columns first (over og o source) m k =
+      let a = after (fold-over (first + node-size source) o) (then-source og first source) m k in
+      let b = after (ConstantFolding first source) (λ s. done (over og (a .of) s)) m (a .second) in
       ap (columns schema) (sym (done-same (b .second)))
-      ∙ over-columns-same schema (first + node-size source) o (a .of) (a .first) (b .of) source (folding-columns first source (b .of) (b .first))
-  folding-columns first (join outer j left right) m k =
-      let a = after (fold-join (first + (node-size left + node-size right)) j) (then-left first outer left right) m k in
-      let b = after (ConstantFolding first left) (then-right first outer left right (a .of)) m (a .second) in
-      let c = after (ConstantFolding (first + node-size left) right) (λ r. done (join outer (a .of) (b .of) r)) m (b .second) in
+      ∙ over-columns-same schema og (first + node-size source) o (a .of) (a .first) (b .of) source (folding-columns first source (b .of) (b .first))
+  folding-columns first (join og outer j left right) m k =
+      let a = after (fold-join (first + (node-size left + node-size right)) j) (then-left og first outer left right) m k in
+      let b = after (ConstantFolding first left) (then-right og first outer left right (a .of)) m (a .second) in
+      let c = after (ConstantFolding (first + node-size left) right) (λ r. done (join og outer (a .of) (b .of) r)) m (b .second) in
       ap (columns schema) (sym (done-same (c .second)))
       ∙ ap₂ _+_ (folding-columns first left (b .of) (b .first)) (folding-columns (first + node-size left) right (c .of) (c .first))
 
 pub folding-no-outer : (first : ℕ) (n m : Node) → ConstantFolding first n ≡ done m → no-outer m ≡ no-outer n
-folding-no-outer first (leaf l) m k = let a = after (fold-leaf first l) (λ z. done (leaf z)) m k in ap no-outer (sym (done-same (a .second)))
-folding-no-outer first (over o source) m k =
-    let a = after (fold-over (first + node-size source) o) (then-source first source) m k in
-    let b = after (ConstantFolding first source) (λ s. done (over (a .of) s)) m (a .second) in
+folding-no-outer first (leaf og l) m k = let a = after (fold-leaf first l) (λ z. done (leaf og z)) m k in ap no-outer (sym (done-same (a .second)))
+folding-no-outer first (over og o source) m k =
+    let a = after (fold-over (first + node-size source) o) (then-source og first source) m k in
+    let b = after (ConstantFolding first source) (λ s. done (over og (a .of) s)) m (a .second) in
     ap no-outer (sym (done-same (b .second))) ∙ folding-no-outer first source (b .of) (b .first)
-folding-no-outer first (join outer j left right) m k =
-    let a = after (fold-join (first + (node-size left + node-size right)) j) (then-left first outer left right) m k in
-    let b = after (ConstantFolding first left) (then-right first outer left right (a .of)) m (a .second) in
-    let c = after (ConstantFolding (first + node-size left) right) (λ r. done (join outer (a .of) (b .of) r)) m (b .second) in
+folding-no-outer first (join og outer j left right) m k =
+    let a = after (fold-join (first + (node-size left + node-size right)) j) (then-left og first outer left right) m k in
+    let b = after (ConstantFolding first left) (then-right og first outer left right (a .of)) m (a .second) in
+    let c = after (ConstantFolding (first + node-size left) right) (λ r. done (join og outer (a .of) (b .of) r)) m (b .second) in
     ap no-outer (sym (done-same (c .second)))
     ∙ ap₂ (λ x y. not outer && (x && y)) (folding-no-outer first left (b .of) (b .first)) (folding-no-outer (first + node-size left) right (c .of) (c .first))
 
@@ -391,20 +396,20 @@ module _ (database : Database) where
   schema = database .schema
 
   pub folding-read : (first : ℕ) (n m : Node) → no-outer n ≡ true → ConstantFolding first n ≡ done m → (rows : List Row) → read database n ≡ ok rows → read database m ≡ ok rows
-  folding-read first (leaf l) m i k rows h = let a = after (fold-leaf first l) (λ z. done (leaf z)) m k in
+  folding-read first (leaf og l) m i k rows h = let a = after (fold-leaf first l) (λ z. done (leaf og z)) m k in
       ap (read database) (sym (done-same (a .second))) ∙ leaf-keeps database first l (a .of) (a .first) rows h
-  folding-read first (over o source) m i k rows h =
-      let a = after (fold-over (first + node-size source) o) (then-source first source) m k in
-      let b = after (ConstantFolding first source) (λ s. done (over (a .of) s)) m (a .second) in
+  folding-read first (over og o source) m i k rows h =
+      let a = after (fold-over (first + node-size source) o) (then-source og first source) m k in
+      let b = after (ConstantFolding first source) (λ s. done (over og (a .of) s)) m (a .second) in
       let c = came (read database source) (read-over database o) rows h in
       ap (read database) (sym (done-same (b .second)))
       ∙ (ap (λ z. bind z (read-over database (a .of))) (folding-read first source (b .of) i (b .first) (c .of) (c .first))
       ∙ over-keeps database (first + node-size source) o (a .of) (a .first) (c .of) rows (c .second))
-  folding-read first (join true j left right) m i k rows h = false≢true i
-  folding-read first (join false j left right) m i k rows h =
-      let a = after (fold-join (first + (node-size left + node-size right)) j) (then-left first false left right) m k in
-      let b = after (ConstantFolding first left) (then-right first false left right (a .of)) m (a .second) in
-      let c = after (ConstantFolding (first + node-size left) right) (λ r. done (join false (a .of) (b .of) r)) m (b .second) in
+  folding-read first (join og true j left right) m i k rows h = false≢true i
+  folding-read first (join og false j left right) m i k rows h =
+      let a = after (fold-join (first + (node-size left + node-size right)) j) (then-left og first false left right) m k in
+      let b = after (ConstantFolding first left) (then-right og first false left right (a .of)) m (a .second) in
+      let c = after (ConstantFolding (first + node-size left) right) (λ r. done (join og false (a .of) (b .of) r)) m (b .second) in
       let n = columns schema left in
       let d = came (read database left) (λ ls. bind (read database right) (λ rs. keep-each (join-holds j n) (joined-rows ls rs))) rows h in
       let e = came (read database right) (λ rs. keep-each (join-holds j n) (joined-rows (d .of) rs)) rows (d .second) in

@@ -17,7 +17,7 @@ use Rattle.same_rows.specs.TotalRows.{Table, join-true, total-join, tota
 use Rattle.same_rows.specs.Split.{keep-same, Equijoin, equijoin-of}
 
 abbrev columns-equal : ℕ → ℕ → Expression
-columns-equal a b = binary Equal (column a) (column b)
+columns-equal a b = binary 0 Equal (column 0 a) (column 0 b)
 
 ordered-same : (row : Columns) (c : Bool) (a b : ℕ)
     → true-at row (columns-equal (cond {A = ℕ × ℕ} c (b, a) (a, b) .0) (cond {A = ℕ × ℕ} c (b, a) (a, b) .1)) ≡ true-at row (columns-equal a b)
@@ -48,9 +48,9 @@ hash-join-table j s t =
     ap (λ z. (s .0 + t .0, z)) (keep-same (join-true (hash-join (s .0) j) (s .0)) (join-true j (s .0)) (hash-join-true (s .0) j) (joined-rows (s .1) (t .1)))
 
 pub hash-table : (database : Database) (n : Node) → total-table database (HashJoin (database .schema) n) ≡ total-table database n
-hash-table database (leaf l) = refl
-hash-table database (over o source) = ap (total-over database o) (hash-table database source)
-hash-table database (join outer j left right) =
+hash-table database (leaf og l) = refl
+hash-table database (over og o source) = ap (total-over database o) (hash-table database source)
+hash-table database (join og outer j left right) =
     ap₂ (total-join (hash-join (columns (database .schema) left) j)) (hash-table database left) (hash-table database right)
     ∙ (ap (λ z. total-join (hash-join z j) (total-table database left) (total-table database right)) (sym (total-columns database left))
     ∙ hash-join-table j (total-table database left) (total-table database right))

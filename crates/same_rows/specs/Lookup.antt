@@ -65,41 +65,41 @@ module _ (database : Database) (table : ℕ) where
       go true h = sym (eqb-eq c (table-of (database .schema) table .primary-key) h)
       go false h = refl
 
-  found-row : (cnf : List Expression) (f : Found) → Finds cnf f → (row : Row)
-      → (optional-true-at (at row) (and-vec (f .remaining)) && looked-up (f .column-number) (into-column-values (f .conjunct)) row) ≡ all (true-at (at row)) cnf
-  found-row cnf f k row =
-      ap₂ _&&_ (true-and-vec (at row) (f .remaining)) (sym (lookup-taken (at row) (lookup-of (f .conjunct) (f .column-number) (k .is))))
+  found-row : (og : ℕ) (cnf : List Expression) (f : Found) → Finds cnf f → (row : Row)
+      → (optional-true-at (at row) (and-vec og (f .remaining)) && looked-up (f .column-number) (into-column-values (f .conjunct)) row) ≡ all (true-at (at row)) cnf
+  found-row og cnf f k row =
+      ap₂ _&&_ (true-and-vec (at row) og (f .remaining)) (sym (lookup-taken (at row) (lookup-of (f .conjunct) (f .column-number) (k .is))))
       ∙ (and-comm (all (true-at (at row)) (f .remaining)) (true-at (at row) (f .conjunct)) ∙ sym (k .together (true-at (at row))))
 
 module _ (database : Database) where
-  filtered-table : (o : Option Expression) (n : Node) → total-table database (filtered o n) ≡ keep-table (λ row. optional-true-at (at row) o) (total-table database n)
-  filtered-table none n = ap (λ z. (total-table database n .0, z)) (sym (keep-all (total-table database n .1)))
-  filtered-table (some p) n = refl
+  filtered-table : (og : ℕ) (o : Option Expression) (n : Node) → total-table database (filtered og o n) ≡ keep-table (λ row. optional-true-at (at row) o) (total-table database n)
+  filtered-table og none n = ap (λ z. (total-table database n .0, z)) (sym (keep-all (total-table database n .1)))
+  filtered-table og (some p) n = refl
 
-  found-table : (table : ℕ) (alias : Option ℕ) (p : Expression) (o : Option Found) → find-lookup (database .schema) table (into-cnf-vec p) ≡ o
-      → total-table database (lookup-or-scan (database .schema) table alias p o) ≡ total-table database (leaf (scan table alias (some p)))
-  found-table table alias p none h = refl
-  found-table table alias p (some f) h =
+  found-table : (og table : ℕ) (alias : Option ℕ) (p : Expression) (o : Option Found) → find-lookup (database .schema) table (into-cnf-vec p) ≡ o
+      → total-table database (lookup-or-scan (database .schema) table og alias p o) ≡ total-table database (leaf og (scan table alias (some p)))
+  found-table og table alias p none h = refl
+  found-table og table alias p (some f) h =
       let by = access (database .schema) table (f .column-number) in
       let constants = into-column-values (f .conjunct) in
       let rows = database .table-rows table in
-      filtered-table (and-vec (f .remaining)) (leaf (lookup by table alias constants))
-      ∙ ap (λ z. (total-table database (leaf (scan table alias (some p))) .0, z))
-      (ap (λ c. keep (λ row. optional-true-at (at row) (and-vec (f .remaining))) (keep (looked-up c constants) rows)) (access-column database table (f .column-number))
-      ∙ (sym (keep-and (λ row. optional-true-at (at row) (and-vec (f .remaining))) (looked-up (f .column-number) constants) rows)
-      ∙ keep-same (λ row. optional-true-at (at row) (and-vec (f .remaining)) && looked-up (f .column-number) constants row) (λ row. true-at (at row) p)
-      (λ row. found-row database table (into-cnf-vec p) f (finds database table (into-cnf-vec p) f h) row ∙ all-cnf (at row) p) rows))
+      filtered-table og (and-vec og (f .remaining)) (leaf og (lookup by table alias constants))
+      ∙ ap (λ z. (total-table database (leaf og (scan table alias (some p))) .0, z))
+      (ap (λ c. keep (λ row. optional-true-at (at row) (and-vec og (f .remaining))) (keep (looked-up c constants) rows)) (access-column database table (f .column-number))
+      ∙ (sym (keep-and (λ row. optional-true-at (at row) (and-vec og (f .remaining))) (looked-up (f .column-number) constants) rows)
+      ∙ keep-same (λ row. optional-true-at (at row) (and-vec og (f .remaining)) && looked-up (f .column-number) constants row) (λ row. true-at (at row) p)
+      (λ row. found-row database table og (into-cnf-vec p) f (finds database table (into-cnf-vec p) f h) row ∙ all-cnf (at row) p) rows))
 
-  leaf-table : (l : Leaf) → total-table database (index-lookup (database .schema) l) ≡ total-table database (leaf l)
+  leaf-table : (og : ℕ) (l : Leaf) → total-table database (index-lookup (database .schema) og l) ≡ total-table database (leaf og l)
   unfolding index-lookup
-  leaf-table (scan table alias none) = refl
-  leaf-table (scan table alias (some p)) = found-table table alias p (find-lookup (database .schema) table (into-cnf-vec p)) refl
-  leaf-table (lookup by table alias constants) = refl
-  leaf-table (nothing labels) = refl
-  leaf-table (values rows) = refl
+  leaf-table og (scan table alias none) = refl
+  leaf-table og (scan table alias (some p)) = found-table og table alias p (find-lookup (database .schema) table (into-cnf-vec p)) refl
+  leaf-table og (lookup by table alias constants) = refl
+  leaf-table og (nothing labels) = refl
+  leaf-table og (values rows) = refl
 
   pub lookup-table : (n : Node) → total-table database (IndexLookup (database .schema) n) ≡ total-table database n
   unfolding IndexLookup
-  lookup-table (leaf l) = leaf-table l
-  lookup-table (over o source) = ap (total-over database o) (lookup-table source)
-  lookup-table (join outer j left right) = ap₂ (total-join j) (lookup-table left) (lookup-table right)
+  lookup-table (leaf og l) = leaf-table og l
+  lookup-table (over og o source) = ap (total-over database o) (lookup-table source)
+  lookup-table (join og outer j left right) = ap₂ (total-join j) (lookup-table left) (lookup-table right)

@@ -12,7 +12,7 @@ use Rattle.value.specs.Value.{Truth, False, Unknown, True, Datum, integer, floa
 use Rattle.value.specs.Comparison.{Finding, Less, Greater, Unordered, NotComparable, rounded, number-of, compare-floats, compare, compared-truths, is-equal, answer, against-datum, equal}
 use Rattle.value.specs.Comparison
 use Rattle.value.specs.Undefined.{is-undefined}
-use Rattle.sql.specs.Expression.{Logical, And, Or, Function1, IsNull, IsNaN, Identity, Negate, Unary, Not, function, Binary, logical, Equal, Expression, constant, column, unary, binary, or, contains-column, is-column, is-equal-lookup, is-function-lookup, same-column, is-column-lookup, equal-values, into-column-values}
+use Rattle.sql.specs.Expression.{origin, Logical, And, Or, Function1, IsNull, IsNaN, Identity, Negate, Unary, Not, function, Binary, logical, Equal, Expression, constant, column, unary, binary, or, contains-column, is-column, is-equal-lookup, is-function-lookup, same-column, is-column-lookup, equal-values, into-column-values}
 use Rattle.rows.specs.Reading.{is-true, is-nan-value, is-true-result, takes, any}
 use Rattle.same_rows.specs.Booleans.{false≢true, eqb-eq, eqb-self}
 use Rattle.same_rows.specs.Floats.{nan-unequal}
@@ -23,35 +23,35 @@ use Rattle.same_rows.specs.Comparing.{found-floats, equal-sym, Alike}
 -- ---- what a lookup of column c is
 
 pub data Lookup (c : ℕ) : Expression → Type 0 where
-  column-equal : (v : Value) → Lookup c (binary Equal (column c) (constant v))
-  equal-column : (v : Value) → Lookup c (binary Equal (constant v) (column c))
-  column-null : Lookup c (unary (function IsNull) (column c))
-  column-nan : Lookup c (unary (function IsNaN) (column c))
-  either : {l r : Expression} → Lookup c l → Lookup c r → Lookup c (or l r)
+  column-equal : {og p q : ℕ} (v : Value) → Lookup c (binary og Equal (column p c) (constant q v))
+  equal-column : {og p q : ℕ} (v : Value) → Lookup c (binary og Equal (constant q v) (column p c))
+  column-null : {og p : ℕ} → Lookup c (unary og (function IsNull) (column p c))
+  column-nan : {og p : ℕ} → Lookup c (unary og (function IsNaN) (column p c))
+  either : {og : ℕ} {l r : Expression} → Lookup c l → Lookup c r → Lookup c (or og l r)
 
 none≢some : {A : Type 0} (c : ℕ) → _≡_ {A = Option ℕ} none (some c) → A
 none≢some c h = absurd (let y : _≡_ {A = ℕ} 0 1 = cc in omega arith)
 
-column-of : (x : Expression) (c : ℕ) → is-column x ≡ some c → x ≡ column c
-column-of (constant v) c h = none≢some c h
-column-of (column d) c h = let k : d ≡ c = cc in ap column k
-column-of (unary o x) c h = none≢some c h
-column-of (binary o l r) c h = none≢some c h
+column-of : (x : Expression) (c : ℕ) → is-column x ≡ some c → x ≡ column (origin x) c
+column-of (constant og v) c h = none≢some c h
+column-of (column og d) c h = let k : d ≡ c = cc in ap (column og) k
+column-of (unary og o x) c h = none≢some c h
+column-of (binary og o l r) c h = none≢some c h
 
-equal-lookup : (l r : Expression) (c : ℕ) → is-equal-lookup l r ≡ some c → Lookup c (binary Equal l r)
-equal-lookup (constant v) r c h = rw (column-of r c h) (equal-column v)
-equal-lookup (column d) (constant v) c h = let k : d ≡ c = cc in rw k (column-equal v)
-equal-lookup (column d) (column e) c h = none≢some c h
-equal-lookup (column d) (unary o x) c h = none≢some c h
-equal-lookup (column d) (binary o x y) c h = none≢some c h
-equal-lookup (unary o x) r c h = none≢some c h
-equal-lookup (binary o x y) r c h = none≢some c h
+equal-lookup : (own : ℕ) (l r : Expression) (c : ℕ) → is-equal-lookup l r ≡ some c → Lookup c (binary own Equal l r)
+equal-lookup own (constant og v) r c h = rw (column-of r c h) (equal-column v)
+equal-lookup own (column og d) (constant og′ v) c h = let k : d ≡ c = cc in rw k (column-equal v)
+equal-lookup own (column og d) (column og′ e) c h = none≢some c h
+equal-lookup own (column og d) (unary og′ o x) c h = none≢some c h
+equal-lookup own (column og d) (binary og′ o x y) c h = none≢some c h
+equal-lookup own (unary og o x) r c h = none≢some c h
+equal-lookup own (binary og o x y) r c h = none≢some c h
 
-function-lookup : (f : Function1) (x : Expression) (c : ℕ) → is-function-lookup f x ≡ some c → Lookup c (unary (function f) x)
-function-lookup IsNull x c h = rw (column-of x c h) column-null
-function-lookup IsNaN x c h = rw (column-of x c h) column-nan
-function-lookup Identity x c h = none≢some c h
-function-lookup Negate x c h = none≢some c h
+function-lookup : (og : ℕ) (f : Function1) (x : Expression) (c : ℕ) → is-function-lookup f x ≡ some c → Lookup c (unary og (function f) x)
+function-lookup og IsNull x c h = rw (column-of x c h) column-null
+function-lookup og IsNaN x c h = rw (column-of x c h) column-nan
+function-lookup og Identity x c h = none≢some c h
+function-lookup og Negate x c h = none≢some c h
 
 same-both : (a b : Option ℕ) (c : ℕ) → same-column a b ≡ some c → (a ≡ some c) × (b ≡ some c)
 same-both none b c h = none≢some c h
@@ -63,15 +63,15 @@ same-both (some a) (some b) c h = go (eqb a b) refl h
     go false e k = none≢some c k
 
 pub lookup-of : (e : Expression) (c : ℕ) → is-column-lookup e ≡ some c → Lookup c e
-lookup-of (constant v) c h = none≢some c h
-lookup-of (column d) c h = none≢some c h
-lookup-of (unary Not x) c h = none≢some c h
-lookup-of (unary (function f) x) c h = function-lookup f x c h
-lookup-of (binary (logical And) l r) c h = none≢some c h
-lookup-of (binary (logical Or) l r) c h =
+lookup-of (constant og v) c h = none≢some c h
+lookup-of (column og d) c h = none≢some c h
+lookup-of (unary og Not x) c h = none≢some c h
+lookup-of (unary og (function f) x) c h = function-lookup og f x c h
+lookup-of (binary og (logical And) l r) c h = none≢some c h
+lookup-of (binary og (logical Or) l r) c h =
     let (a, b) = same-both (is-column-lookup l) (is-column-lookup r) c h in either (lookup-of l c a) (lookup-of r c b)
-lookup-of (binary Equal l r) c h = equal-lookup l r c h
-lookup-of (binary (function f) l r) c h = none≢some c h
+lookup-of (binary og Equal l r) c h = equal-lookup og l r c h
+lookup-of (binary og (function f) l r) c h = none≢some c h
 
 -- it looks at no other column
 pub lookup-columns : {c : ℕ} {e : Expression} → Lookup c e → contains-column (λ d. not (eqb d c)) e ≡ false
@@ -113,36 +113,36 @@ equal-datum f (datum g) = answer-true (compare f g)
 nan-finds : (x y : Float) → isNan x ≡ true → is-true (found false (compare-floats x y)) ≡ false
 nan-finds x y h = ap is-true (found-floats false x y) ∙ ap (λ b. is-true (found false (cond b Comparison.Equal Less))) (nan-unequal x y h)
 
-float-taken : (a : ℕ) (b : Bool) → isNan (number-of a) ≡ b → (x : Value)
-    → any (λ u. takes u x) (cond b [] (datum (float a) ∷ [])) ≡ is-true (equal-totals false (figure false (float a)) (from-value x))
-float-taken a true h (truth c) = refl
-float-taken a true h (datum (integer c)) = sym (nan-finds (number-of a) (rounded c) h)
-float-taken a true h (datum (float c)) = sym (nan-finds (number-of a) (number-of c) h)
-float-taken a true h (datum (string r t)) = refl
-float-taken a false h x =
+float-taken : (p a : ℕ) (b : Bool) → isNan (number-of a) ≡ b → (x : Value)
+    → any (λ (u : Value × ℕ). takes (u .0) x) (cond b [] ((datum (float a), p) ∷ [])) ≡ is-true (equal-totals false (figure false (float a)) (from-value x))
+float-taken p a true h (truth c) = refl
+float-taken p a true h (datum (integer c)) = sym (nan-finds (number-of a) (rounded c) h)
+float-taken p a true h (datum (float c)) = sym (nan-finds (number-of a) (number-of c) h)
+float-taken p a true h (datum (string r t)) = refl
+float-taken p a false h x =
     ap (λ z. ((z && is-nan-value x) || is-true-result (equal (datum (float a)) x)) || false) h
     ∙ (or-false (is-true-result (equal (datum (float a)) x)) ∙ equal-datum (float a) x)
 
-equal-taken : (v x : Value) → any (λ u. takes u x) (equal-values (some v)) ≡ is-true (equal-totals false (from-value v) (from-value x))
-equal-taken (truth Unknown) (truth b) = refl
-equal-taken (truth Unknown) (datum g) = refl
-equal-taken (truth False) (truth b) = or-false (is-true (compared-truths is-equal False b))
-equal-taken (truth False) (datum g) = refl
-equal-taken (truth True) (truth b) = or-false (is-true (compared-truths is-equal True b))
-equal-taken (truth True) (datum g) = refl
-equal-taken (datum (integer a)) x = or-false (is-true-result (equal (datum (integer a)) x)) ∙ equal-datum (integer a) x
-equal-taken (datum (float a)) x = float-taken a (isNan (number-of a)) refl x
-equal-taken (datum (string r t)) x = or-false (is-true-result (equal (datum (string r t)) x)) ∙ equal-datum (string r t) x
+equal-taken : (p : ℕ) (v x : Value) → any (λ (u : Value × ℕ). takes (u .0) x) (equal-values (some (v, p))) ≡ is-true (equal-totals false (from-value v) (from-value x))
+equal-taken p (truth Unknown) (truth b) = refl
+equal-taken p (truth Unknown) (datum g) = refl
+equal-taken p (truth False) (truth b) = or-false (is-true (compared-truths is-equal False b))
+equal-taken p (truth False) (datum g) = refl
+equal-taken p (truth True) (truth b) = or-false (is-true (compared-truths is-equal True b))
+equal-taken p (truth True) (datum g) = refl
+equal-taken p (datum (integer a)) x = or-false (is-true-result (equal (datum (integer a)) x)) ∙ equal-datum (integer a) x
+equal-taken p (datum (float a)) x = float-taken p a (isNan (number-of a)) refl x
+equal-taken p (datum (string r t)) x = or-false (is-true-result (equal (datum (string r t)) x)) ∙ equal-datum (string r t) x
 
 any-append : {A : Type 0} (f : A → Bool) (xs ys : List A) → any f (xs ++ ys) ≡ (any f xs || any f ys)
 any-append f [] ys = refl
 any-append f (x ∷ xs) ys = ap (λ z. f x || z) (any-append f xs ys) ∙ sym (or-assoc (f x) (any f xs) (any f ys))
 
-null-taken : (x : Value) (columns : Columns) (c : ℕ) → columns c ≡ x → true-at columns (unary (function IsNull) (column c)) ≡ (takes null x || false)
-null-taken (truth False) columns c h = rw h refl
-null-taken (truth Unknown) columns c h = rw h refl
-null-taken (truth True) columns c h = rw h refl
-null-taken (datum d) columns c h = rw h refl
+null-taken : (og p : ℕ) (x : Value) (columns : Columns) (c : ℕ) → columns c ≡ x → true-at columns (unary og (function IsNull) (column p c)) ≡ (takes null x || false)
+null-taken og p (truth False) columns c h = rw h refl
+null-taken og p (truth Unknown) columns c h = rw h refl
+null-taken og p (truth True) columns c h = rw h refl
+null-taken og p (datum d) columns c h = rw h refl
 
 the-nan-is-nan : isNan (number-of the-nan) ≡ true
 unfolding isNan Ieee.ofBits
@@ -159,27 +159,27 @@ nan-takes x =
     ap (λ z. ((z && is-nan-value x) || is-true-result (equal (datum (float the-nan)) x)) || false) the-nan-is-nan
     ∙ (ap (λ z. (is-nan-value x || z) || false) (nan-equals-none x) ∙ (or-false (is-nan-value x || false) ∙ or-false (is-nan-value x)))
 
-nan-true : (x : Value) (columns : Columns) (c : ℕ) → columns c ≡ x → true-at columns (unary (function IsNaN) (column c)) ≡ is-nan-value x
-nan-true (truth False) columns c h = rw h refl
-nan-true (truth Unknown) columns c h = rw h refl
-nan-true (truth True) columns c h = rw h refl
-nan-true (datum (integer a)) columns c h = rw h refl
-nan-true (datum (float a)) columns c h = rw h (go (isNan (number-of a)))
+nan-true : (og p : ℕ) (x : Value) (columns : Columns) (c : ℕ) → columns c ≡ x → true-at columns (unary og (function IsNaN) (column p c)) ≡ is-nan-value x
+nan-true og p (truth False) columns c h = rw h refl
+nan-true og p (truth Unknown) columns c h = rw h refl
+nan-true og p (truth True) columns c h = rw h refl
+nan-true og p (datum (integer a)) columns c h = rw h refl
+nan-true og p (datum (float a)) columns c h = rw h (go (isNan (number-of a)))
   where
     go : (b : Bool) → is-true (ofBool b) ≡ b
     go true = refl
     go false = refl
-nan-true (datum (string r t)) columns c h = rw h refl
+nan-true og p (datum (string r t)) columns c h = rw h refl
 
-append-none : (xs : List Value) → xs ++ [] ≡ xs
+append-none : (xs : List (Value × ℕ)) → xs ++ [] ≡ xs
 append-none [] = refl
 append-none (x ∷ xs) = ap (λ z. x ∷ z) (append-none xs)
 
-pub lookup-taken : {c : ℕ} {e : Expression} (columns : Columns) → Lookup c e → true-at columns e ≡ any (λ v. takes v (columns c)) (into-column-values e)
-lookup-taken {c} columns (column-equal v) = sym (equal-taken v (columns c) ∙ ap is-true (equal-sym false v (columns c)))
-lookup-taken {c} columns (equal-column v) = sym (ap (any (λ u. takes u (columns c))) (append-none (equal-values (some v))) ∙ equal-taken v (columns c))
-lookup-taken {c} columns column-null = null-taken (columns c) columns c refl
-lookup-taken {c} columns column-nan = nan-true (columns c) columns c refl ∙ sym (nan-takes (columns c))
-lookup-taken {c} columns (either {l} {r} a b) =
-    true-or columns l r
-    ∙ (ap₂ _||_ (lookup-taken columns a) (lookup-taken columns b) ∙ sym (any-append (λ v. takes v (columns c)) (into-column-values l) (into-column-values r)))
+pub lookup-taken : {c : ℕ} {e : Expression} (columns : Columns) → Lookup c e → true-at columns e ≡ any (λ (v : Value × ℕ). takes (v .0) (columns c)) (into-column-values e)
+lookup-taken {c} columns (column-equal {og} {p} {q} v) = sym (equal-taken q v (columns c) ∙ ap is-true (equal-sym false v (columns c)))
+lookup-taken {c} columns (equal-column {og} {p} {q} v) = sym (ap (any (λ (u : Value × ℕ). takes (u .0) (columns c))) (append-none (equal-values (some (v, q)))) ∙ equal-taken q v (columns c))
+lookup-taken {c} columns (column-null {og} {p}) = null-taken og p (columns c) columns c refl
+lookup-taken {c} columns (column-nan {og} {p}) = nan-true og p (columns c) columns c refl ∙ sym (nan-takes (columns c))
+lookup-taken {c} columns (either {og} {l} {r} a b) =
+    true-or columns og l r
+    ∙ (ap₂ _||_ (lookup-taken columns a) (lookup-taken columns b) ∙ sym (any-append (λ (v : Value × ℕ). takes (v .0) (columns c)) (into-column-values l) (into-column-values r)))

@@ -18,56 +18,56 @@ no-node n h = absurd (let y : _≡_ {A = ℕ} 0 1 = cc in omega arith)
 node-same : {a b : Node} → _≡_ {A = Option Node} (some a) (some b) → a ≡ b
 node-same h = cc
 
-into : (e : Expression) (n m : Node) → push-into e n ≡ some m → no-outer m ≡ no-outer n
-into e (leaf (scan table alias p)) m h = ap no-outer (sym (node-same h))
-into e (leaf (lookup access table alias constants)) m h = no-node m h
-into e (leaf (nothing labels)) m h = no-node m h
-into e (leaf (values rows)) m h = no-node m h
-into e (over (filter p) source) m h = ap no-outer (sym (node-same h))
-into e (over (other o) source) m h = no-node m h
-into e (join outer (nested-loop p) left right) m h = ap no-outer (sym (node-same h))
-into e (join outer (hash a b) left right) m h = no-node m h
+into : (new : ℕ) (e : Expression) (n m : Node) → push-into new e n ≡ some m → no-outer m ≡ no-outer n
+into new e (leaf og (scan table alias p)) m h = ap no-outer (sym (node-same h))
+into new e (leaf og (lookup access table alias constants)) m h = no-node m h
+into new e (leaf og (nothing labels)) m h = no-node m h
+into new e (leaf og (values rows)) m h = no-node m h
+into new e (over og (filter p) source) m h = ap no-outer (sym (node-same h))
+into new e (over og (other o) source) m h = no-node m h
+into new e (join og outer (nested-loop p) left right) m h = ap no-outer (sym (node-same h))
+into new e (join og outer (hash a b) left right) m h = no-node m h
 
-part : (p : Option Expression) (n : Node) → no-outer (push-part p n .0) ≡ no-outer n
-part none n = refl
-part (some e) n = go (push-into e n) refl
+part : (new : ℕ) (p : Option Expression) (n : Node) → no-outer (push-part new p n .0) ≡ no-outer n
+part new none n = refl
+part new (some e) n = go (push-into new e n) refl
   where
-    go : (o : Option Node) → push-into e n ≡ o → no-outer (pushed-or-back e n o .0) ≡ no-outer n
+    go : (o : Option Node) → push-into new e n ≡ o → no-outer (pushed-or-back e n o .0) ≡ no-outer n
     go none h = refl
-    go (some m) h = into e n m h
+    go (some m) h = into new e n m h
 
 module _ (schema : Schema) where
   a-join : (n : Node) → no-outer (maybe-push-join schema n) ≡ no-outer n
   unfolding maybe-push-join
-  a-join (leaf l) = refl
-  a-join (over o source) = refl
-  a-join (join outer (nested-loop none) left right) = refl
-  a-join (join outer (nested-loop (some p)) left right) =
+  a-join (leaf og l) = refl
+  a-join (over og o source) = refl
+  a-join (join og outer (nested-loop none) left right) = refl
+  a-join (join og outer (nested-loop (some p)) left right) =
       let n = columns schema left in
       let cnf = into-cnf-vec p in
-      ap₂ (λ x y. not outer && (x && y)) (part (and-vec (push-left n cnf)) left) (part (map-optional (shift-column-down n) (and-vec (push-right n cnf))) right)
-  a-join (join outer (hash a b) left right) = refl
+      ap₂ (λ x y. not outer && (x && y)) (part og (and-vec og (push-left n cnf)) left) (part og (map-optional (shift-column-down n) (and-vec og (push-right n cnf))) right)
+  a-join (join og outer (hash a b) left right) = refl
 
   a-filter : (k : ℕ) (n : Node) → no-outer (maybe-push-filter schema k n) ≡ no-outer n
   unfolding maybe-push-filter
   a-filter zero n = refl
-  a-filter (suc k) (leaf l) = refl
-  a-filter (suc k) (over (filter p) source) = go (push-into p source) refl (a-filter k)
+  a-filter (suc k) (leaf og l) = refl
+  a-filter (suc k) (over og (filter p) source) = go (push-into og p source) refl (a-filter k)
     where
       on : Node → Node
       on pushed = maybe-push-join schema (maybe-push-filter schema k pushed)
 
-      go : (o : Option Node) → push-into p source ≡ o → ((n : Node) → no-outer (maybe-push-filter schema k n) ≡ no-outer n)
-          → no-outer (go-on on (over (filter p) source) o) ≡ no-outer source
+      go : (o : Option Node) → push-into og p source ≡ o → ((n : Node) → no-outer (maybe-push-filter schema k n) ≡ no-outer n)
+          → no-outer (go-on on (over og (filter p) source) o) ≡ no-outer source
       go none h ih = refl
-      go (some pushed) h ih = a-join (maybe-push-filter schema k pushed) ∙ (ih pushed ∙ into p source pushed h)
-  a-filter (suc k) (over (other o) source) = refl
-  a-filter (suc k) (join outer j left right) = refl
+      go (some pushed) h ih = a-join (maybe-push-filter schema k pushed) ∙ (ih pushed ∙ into og p source pushed h)
+  a-filter (suc k) (over og (other o) source) = refl
+  a-filter (suc k) (join og outer j left right) = refl
 
   sources : (f : Node → Node) → ((n : Node) → no-outer (f n) ≡ no-outer n) → (n : Node) → no-outer (map-sources f n) ≡ no-outer n
-  sources f h (leaf l) = refl
-  sources f h (over o source) = h source
-  sources f h (join outer j left right) = ap₂ (λ x y. not outer && (x && y)) (h left) (h right)
+  sources f h (leaf og l) = refl
+  sources f h (over og o source) = h source
+  sources f h (join og outer j left right) = ap₂ (λ x y. not outer && (x && y)) (h left) (h right)
 
   from : (k : ℕ) (n : Node) → no-outer (push-filters-from schema k n) ≡ no-outer n
   unfolding push-filters-from
@@ -78,51 +78,51 @@ module _ (schema : Schema) where
   unfolding FilterPushdown
   pushdown-no-outer n = from (node-size n) n
 
-  a-filtered : (o : Option Expression) (n : Node) → no-outer (filtered o n) ≡ no-outer n
-  a-filtered none n = refl
-  a-filtered (some p) n = refl
+  a-filtered : (og : ℕ) (o : Option Expression) (n : Node) → no-outer (filtered og o n) ≡ no-outer n
+  a-filtered og none n = refl
+  a-filtered og (some p) n = refl
 
-  a-lookup : (table : ℕ) (alias : Option ℕ) (p : Expression) (o : Option Found) → no-outer (lookup-or-scan schema table alias p o) ≡ true
-  a-lookup table alias p none = refl
-  a-lookup table alias p (some f) = a-filtered (and-vec (f .remaining)) (leaf (lookup (access schema table (f .column-number)) table alias (into-column-values (f .conjunct))))
+  a-lookup : (og table : ℕ) (alias : Option ℕ) (p : Expression) (o : Option Found) → no-outer (lookup-or-scan schema table og alias p o) ≡ true
+  a-lookup og table alias p none = refl
+  a-lookup og table alias p (some f) = a-filtered og (and-vec og (f .remaining)) (leaf og (lookup (access schema table (f .column-number)) table alias (into-column-values (f .conjunct))))
 
-  a-leaf : (l : Leaf) → no-outer (index-lookup schema l) ≡ true
+  a-leaf : (og : ℕ) (l : Leaf) → no-outer (index-lookup schema og l) ≡ true
   unfolding index-lookup
-  a-leaf (scan table alias none) = refl
-  a-leaf (scan table alias (some p)) = a-lookup table alias p (find-lookup schema table (into-cnf-vec p))
-  a-leaf (lookup access table alias constants) = refl
-  a-leaf (nothing labels) = refl
-  a-leaf (values rows) = refl
+  a-leaf og (scan table alias none) = refl
+  a-leaf og (scan table alias (some p)) = a-lookup og table alias p (find-lookup schema table (into-cnf-vec p))
+  a-leaf og (lookup access table alias constants) = refl
+  a-leaf og (nothing labels) = refl
+  a-leaf og (values rows) = refl
 
   pub lookup-no-outer : (n : Node) → no-outer (IndexLookup schema n) ≡ no-outer n
   unfolding IndexLookup
-  lookup-no-outer (leaf l) = a-leaf l
-  lookup-no-outer (over o source) = lookup-no-outer source
-  lookup-no-outer (join outer j left right) = ap₂ (λ x y. not outer && (x && y)) (lookup-no-outer left) (lookup-no-outer right)
+  lookup-no-outer (leaf og l) = a-leaf og l
+  lookup-no-outer (over og o source) = lookup-no-outer source
+  lookup-no-outer (join og outer j left right) = ap₂ (λ x y. not outer && (x && y)) (lookup-no-outer left) (lookup-no-outer right)
 
   pub hash-no-outer : (n : Node) → no-outer (HashJoin schema n) ≡ no-outer n
-  hash-no-outer (leaf l) = refl
-  hash-no-outer (over o source) = hash-no-outer source
-  hash-no-outer (join outer j left right) = ap₂ (λ x y. not outer && (x && y)) (hash-no-outer left) (hash-no-outer right)
+  hash-no-outer (leaf og l) = refl
+  hash-no-outer (over og o source) = hash-no-outer source
+  hash-no-outer (join og outer j left right) = ap₂ (λ x y. not outer && (x && y)) (hash-no-outer left) (hash-no-outer right)
 
-  either : (b : Bool) (o : Over) (source : Node) → no-outer (cond b source (over o source)) ≡ no-outer source
-  either true o source = refl
-  either false o source = refl
+  either : (b : Bool) (og : ℕ) (o : Over) (source : Node) → no-outer (cond b source (over og o source)) ≡ no-outer source
+  either true og o source = refl
+  either false og o source = refl
 
   useless : (n : Node) → no-outer (remove-useless schema n) ≡ no-outer n
-  useless (leaf (scan table alias p)) = refl
-  useless (leaf (lookup access table alias constants)) = refl
-  useless (leaf (nothing labels)) = refl
-  useless (leaf (values rows)) = refl
-  useless (over (filter p) source) = either (is-always (verdict p)) (filter p) source
-  useless (over (other (limit amount)) source) = refl
-  useless (over (other (offset amount)) source) = refl
-  useless (over (other (order key)) source) = refl
-  useless (over (other (projection items)) source) = either (is-noop schema items source) (other (projection items)) source
-  useless (over (other (remap targets)) source) = refl
-  useless (over (other (aggregate group-by aggregates)) source) = refl
-  useless (join outer (nested-loop p) left right) = refl
-  useless (join outer (hash a b) left right) = refl
+  useless (leaf og (scan table alias p)) = refl
+  useless (leaf og (lookup access table alias constants)) = refl
+  useless (leaf og (nothing labels)) = refl
+  useless (leaf og (values rows)) = refl
+  useless (over og (filter p) source) = either (is-always (verdict p)) og (filter p) source
+  useless (over og (other (limit amount)) source) = refl
+  useless (over og (other (offset amount)) source) = refl
+  useless (over og (other (order key)) source) = refl
+  useless (over og (other (projection items)) source) = either (is-noop schema items source) og (other (projection items)) source
+  useless (over og (other (remap targets)) source) = refl
+  useless (over og (other (aggregate group-by aggregates)) source) = refl
+  useless (join og outer (nested-loop p) left right) = refl
+  useless (join og outer (hash a b) left right) = refl
 
   emptied : (b : Bool) (n : Node) → no-outer n ≡ true → no-outer (empty-or-node schema b n) ≡ true
   emptied true n h = refl
@@ -132,8 +132,8 @@ module _ (schema : Schema) where
   one n h = emptied (is-empty (remove-useless schema n)) (remove-useless schema n) (useless n ∙ h)
 
   pub circuit-no-outer : (n : Node) → no-outer n ≡ true → no-outer (ShortCircuit schema n) ≡ true
-  circuit-no-outer (leaf l) h = one (leaf l) h
-  circuit-no-outer (over o source) h = one (over o (ShortCircuit schema source)) (circuit-no-outer source h)
-  circuit-no-outer (join true j left right) h = one (join true j (ShortCircuit schema left) (ShortCircuit schema right)) h
-  circuit-no-outer (join false j left right) h = one (join false j (ShortCircuit schema left) (ShortCircuit schema right))
+  circuit-no-outer (leaf og l) h = one (leaf og l) h
+  circuit-no-outer (over og o source) h = one (over og o (ShortCircuit schema source)) (circuit-no-outer source h)
+  circuit-no-outer (join og true j left right) h = one (join og true j (ShortCircuit schema left) (ShortCircuit schema right)) h
+  circuit-no-outer (join og false j left right) h = one (join og false j (ShortCircuit schema left) (ShortCircuit schema right))
       (ap₂ _&&_ (circuit-no-outer left (and-left (no-outer left) (no-outer right) h)) (circuit-no-outer right (and-right (no-outer left) (no-outer right) h)))

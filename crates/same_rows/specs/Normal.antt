@@ -55,26 +55,26 @@ de-morgan o x y =
 module _ (columns : Columns) where
   mutual
     pub nnf-total : (e : Expression) → total columns (into-nnf e) ≡ total columns e
-    nnf-total (constant v) = refl
-    nnf-total (column c) = refl
-    nnf-total (unary Not x) = nnf-not-total x
-    nnf-total (unary (function f) x) = ap (total-unary (function f)) (nnf-total x)
-    nnf-total (binary o l r) = ap₂ (total-binary o) (nnf-total l) (nnf-total r)
+    nnf-total (constant og v) = refl
+    nnf-total (column og c) = refl
+    nnf-total (unary og Not x) = nnf-not-total og x
+    nnf-total (unary og (function f) x) = ap (total-unary (function f)) (nnf-total x)
+    nnf-total (binary og o l r) = ap₂ (total-binary o) (nnf-total l) (nnf-total r)
 
-    nnf-not-total : (e : Expression) → total columns (into-nnf-not e) ≡ total-unary Not (total columns e)
-    nnf-not-total (constant v) = refl
-    nnf-not-total (column c) = refl
-    nnf-not-total (unary Not x) = nnf-operands-total x ∙ sym (not-not (total columns x))
-    nnf-not-total (unary (function f) x) = ap (λ z. total-unary Not (total-unary (function f) z)) (nnf-total x)
-    nnf-not-total (binary (logical o) l r) = ap₂ (total-binary (logical (dual o))) (nnf-not-total l) (nnf-not-total r) ∙ de-morgan o (total columns l) (total columns r)
-    nnf-not-total (binary Equal l r) = ap₂ (λ a b. total-unary Not (total-binary Equal a b)) (nnf-total l) (nnf-total r)
-    nnf-not-total (binary (function f) l r) = ap₂ (λ a b. total-unary Not (total-binary (function f) a b)) (nnf-total l) (nnf-total r)
+    nnf-not-total : (new : ℕ) (e : Expression) → total columns (into-nnf-not new e) ≡ total-unary Not (total columns e)
+    nnf-not-total new (constant og v) = refl
+    nnf-not-total new (column og c) = refl
+    nnf-not-total new (unary og Not x) = nnf-operands-total x ∙ sym (not-not (total columns x))
+    nnf-not-total new (unary og (function f) x) = ap (λ z. total-unary Not (total-unary (function f) z)) (nnf-total x)
+    nnf-not-total new (binary og (logical o) l r) = ap₂ (total-binary (logical (dual o))) (nnf-not-total new l) (nnf-not-total new r) ∙ de-morgan o (total columns l) (total columns r)
+    nnf-not-total new (binary og Equal l r) = ap₂ (λ a b. total-unary Not (total-binary Equal a b)) (nnf-total l) (nnf-total r)
+    nnf-not-total new (binary og (function f) l r) = ap₂ (λ a b. total-unary Not (total-binary (function f) a b)) (nnf-total l) (nnf-total r)
 
     nnf-operands-total : (e : Expression) → total columns (into-nnf-operands e) ≡ total columns e
-    nnf-operands-total (constant v) = refl
-    nnf-operands-total (column c) = refl
-    nnf-operands-total (unary o x) = ap (total-unary o) (nnf-total x)
-    nnf-operands-total (binary o l r) = ap₂ (total-binary o) (nnf-total l) (nnf-total r)
+    nnf-operands-total (constant og v) = refl
+    nnf-operands-total (column og c) = refl
+    nnf-operands-total (unary og o x) = ap (total-unary o) (nnf-total x)
+    nnf-operands-total (binary og o l r) = ap₂ (total-binary o) (nnf-total l) (nnf-total r)
 
 -- ---- into_cnf
 
@@ -112,7 +112,7 @@ or-and Unknown True True = refl
 
 abbrev joined : Conjuncts → Expression
 joined (single x) = x
-joined (both x y) = and (joined x) (joined y)
+joined (both x y) = and 0 (joined x) (joined y)
 
 abbrev of-truth : Truth → Valued
 of-truth t = valued no-column (known t)
@@ -121,34 +121,34 @@ module _ (columns : Columns) where
   abbrev truth-at : Expression → Truth
   truth-at e = as-truth (total columns e)
 
-  or-right-total : (x : Expression) (z : Conjuncts) → total columns (or-right x z) ≡ of-truth (Logic.or (truth-at x) (truth-at (joined z)))
-  or-right-total x (single z) = refl
-  or-right-total x (both y z) =
-      ap₂ (total-binary (logical And)) (or-right-total x y) (or-right-total x z) ∙ ap of-truth (or-and (truth-at x) (truth-at (joined y)) (truth-at (joined z)))
+  or-right-total : (og : ℕ) (x : Expression) (z : Conjuncts) → total columns (or-right og x z) ≡ of-truth (Logic.or (truth-at x) (truth-at (joined z)))
+  or-right-total og x (single z) = refl
+  or-right-total og x (both y z) =
+      ap₂ (total-binary (logical And)) (or-right-total og x y) (or-right-total og x z) ∙ ap of-truth (or-and (truth-at x) (truth-at (joined y)) (truth-at (joined z)))
 
-  or-both-total : (x z : Conjuncts) → total columns (or-both x z) ≡ of-truth (Logic.or (truth-at (joined x)) (truth-at (joined z)))
-  or-both-total (single x) z = or-right-total x z
-  or-both-total (both x y) z =
-      ap₂ (total-binary (logical And)) (or-both-total x z) (or-both-total y z) ∙ ap of-truth (and-or (truth-at (joined x)) (truth-at (joined y)) (truth-at (joined z)))
+  or-both-total : (og : ℕ) (x z : Conjuncts) → total columns (or-both og x z) ≡ of-truth (Logic.or (truth-at (joined x)) (truth-at (joined z)))
+  or-both-total og (single x) z = or-right-total og x z
+  or-both-total og (both x y) z =
+      ap₂ (total-binary (logical And)) (or-both-total og x z) (or-both-total og y z) ∙ ap of-truth (and-or (truth-at (joined x)) (truth-at (joined y)) (truth-at (joined z)))
 
   mutual
     pub distribute-total : (e : Expression) → total columns (distribute e) ≡ total columns e
-    distribute-total (constant v) = refl
-    distribute-total (column c) = refl
-    distribute-total (unary o x) = ap (total-unary o) (distribute-total x)
-    distribute-total (binary (logical And) l r) = ap₂ (total-binary (logical And)) (distribute-total l) (distribute-total r)
-    distribute-total (binary (logical Or) l r) = or-both-total (conjuncts l) (conjuncts r) ∙ ap₂ (total-binary (logical Or)) (conjuncts-total l) (conjuncts-total r)
-    distribute-total (binary Equal l r) = ap₂ (total-binary Equal) (distribute-total l) (distribute-total r)
-    distribute-total (binary (function f) l r) = ap₂ (total-binary (function f)) (distribute-total l) (distribute-total r)
+    distribute-total (constant og v) = refl
+    distribute-total (column og c) = refl
+    distribute-total (unary og o x) = ap (total-unary o) (distribute-total x)
+    distribute-total (binary og (logical And) l r) = ap₂ (total-binary (logical And)) (distribute-total l) (distribute-total r)
+    distribute-total (binary og (logical Or) l r) = or-both-total og (conjuncts l) (conjuncts r) ∙ ap₂ (total-binary (logical Or)) (conjuncts-total l) (conjuncts-total r)
+    distribute-total (binary og Equal l r) = ap₂ (total-binary Equal) (distribute-total l) (distribute-total r)
+    distribute-total (binary og (function f) l r) = ap₂ (total-binary (function f)) (distribute-total l) (distribute-total r)
 
     conjuncts-total : (e : Expression) → total columns (joined (conjuncts e)) ≡ total columns e
-    conjuncts-total (constant v) = refl
-    conjuncts-total (column c) = refl
-    conjuncts-total (unary o x) = ap (total-unary o) (distribute-total x)
-    conjuncts-total (binary (logical And) l r) = ap₂ (total-binary (logical And)) (conjuncts-total l) (conjuncts-total r)
-    conjuncts-total (binary (logical Or) l r) = or-both-total (conjuncts l) (conjuncts r) ∙ ap₂ (total-binary (logical Or)) (conjuncts-total l) (conjuncts-total r)
-    conjuncts-total (binary Equal l r) = ap₂ (total-binary Equal) (distribute-total l) (distribute-total r)
-    conjuncts-total (binary (function f) l r) = ap₂ (total-binary (function f)) (distribute-total l) (distribute-total r)
+    conjuncts-total (constant og v) = refl
+    conjuncts-total (column og c) = refl
+    conjuncts-total (unary og o x) = ap (total-unary o) (distribute-total x)
+    conjuncts-total (binary og (logical And) l r) = ap₂ (total-binary (logical And)) (conjuncts-total l) (conjuncts-total r)
+    conjuncts-total (binary og (logical Or) l r) = or-both-total og (conjuncts l) (conjuncts r) ∙ ap₂ (total-binary (logical Or)) (conjuncts-total l) (conjuncts-total r)
+    conjuncts-total (binary og Equal l r) = ap₂ (total-binary Equal) (distribute-total l) (distribute-total r)
+    conjuncts-total (binary og (function f) l r) = ap₂ (total-binary (function f)) (distribute-total l) (distribute-total r)
 
 -- ---- the conjuncts are true together
 
@@ -166,69 +166,69 @@ is-true-or Unknown False = refl
 is-true-or Unknown Unknown = refl
 is-true-or Unknown True = refl
 
-pub true-and : (columns : Columns) (l r : Expression) → true-at columns (and l r) ≡ (true-at columns l && true-at columns r)
-true-and columns l r = is-true-and (as-truth (total columns l)) (as-truth (total columns r))
+pub true-and : (columns : Columns) (og : ℕ) (l r : Expression) → true-at columns (and og l r) ≡ (true-at columns l && true-at columns r)
+true-and columns og l r = is-true-and (as-truth (total columns l)) (as-truth (total columns r))
 
-pub true-or : (columns : Columns) (l r : Expression) → true-at columns (or l r) ≡ (true-at columns l || true-at columns r)
-true-or columns l r = is-true-or (as-truth (total columns l)) (as-truth (total columns r))
+pub true-or : (columns : Columns) (og : ℕ) (l r : Expression) → true-at columns (or og l r) ≡ (true-at columns l || true-at columns r)
+true-or columns og l r = is-true-or (as-truth (total columns l)) (as-truth (total columns r))
 
 pub all-append : {A : Type 0} (f : A → Bool) (xs ys : List A) → all f (xs ++ ys) ≡ (all f xs && all f ys)
 all-append f [] ys = refl
 all-append f (x ∷ xs) ys = ap (λ z. f x && z) (all-append f xs ys) ∙ sym (and-assoc (f x) (all f xs) (all f ys))
 
 all-ands : (columns : Columns) (e : Expression) → all (true-at columns) (ands e) ≡ true-at columns e
-all-ands columns (constant v) = and-true (true-at columns (constant v))
-all-ands columns (column c) = and-true (true-at columns (column c))
-all-ands columns (unary o x) = and-true (true-at columns (unary o x))
-all-ands columns (binary (logical And) l r) =
-    all-append (true-at columns) (ands l) (ands r) ∙ (ap₂ _&&_ (all-ands columns l) (all-ands columns r) ∙ sym (true-and columns l r))
-all-ands columns (binary (logical Or) l r) = and-true (true-at columns (or l r))
-all-ands columns (binary Equal l r) = and-true (true-at columns (binary Equal l r))
-all-ands columns (binary (function f) l r) = and-true (true-at columns (binary (function f) l r))
+all-ands columns (constant og v) = and-true (true-at columns (constant og v))
+all-ands columns (column og c) = and-true (true-at columns (column og c))
+all-ands columns (unary og o x) = and-true (true-at columns (unary og o x))
+all-ands columns (binary og (logical And) l r) =
+    all-append (true-at columns) (ands l) (ands r) ∙ (ap₂ _&&_ (all-ands columns l) (all-ands columns r) ∙ sym (true-and columns og l r))
+all-ands columns (binary og (logical Or) l r) = and-true (true-at columns (or og l r))
+all-ands columns (binary og Equal l r) = and-true (true-at columns (binary og Equal l r))
+all-ands columns (binary og (function f) l r) = and-true (true-at columns (binary og (function f) l r))
 
 pub all-cnf : (columns : Columns) (e : Expression) → all (true-at columns) (into-cnf-vec e) ≡ true-at columns e
 unfolding into-cnf-vec into-cnf
 all-cnf columns e =
     all-ands columns (distribute (into-nnf e)) ∙ ap (λ z. is-true (as-truth z)) (distribute-total columns (into-nnf e) ∙ nnf-total columns e)
 
-true-and-all : (columns : Columns) (e : Expression) (es : List Expression) → true-at columns (and-all e es) ≡ (true-at columns e && all (true-at columns) es)
-true-and-all columns e [] = sym (and-true (true-at columns e))
-true-and-all columns e (x ∷ es) =
-    true-and-all columns (and e x) es
-    ∙ (ap (λ z. z && all (true-at columns) es) (true-and columns e x) ∙ and-assoc (true-at columns e) (true-at columns x) (all (true-at columns) es))
+true-and-all : (columns : Columns) (og : ℕ) (e : Expression) (es : List Expression) → true-at columns (and-all og e es) ≡ (true-at columns e && all (true-at columns) es)
+true-and-all columns og e [] = sym (and-true (true-at columns e))
+true-and-all columns og e (x ∷ es) =
+    true-and-all columns og (and og e x) es
+    ∙ (ap (λ z. z && all (true-at columns) es) (true-and columns og e x) ∙ and-assoc (true-at columns e) (true-at columns x) (all (true-at columns) es))
 
-pub true-and-vec : (columns : Columns) (es : List Expression) → optional-true-at columns (and-vec es) ≡ all (true-at columns) es
-true-and-vec columns [] = refl
-true-and-vec columns (e ∷ es) = true-and-all columns e es
+pub true-and-vec : (columns : Columns) (og : ℕ) (es : List Expression) → optional-true-at columns (and-vec og es) ≡ all (true-at columns) es
+true-and-vec columns og [] = refl
+true-and-vec columns og (e ∷ es) = true-and-all columns og e es
 
 -- ---- columns rewritten, and columns that are not looked at
 
 pub map-columns-total : (columns : Columns) (f : ℕ → ℕ) (e : Expression) → total columns (map-columns f e) ≡ total (λ c. columns (f c)) e
-map-columns-total columns f (constant v) = refl
-map-columns-total columns f (column c) = refl
-map-columns-total columns f (unary o x) = ap (total-unary o) (map-columns-total columns f x)
-map-columns-total columns f (binary o l r) = ap₂ (total-binary o) (map-columns-total columns f l) (map-columns-total columns f r)
+map-columns-total columns f (constant og v) = refl
+map-columns-total columns f (column og c) = refl
+map-columns-total columns f (unary og o x) = ap (total-unary o) (map-columns-total columns f x)
+map-columns-total columns f (binary og o l r) = ap₂ (total-binary o) (map-columns-total columns f l) (map-columns-total columns f r)
 
 -- Two rows that differ only in columns which pass the test give the same, if no such column is looked at.
 pub unread : (test : ℕ → Bool) (these those : Columns) → ((c : ℕ) → test c ≡ false → these c ≡ those c)
     → (e : Expression) → contains-column test e ≡ false → total these e ≡ total those e
-unread test these those h (constant v) k = refl
-unread test these those h (column c) k = ap (λ v. valued even-nots (from-value v)) (h c k)
-unread test these those h (unary o x) k = ap (total-unary o) (unread test these those h x k)
-unread test these those h (binary o l r) k =
+unread test these those h (constant og v) k = refl
+unread test these those h (column og c) k = ap (λ v. valued even-nots (from-value v)) (h c k)
+unread test these those h (unary og o x) k = ap (total-unary o) (unread test these those h x k)
+unread test these those h (binary og o l r) k =
     ap₂ (total-binary o) (unread test these those h l (or-left (contains-column test l) (contains-column test r) k))
     (unread test these those h r (Booleans.or-right (contains-column test l) (contains-column test r) k))
 
 pub contains-map : (test : ℕ → Bool) (f : ℕ → ℕ) (e : Expression) → contains-column test (map-columns f e) ≡ contains-column (λ c. test (f c)) e
-contains-map test f (constant v) = refl
-contains-map test f (column c) = refl
-contains-map test f (unary o x) = contains-map test f x
-contains-map test f (binary o l r) = ap₂ _||_ (contains-map test f l) (contains-map test f r)
+contains-map test f (constant og v) = refl
+contains-map test f (column og c) = refl
+contains-map test f (unary og o x) = contains-map test f x
+contains-map test f (binary og o l r) = ap₂ _||_ (contains-map test f l) (contains-map test f r)
 
 pub contains-fewer : (test more : ℕ → Bool) → ((c : ℕ) → more c ≡ false → test c ≡ false) → (e : Expression) → contains-column more e ≡ false → contains-column test e ≡ false
-contains-fewer test more h (constant v) k = refl
-contains-fewer test more h (column c) k = h c k
-contains-fewer test more h (unary o x) k = contains-fewer test more h x k
-contains-fewer test more h (binary o l r) k =
+contains-fewer test more h (constant og v) k = refl
+contains-fewer test more h (column og c) k = h c k
+contains-fewer test more h (unary og o x) k = contains-fewer test more h x k
+contains-fewer test more h (binary og o l r) k =
     ap₂ _||_ (contains-fewer test more h l (or-left (contains-column more l) (contains-column more r) k))
     (contains-fewer test more h r (Booleans.or-right (contains-column more l) (contains-column more r) k))

@@ -12,33 +12,33 @@ use Rattle.same_rows.specs.Split.{push-into-table, split-table}
 module _ (database : Database) where
   map-sources-table : (f : Node → Node) → ((n : Node) → total-table database (f n) ≡ total-table database n) → (n : Node)
       → total-table database (map-sources f n) ≡ total-table database n
-  map-sources-table f h (leaf l) = refl
-  map-sources-table f h (over o source) = ap (total-over database o) (h source)
-  map-sources-table f h (join outer j left right) = ap₂ (total-join j) (h left) (h right)
+  map-sources-table f h (leaf og l) = refl
+  map-sources-table f h (over og o source) = ap (total-over database o) (h source)
+  map-sources-table f h (join og outer j left right) = ap₂ (total-join j) (h left) (h right)
 
   join-table : (n : Node) → total-table database (maybe-push-join (database .schema) n) ≡ total-table database n
   unfolding maybe-push-join
-  join-table (leaf l) = refl
-  join-table (over o source) = refl
-  join-table (join outer (nested-loop none) left right) = refl
-  join-table (join outer (nested-loop (some p)) left right) = split-table database outer p left right
-  join-table (join outer (hash a b) left right) = refl
+  join-table (leaf og l) = refl
+  join-table (over og o source) = refl
+  join-table (join og outer (nested-loop none) left right) = refl
+  join-table (join og outer (nested-loop (some p)) left right) = split-table database og outer p left right
+  join-table (join og outer (hash a b) left right) = refl
 
   filter-table : (k : ℕ) (n : Node) → total-table database (maybe-push-filter (database .schema) k n) ≡ total-table database n
   unfolding maybe-push-filter
   filter-table zero n = refl
-  filter-table (suc k) (leaf l) = refl
-  filter-table (suc k) (over (filter p) source) = go (push-into p source) refl (filter-table k)
+  filter-table (suc k) (leaf og l) = refl
+  filter-table (suc k) (over og (filter p) source) = go (push-into og p source) refl (filter-table k)
     where
       on : Node → Node
       on pushed = maybe-push-join (database .schema) (maybe-push-filter (database .schema) k pushed)
 
-      go : (o : Option Node) → push-into p source ≡ o → ((n : Node) → total-table database (maybe-push-filter (database .schema) k n) ≡ total-table database n)
-          → total-table database (go-on on (over (filter p) source) o) ≡ total-table database (over (filter p) source)
+      go : (o : Option Node) → push-into og p source ≡ o → ((n : Node) → total-table database (maybe-push-filter (database .schema) k n) ≡ total-table database n)
+          → total-table database (go-on on (over og (filter p) source) o) ≡ total-table database (over og (filter p) source)
       go none h ih = refl
-      go (some pushed) h ih = join-table (maybe-push-filter (database .schema) k pushed) ∙ (ih pushed ∙ push-into-table database p source pushed h)
-  filter-table (suc k) (over (other o) source) = refl
-  filter-table (suc k) (join outer j left right) = refl
+      go (some pushed) h ih = join-table (maybe-push-filter (database .schema) k pushed) ∙ (ih pushed ∙ push-into-table database og p source pushed h)
+  filter-table (suc k) (over og (other o) source) = refl
+  filter-table (suc k) (join og outer j left right) = refl
 
   from-table : (k : ℕ) (n : Node) → total-table database (push-filters-from (database .schema) k n) ≡ total-table database n
   unfolding push-filters-from

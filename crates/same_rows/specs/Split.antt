@@ -86,9 +86,9 @@ module _ (n : ℕ) (whole of-left of-right of-both : Row → Bool) (parts : (l r
 
 -- ---- push_into keeps what is true in the source
 
-true-and-with : (columns : Columns) (e : Expression) (p : Option Expression) → true-at columns (and-with e p) ≡ (true-at columns e && optional-true-at columns p)
-true-and-with columns e none = sym (and-true (true-at columns e))
-true-and-with columns e (some p) = true-and columns e p
+true-and-with : (columns : Columns) (new : ℕ) (e : Expression) (p : Option Expression) → true-at columns (and-with new e p) ≡ (true-at columns e && optional-true-at columns p)
+true-and-with columns new e none = sym (and-true (true-at columns e))
+true-and-with columns new e (some p) = true-and columns new e p
 
 -- `back` is handed back, and the rest of the part is now a test of the source's rows
 pub record Pushed (database : Database) (part : Option Expression) (source pushed : Node) (back : List Expression) : Type 0 where
@@ -97,7 +97,7 @@ pub record Pushed (database : Database) (part : Option Expression) (source pushe
   pub together : (holds : Expression → Bool) (row : Row) → optional-true holds part ≡ optional-true-at (at row) part
       → optional-true holds part ≡ (test row && all holds back)
 
-module _ (database : Database) (e : Expression) where
+module _ (database : Database) (new : ℕ) (e : Expression) where
   abbrev Takes : Node → Node → Type 0
   Takes source pushed = total-table database pushed ≡ keep-table (λ row. true-at (at row) e) (total-table database source)
 
@@ -115,47 +115,47 @@ module _ (database : Database) (e : Expression) where
       → _≡_ {A = Table} (w, keep f rows) (w, keep (λ row. true-at (at row) e) (keep g rows))
   both-tests w f g h rows = ap (λ z. (w, z)) (keep-same f (λ row. true-at (at row) e && g row) h rows ∙ keep-and (λ row. true-at (at row) e) g rows)
 
-  push-into-join : (outer : Bool) (p : Option Expression) (left right : Node)
-      → Takes (join outer (nested-loop p) left right) (join outer (nested-loop (some (and-with e p))) left right)
-  push-into-join outer p left right = both-tests (total-table database left .0 + total-table database right .0)
-      (λ row. true-at (at row) (and-with e p)) (λ row. optional-true-at (at row) p) (λ row. true-and-with (at row) e p)
+  push-into-join : (og : ℕ) (outer : Bool) (p : Option Expression) (left right : Node)
+      → Takes (join og outer (nested-loop p) left right) (join og outer (nested-loop (some (and-with new e p))) left right)
+  push-into-join og outer p left right = both-tests (total-table database left .0 + total-table database right .0)
+      (λ row. true-at (at row) (and-with new e p)) (λ row. optional-true-at (at row) p) (λ row. true-and-with (at row) new e p)
       (joined-rows (total-table database left .1) (total-table database right .1))
 
-  push-into-filter : (p : Expression) (source : Node) → Takes (over (filter p) source) (over (filter (and e p)) source)
-  push-into-filter p source = both-tests (total-table database source .0) (λ row. true-at (at row) (and e p)) (λ row. true-at (at row) p)
-      (λ row. true-and (at row) e p) (total-table database source .1)
+  push-into-filter : (og : ℕ) (p : Expression) (source : Node) → Takes (over og (filter p) source) (over og (filter (and new e p)) source)
+  push-into-filter og p source = both-tests (total-table database source .0) (λ row. true-at (at row) (and new e p)) (λ row. true-at (at row) p)
+      (λ row. true-and (at row) new e p) (total-table database source .1)
 
-  push-into-scan : (table : ℕ) (alias : Option ℕ) (p : Option Expression) → Takes (leaf (scan table alias p)) (leaf (scan table alias (some (and-with e p))))
-  push-into-scan table alias p = both-tests (total-table database (leaf (scan table alias p)) .0) (λ row. true-at (at row) (and-with e p)) (λ row. optional-true-at (at row) p)
-      (λ row. true-and-with (at row) e p) (database .table-rows table)
+  push-into-scan : (og table : ℕ) (alias : Option ℕ) (p : Option Expression) → Takes (leaf og (scan table alias p)) (leaf og (scan table alias (some (and-with new e p))))
+  push-into-scan og table alias p = both-tests (total-table database (leaf og (scan table alias p)) .0) (λ row. true-at (at row) (and-with new e p)) (λ row. optional-true-at (at row) p)
+      (λ row. true-and-with (at row) new e p) (database .table-rows table)
 
   no-node : {A : Type 0} (n : Node) → _≡_ {A = Option Node} none (some n) → A
   no-node n h = absurd (let y : _≡_ {A = ℕ} 0 1 = cc in omega arith)
 
   -- what push_into gives is the node filtered by the expression
-  pub push-into-table : (source pushed : Node) → push-into e source ≡ some pushed → Takes source pushed
-  push-into-table (leaf (scan table alias p)) pushed h = let k : leaf (scan table alias (some (and-with e p))) ≡ pushed = cc in rw (← k) (push-into-scan table alias p)
-  push-into-table (leaf (lookup access table alias constants)) pushed h = no-node pushed h
-  push-into-table (leaf (nothing labels)) pushed h = no-node pushed h
-  push-into-table (leaf (values rows)) pushed h = no-node pushed h
-  push-into-table (over (filter p) source) pushed h = let k : over (filter (and e p)) source ≡ pushed = cc in rw (← k) (push-into-filter p source)
-  push-into-table (over (other o) source) pushed h = no-node pushed h
-  push-into-table (join outer (nested-loop p) left right) pushed h =
-      let k : join outer (nested-loop (some (and-with e p))) left right ≡ pushed = cc in rw (← k) (push-into-join outer p left right)
-  push-into-table (join outer (hash a b) left right) pushed h = no-node pushed h
+  pub push-into-table : (source pushed : Node) → push-into new e source ≡ some pushed → Takes source pushed
+  push-into-table (leaf og (scan table alias p)) pushed h = let k : leaf og (scan table alias (some (and-with new e p))) ≡ pushed = cc in rw (← k) (push-into-scan og table alias p)
+  push-into-table (leaf og (lookup access table alias constants)) pushed h = no-node pushed h
+  push-into-table (leaf og (nothing labels)) pushed h = no-node pushed h
+  push-into-table (leaf og (values rows)) pushed h = no-node pushed h
+  push-into-table (over og (filter p) source) pushed h = let k : over og (filter (and new e p)) source ≡ pushed = cc in rw (← k) (push-into-filter og p source)
+  push-into-table (over og (other o) source) pushed h = no-node pushed h
+  push-into-table (join og outer (nested-loop p) left right) pushed h =
+      let k : join og outer (nested-loop (some (and-with new e p))) left right ≡ pushed = cc in rw (← k) (push-into-join og outer p left right)
+  push-into-table (join og outer (hash a b) left right) pushed h = no-node pushed h
 
-push-part-table : (database : Database) (part : Option Expression) (source : Node) → Pushed database part source (push-part part source .0) (push-part part source .1)
-push-part-table database none source = record {
+push-part-table : (database : Database) (new : ℕ) (part : Option Expression) (source : Node) → Pushed database part source (push-part new part source .0) (push-part new part source .1)
+push-part-table database new none source = record {
   test = λ row. true;
   same-table = ap (λ z. (total-table database source .0, z)) (sym (keep-all (total-table database source .1)));
   together = λ holds row k. refl;
 }
-push-part-table database (some e) source = go (push-into e source) refl
+push-part-table database new (some e) source = go (push-into new e source) refl
   where
-    go : (o : Option Node) → push-into e source ≡ o
+    go : (o : Option Node) → push-into new e source ≡ o
         → Pushed database (some e) source (Rattle.sql.specs.Optimizer.pushed-or-back e source o .0) (Rattle.sql.specs.Optimizer.pushed-or-back e source o .1)
-    go none h = handed-back database e source
-    go (some pushed) h = taken database e source pushed (push-into-table database e source pushed h)
+    go none h = handed-back database new e source
+    go (some pushed) h = taken database new e source pushed (push-into-table database new e source pushed h)
 
 -- ---- each conjunct goes left, right, or stays
 
@@ -255,28 +255,31 @@ module _ (test : ℕ → Bool) (lookups : List Expression) where
 pub record Equijoin (e : Expression) (pair : ℕ × ℕ) : Type 0 where
   pub a : ℕ
   pub b : ℕ
-  pub is : e ≡ binary Equal (column a) (column b)
+  pub own : ℕ
+  pub of-a : ℕ
+  pub of-b : ℕ
+  pub is : e ≡ binary own Equal (column of-a a) (column of-b b)
   pub pair-is : cond (ltb b a) (b, a) (a, b) ≡ pair
 
 no-pair : {A : Type 0} (p : ℕ × ℕ) → _≡_ {A = Option (ℕ × ℕ)} none (some p) → A
 no-pair p h = absurd (let y : _≡_ {A = ℕ} 0 1 = cc in omega arith)
 
-equal-columns : (l r : Expression) (p : ℕ × ℕ) → ordered (is-column l) (is-column r) ≡ some p → Equijoin (binary Equal l r) p
-equal-columns (constant v) r p h = no-pair p h
-equal-columns (column a) (constant v) p h = no-pair p h
-equal-columns (column a) (column b) p h = record { a = a; b = b; is = refl; pair-is = cc }
-equal-columns (column a) (unary o x) p h = no-pair p h
-equal-columns (column a) (binary o x y) p h = no-pair p h
-equal-columns (unary o x) r p h = no-pair p h
-equal-columns (binary o x y) r p h = no-pair p h
+equal-columns : (own : ℕ) (l r : Expression) (p : ℕ × ℕ) → ordered (is-column l) (is-column r) ≡ some p → Equijoin (binary own Equal l r) p
+equal-columns own (constant og v) r p h = no-pair p h
+equal-columns own (column og a) (constant og′ v) p h = no-pair p h
+equal-columns own (column og a) (column og′ b) p h = record { a = a; b = b; own = own; of-a = og; of-b = og′; is = refl; pair-is = cc }
+equal-columns own (column og a) (unary og′ o x) p h = no-pair p h
+equal-columns own (column og a) (binary og′ o x y) p h = no-pair p h
+equal-columns own (unary og o x) r p h = no-pair p h
+equal-columns own (binary og o x y) r p h = no-pair p h
 
 pub equijoin-of : (e : Expression) (p : ℕ × ℕ) → equijoin e ≡ some p → Equijoin e p
-equijoin-of (constant v) p h = no-pair p h
-equijoin-of (column c) p h = no-pair p h
-equijoin-of (unary o x) p h = no-pair p h
-equijoin-of (binary (logical o) l r) p h = no-pair p h
-equijoin-of (binary Equal l r) p h = equal-columns l r p h
-equijoin-of (binary (function f) l r) p h = no-pair p h
+equijoin-of (constant og v) p h = no-pair p h
+equijoin-of (column og c) p h = no-pair p h
+equijoin-of (unary og o x) p h = no-pair p h
+equijoin-of (binary og (logical o) l r) p h = no-pair p h
+equijoin-of (binary og Equal l r) p h = equal-columns og l r p h
+equijoin-of (binary og (function f) l r) p h = no-pair p h
 
 is-true-true : (t : Truth) → is-true t ≡ true → t ≡ True
 is-true-true False h = false≢true h
@@ -325,13 +328,13 @@ module _ (n : ℕ) (l r : Row) (h : length l ≡ n) where
   up-same e = ap (λ z. is-true (as-truth z))
       (map-columns-total (at (l ++ r)) (λ c. n + c) e ∙ ap (λ z. total z e) (fun-ext (λ c. rw (← h) (getD-append-add l r c null))))
 
-map-and-all : (f : ℕ → ℕ) (e : Expression) (es : List Expression) → map-columns f (and-all e es) ≡ and-all (map-columns f e) (map (map-columns f) es)
-map-and-all f e [] = refl
-map-and-all f e (x ∷ es) = map-and-all f (and e x) es
+map-and-all : (new : ℕ) (f : ℕ → ℕ) (e : Expression) (es : List Expression) → map-columns f (and-all new e es) ≡ and-all new (map-columns f e) (map (map-columns f) es)
+map-and-all new f e [] = refl
+map-and-all new f e (x ∷ es) = map-and-all new f (and new e x) es
 
-map-and-vec : (f : ℕ → ℕ) (es : List Expression) → map-optional (map-columns f) (and-vec es) ≡ and-vec (map (map-columns f) es)
-map-and-vec f [] = refl
-map-and-vec f (x ∷ es) = ap some (map-and-all f x es)
+map-and-vec : (new : ℕ) (f : ℕ → ℕ) (es : List Expression) → map-optional (map-columns f) (and-vec new es) ≡ and-vec new (map (map-columns f) es)
+map-and-vec new f [] = refl
+map-and-vec new f (x ∷ es) = ap some (map-and-all new f x es)
 
 optional-same : (f g : Expression → Bool) → ((e : Expression) → f e ≡ g e) → (o : Option Expression) → optional-true f o ≡ optional-true g o
 optional-same f g h none = refl
@@ -350,7 +353,7 @@ shuffle false kr bl br x = refl
 shuffle true false bl br x = and-false bl
 shuffle true true bl br x = sym (and-assoc bl br x) ∙ and-comm (bl && br) x
 
-module _ (n : ℕ) (cnf : List Expression) where
+module _ (og n : ℕ) (cnf : List Expression) where
   abbrev copies-down : List Expression
   copies-down = flat-map (λ e. copy-down (for-right n cnf) (equijoin e)) (for-both n cnf)
 
@@ -404,48 +407,48 @@ module _ (n : ℕ) (cnf : List Expression) where
         (ap (λ z. z && all (true-at row) (for-both n cnf)) (all-append (true-at row) (for-right n cnf) copies-up))))
 
   abbrev left-part : Option Expression
-  left-part = and-vec (push-left n cnf)
+  left-part = and-vec og (push-left n cnf)
 
   abbrev right-part : Option Expression
-  right-part = map-optional (shift-column-down n) (and-vec (push-right n cnf))
+  right-part = map-optional (shift-column-down n) (and-vec og (push-right n cnf))
 
   module _ (l r : Row) (h : length l ≡ n) where
     left-list : optional-true-at (at (l ++ r)) left-part ≡ optional-true-at (at l) left-part
-    left-list = true-and-vec (at (l ++ r)) (push-left n cnf)
+    left-list = true-and-vec (at (l ++ r)) og (push-left n cnf)
         ∙ (all-same (λ x. not (ref-right n x)) (true-at (at (l ++ r))) (true-at (at l)) (left-same n l r h) (push-left n cnf) all-left
-        ∙ sym (true-and-vec (at l) (push-left n cnf)))
+        ∙ sym (true-and-vec (at l) og (push-left n cnf)))
 
     right-list : optional-true-at (at r) right-part ≡ all (true-at (at (l ++ r))) (push-right n cnf)
-    right-list = ap (optional-true-at (at r)) (map-and-vec (λ c. c - n) (push-right n cnf))
-        ∙ (true-and-vec (at r) (map (shift-column-down n) (push-right n cnf))
+    right-list = ap (optional-true-at (at r)) (map-and-vec og (λ c. c - n) (push-right n cnf))
+        ∙ (true-and-vec (at r) og (map (shift-column-down n) (push-right n cnf))
         ∙ (all-map (true-at (at r)) (shift-column-down n) (push-right n cnf)
         ∙ all-same (λ x. not (ref-left n x)) (λ e. true-at (at r) (shift-column-down n e)) (true-at (at (l ++ r))) (right-same n l r h) (push-right n cnf) all-right))
 
     split-row : (kl kr : Bool) (bl br : List Expression)
         → optional-true-at (at (l ++ r)) left-part ≡ (kl && all (true-at (at (l ++ r))) bl)
         → optional-true (λ e. true-at (at (l ++ r)) (shift-column-up n e)) right-part ≡ (kr && all (λ e. true-at (at (l ++ r)) (shift-column-up n e)) br)
-        → all (true-at (at (l ++ r))) cnf ≡ (kl && (kr && optional-true-at (at (l ++ r)) (and-vec (for-both n cnf ++ (bl ++ map (shift-column-up n) br)))))
+        → all (true-at (at (l ++ r))) cnf ≡ (kl && (kr && optional-true-at (at (l ++ r)) (and-vec og (for-both n cnf ++ (bl ++ map (shift-column-up n) br)))))
     split-row kl kr bl br p q =
         let row = at (l ++ r) in
         with-copies row
         ∙ (ap₂ (λ a b. a && (b && all (true-at row) (for-both n cnf)))
-        (sym (true-and-vec row (push-left n cnf)) ∙ p)
+        (sym (true-and-vec row og (push-left n cnf)) ∙ p)
         (sym right-list ∙ (sym (optional-same (λ e. true-at row (shift-column-up n e)) (true-at (at r)) (up-same n l r h) right-part) ∙ q))
         ∙ (shuffle kl kr (all (true-at row) bl) (all (λ e. true-at row (shift-column-up n e)) br) (all (true-at row) (for-both n cnf))
         ∙ ap (λ z. kl && (kr && z))
-        (sym (true-and-vec row (for-both n cnf ++ (bl ++ map (shift-column-up n) br))
+        (sym (true-and-vec row og (for-both n cnf ++ (bl ++ map (shift-column-up n) br))
         ∙ (all-append (true-at row) (for-both n cnf) (bl ++ map (shift-column-up n) br)
         ∙ ap (λ z. all (true-at row) (for-both n cnf) && z) (all-append (true-at row) bl (map (shift-column-up n) br)
         ∙ ap (λ z. all (true-at row) bl && z) (all-map (true-at row) (shift-column-up n) br)))))))
 
   split-table-of : (database : Database) (outer : Bool) (p : Expression) → ((row : Columns) → true-at row p ≡ all (true-at row) cnf) → (left right : Node) → total-table database left .0 ≡ n
-      → total-table database (split n outer cnf left right) ≡ total-table database (join outer (nested-loop (some p)) left right)
+      → total-table database (split og n outer cnf left right) ≡ total-table database (join og outer (nested-loop (some p)) left right)
   split-table-of database outer p hp left right w =
-      let a = push-part-table database left-part left in
-      let b = push-part-table database right-part right in
-      let bl = push-part left-part left .1 in
-      let br = push-part right-part right .1 in
-      let q = and-vec (for-both n cnf ++ (bl ++ map (shift-column-up n) br)) in
+      let a = push-part-table database og left-part left in
+      let b = push-part-table database og right-part right in
+      let bl = push-part og left-part left .1 in
+      let br = push-part og right-part right .1 in
+      let q = and-vec og (for-both n cnf ++ (bl ++ map (shift-column-up n) br)) in
       ap₂ (total-join (nested-loop q)) (a .same-table) (b .same-table)
       ∙ ap (λ z. (total-table database left .0 + total-table database right .0, z))
       (sym (keep-joined n (λ row. true-at (at row) p) (a .test) (b .test) (λ row. optional-true-at (at row) q)
@@ -456,7 +459,7 @@ module _ (n : ℕ) (cnf : List Expression) where
       (subst (λ z. Wide z (total-table database left .1)) w (wide database left)) (total-table database right .1)))
 
 -- One split keeps T.
-pub split-table : (database : Database) (outer : Bool) (p : Expression) (left right : Node)
-    → total-table database (split (columns (database .schema) left) outer (into-cnf-vec p) left right) ≡ total-table database (join outer (nested-loop (some p)) left right)
-split-table database outer p left right =
-    split-table-of (columns (database .schema) left) (into-cnf-vec p) database outer p (λ row. sym (all-cnf row p)) left right (total-columns database left)
+pub split-table : (database : Database) (og : ℕ) (outer : Bool) (p : Expression) (left right : Node)
+    → total-table database (split og (columns (database .schema) left) outer (into-cnf-vec p) left right) ≡ total-table database (join og outer (nested-loop (some p)) left right)
+split-table database og outer p left right =
+    split-table-of og (columns (database .schema) left) (into-cnf-vec p) database outer p (λ row. sym (all-cnf row p)) left right (total-columns database left)

@@ -114,10 +114,10 @@ total-binary (Expression.function f) x y =
     valued no-column (or-null (bind (plain (total-of x)) (λ v. bind (plain (total-of y)) (evaluate-binary (Expression.function f) v))))
 
 abbrev pub total : Columns → Expression → Valued
-total columns (constant v) = valued no-column (from-value v)
-total columns (column c) = valued even-nots (from-value (columns c))
-total columns (unary o x) = total-unary o (total columns x)
-total columns (binary o l r) = total-binary o (total columns l) (total columns r)
+total columns (constant og v) = valued no-column (from-value v)
+total columns (column og c) = valued even-nots (from-value (columns c))
+total columns (unary og o x) = total-unary o (total columns x)
+total columns (binary og o l r) = total-binary o (total columns l) (total columns r)
 
 -- whether T is true
 abbrev pub true-at : Columns → Expression → Bool

@@ -10,7 +10,7 @@ use Rattle.sql.specs.Schema.{Schema, table-of}
 use Rattle.sql.specs.Expression.{Expression, column, binary, Equal, Row}
 use Rattle.sql.specs.Plan.{Label, Access, Leaf, scan, lookup, nothing, values, Other, limit, offset, order, projection, remap, aggregate, Over, filter, other, Join, nested-loop, hash, Node, leaf, over, join, leaf-columns, other-columns, columns, values-columns, remap-columns, remap-source, up-to, column-label, column-labels}
 use Rattle.sql.specs.Optimizer.{cons-if, keep}
-use Rattle.rows.specs.Database.{Wide, no-rows, and-row, Database}
+use Rattle.rows.specs.Database.{Wide, no-rows, and-row, unmarked, unmarked-aggregate, Database}
 use Rattle.rows.specs.Reading.{joined-rows, looked-up, lookup-column, fit, pick, pick-all, optional-value, remap-row, expressions, directions}
 use Rattle.same_rows.specs.Total.{at, true-at, optional-true-at, value-at}
 
@@ -24,7 +24,7 @@ keep-table f t = (t .0, keep f (t .1))
 -- of a joined row, whose first n values are the left source's
 abbrev pub join-true : Join → ℕ → Row → Bool
 join-true (nested-loop predicate) n row = optional-true-at (at row) predicate
-join-true (hash left-column right-column) n row = true-at (at row) (binary Equal (column left-column) (column (n + right-column)))
+join-true (hash left-column right-column) n row = true-at (at row) (binary 0 Equal (column 0 left-column) (column 0 (n + right-column)))
 
 abbrev pub total-join : Join → Table → Table → Table
 total-join j s t = (s .0 + t .0, keep (join-true j (s .0)) (joined-rows (s .1) (t .1)))
@@ -37,7 +37,7 @@ module _ (database : Database) where
   total-leaf (scan table alias predicate) = keep (λ row. optional-true-at (at row) predicate) (database .table-rows table)
   total-leaf (lookup access table alias constants) = keep (looked-up (lookup-column (database .schema) table access) constants) (database .table-rows table)
   total-leaf (nothing labels) = []
-  total-leaf (values rows) = map (λ es. fit (values-columns rows) (values-at es [])) rows
+  total-leaf (values rows) = map (λ es. fit (values-columns rows) (values-at (es .0) [])) rows
 
   abbrev pub total-other : Other → List Row → List Row
   total-other (limit amount) rows = take amount rows
@@ -45,22 +45,22 @@ module _ (database : Database) where
   total-other (order key) rows = pick-all (database .arrangement (directions key) (map (values-at (expressions key)) rows)) rows
   total-other (projection items) rows = map (values-at (expressions items)) rows
   total-other (remap targets) rows = map (remap-row targets) rows
-  total-other (aggregate group-by aggregates) rows = database .aggregated group-by aggregates rows
+  total-other (aggregate group-by aggregates) rows = database .aggregated (map unmarked group-by) (map unmarked-aggregate aggregates) rows
 
   abbrev pub total-over : Over → Table → Table
   total-over (filter predicate) t = keep-table (λ row. true-at (at row) predicate) t
   total-over (other o) t = (other-columns o (t .0), total-other o (t .1))
 
   abbrev pub total-table : Node → Table
-  total-table (leaf l) = (leaf-columns (database .schema) l, total-leaf l)
-  total-table (over o source) = total-over o (total-table source)
-  total-table (join outer j left right) = total-join j (total-table left) (total-table right)
+  total-table (leaf og l) = (leaf-columns (database .schema) l, total-leaf l)
+  total-table (over og o source) = total-over o (total-table source)
+  total-table (join og outer j left right) = total-join j (total-table left) (total-table right)
 
   pub total-columns : (n : Node) → total-table n .0 ≡ columns (database .schema) n
-  total-columns (leaf l) = refl
-  total-columns (over (filter predicate) source) = total-columns source
-  total-columns (over (other o) source) = ap (other-columns o) (total-columns source)
-  total-columns (join outer j left right) = ap₂ _+_ (total-columns left) (total-columns right)
+  total-columns (leaf og l) = refl
+  total-columns (over og (filter predicate) source) = total-columns source
+  total-columns (over og (other o) source) = ap (other-columns o) (total-columns source)
+  total-columns (join og outer j left right) = ap₂ _+_ (total-columns left) (total-columns right)
 
 -- ---- rows are as wide as the node says
 
@@ -119,11 +119,11 @@ length-up-to from (suc n) = ap suc (length-up-to (suc from) n)
 pub length-labels : (schema : Schema) (n : Node) → length (column-labels schema n) ≡ columns schema n
 length-labels schema n = length-map (up-to 0 (columns schema n)) (column-label schema n) ∙ length-up-to 0 (columns schema n)
 
-length-remap : (targets : List (Option ℕ)) (row : Row) → length (remap-row targets row) ≡ remap-columns targets
+length-remap : (targets : List (Option ℕ × ℕ)) (row : Row) → length (remap-row targets row) ≡ remap-columns targets
 length-remap targets row =
     length-map (up-to 0 (remap-columns targets)) (λ to. optional-value row (remap-source 0 targets to)) ∙ length-up-to 0 (remap-columns targets)
 
-length-values : {A : Type 0} (items : List (Expression × A)) (row : Row) → length (values-at (expressions items) row) ≡ length items
+length-values : {A : Type 0} (items : List (Expression × A × ℕ)) (row : Row) → length (values-at (expressions items) row) ≡ length items
 length-values items row = length-map (expressions items) (value-at (at row)) ∙ length-map items (λ item. item .0)
 
 module _ (database : Database) where
@@ -131,7 +131,7 @@ module _ (database : Database) where
   wide-leaf (scan table alias predicate) = wide-keep (λ row. optional-true-at (at row) predicate) (database .table-wide table)
   wide-leaf (lookup access table alias constants) = wide-keep (looked-up (lookup-column (database .schema) table access) constants) (database .table-wide table)
   wide-leaf (nothing labels) = no-rows
-  wide-leaf (values rows) = wide-map (values-columns rows) (λ es. fit (values-columns rows) (values-at es [])) (λ es. length-fit (values-columns rows) (values-at es [])) rows
+  wide-leaf (values rows) = wide-map (values-columns rows) (λ es. fit (values-columns rows) (values-at (es .0) [])) (λ es. length-fit (values-columns rows) (values-at (es .0) [])) rows
 
   wide-other : (o : Other) (n : ℕ) (rows : List Row) → Wide n rows → Wide (other-columns o n) (total-other database o rows)
   wide-other (limit amount) n rows w = wide-take amount w
@@ -139,10 +139,13 @@ module _ (database : Database) where
   wide-other (order key) n rows w = wide-pick-all (database .arrangement (directions key) (map (values-at (expressions key)) rows)) w
   wide-other (projection items) n rows w = wide-map (length items) (values-at (expressions items)) (length-values items) rows
   wide-other (remap targets) n rows w = wide-map (remap-columns targets) (remap-row targets) (length-remap targets) rows
-  wide-other (aggregate group-by aggregates) n rows w = database .aggregated-wide group-by aggregates rows
+  wide-other (aggregate group-by aggregates) n rows w =
+      subst (λ k. Wide k (total-other database (aggregate group-by aggregates) rows))
+      (ap₂ _+_ (length-map aggregates unmarked-aggregate) (length-map group-by unmarked))
+      (database .aggregated-wide (map unmarked group-by) (map unmarked-aggregate aggregates) rows)
 
   pub wide : (n : Node) → Wide (total-table database n .0) (total-table database n .1)
-  wide (leaf l) = wide-leaf l
-  wide (over (filter predicate) source) = wide-keep (λ row. true-at (at row) predicate) (wide source)
-  wide (over (other o) source) = wide-other o (total-table database source .0) (total-table database source .1) (wide source)
-  wide (join outer j left right) = wide-keep (join-true j (total-table database left .0)) (wide-joined (wide left) (wide right))
+  wide (leaf og l) = wide-leaf l
+  wide (over og (filter predicate) source) = wide-keep (λ row. true-at (at row) predicate) (wide source)
+  wide (over og (other o) source) = wide-other o (total-table database source .0) (total-table database source .1) (wide source)
+  wide (join og outer j left right) = wide-keep (join-true j (total-table database left .0)) (wide-joined (wide left) (wide right))

@@ -19,9 +19,9 @@ length-each f (x ∷ xs) ys h =
     let b = came (each f xs) (λ zs. ok (a .of ∷ zs)) ys (a .second) in
     ap length (sym (ok-same (b .second))) ∙ ap suc (length-each f xs (b .of) (b .first))
 
-pub values-row-own : (n : ℕ) (es : List Expression) → length es ≡ n → values-row n es ≡ evaluate-all es []
-values-row-own n es h = go (evaluate-all es []) refl
+pub values-row-own : (n : ℕ) (es : List Expression × ℕ) → length (es .0) ≡ n → values-row n es ≡ evaluate-all (es .0) []
+values-row-own n es h = go (evaluate-all (es .0) []) refl
   where
-    go : (r : Result Row) → evaluate-all es [] ≡ r → bind r (λ row. ok (fit n row)) ≡ r
-    go (ok row) e = ap ok (ap (λ z. fit z row) (sym (length-each (evaluate []) es row e ∙ h)) ∙ fit-own row)
+    go : (r : Result Row) → evaluate-all (es .0) [] ≡ r → bind r (λ row. ok (fit n row)) ≡ r
+    go (ok row) e = ap ok (ap (λ z. fit z row) (sym (length-each (evaluate []) (es .0) row e ∙ h)) ∙ fit-own row)
     go (err x) e = refl

@@ -10,10 +10,10 @@ use lib.Dec.{eqb, ltb}
 use lib.ListN.{length, length-append}
 use Rattle.value.specs.Value.{Value}
 use Rattle.sql.specs.Schema.{Schema}
-use Rattle.sql.specs.Expression.{Expression, size}
+use Rattle.sql.specs.Expression.{Marked, Expression, size}
 use Rattle.sql.specs.Plan.{Label, by-key, by-index, Leaf, scan, lookup, nothing, values, limit, offset, order, projection, remap, aggregate, Over, filter, other, Join, nested-loop, hash, leaf-columns, other-columns, leaf-size, over-size, join-size, optional-size, row-size, sum}
 use Rattle.sheet.specs.Cell.{Cell}
-use Rattle.sheet.specs.Content.{cell-of, item-cell, key-cell, agg-cell, label-cell, constant-cell}
+use Rattle.sheet.specs.Content.{cell-of, item-cell, key-cell, agg-cell, label-cell, constant-cell, marked}
 use Rattle.sheet.specs.Cells.{all-cells, expression-cells, optional-cells, constant-cells, label-cells, target-cells, item-cells, key-cells, agg-cells, row-cells, leaf-cells, other-cells, over-cells, join-cells}
 use Rattle.sheet.specs.Scope.{first-of, unless, in-each, column-outside, optional-outside, expressions-outside, table-columns, leaf-outside, over-outside, join-outside}
 use Rattle.node_scope.specs.Own.{is-node, sources, column-out, columns-read, node-outside, node-columns}
@@ -54,15 +54,15 @@ quiet-column q = next (record { plain = q .inner .node; column = q .column }) en
 plain-column : {ks : List Cell} → Each NoColumn ks → Each Plain ks
 plain-column e = each-map (λ k i. record { plain = i .plain }) e
 
-target-column : (t : Option ℕ) → Each NoColumn (target-cells t)
-target-column none = next (record { plain = refl; column = refl }) end
-target-column (some i) = next (record { plain = refl; column = refl }) end
+target-column : (t : Marked (Option ℕ)) → Each NoColumn (target-cells t)
+target-column (none, og) = next (record { plain = refl; column = refl }) end
+target-column (some i, og) = next (record { plain = refl; column = refl }) end
 
-constants-column : (vs : List Value) → Each NoColumn (all-cells constant-cells vs)
-constants-column vs = each-all constant-cells (λ v. quiet-column (constant-quiet v)) vs
+constants-column : (vs : List (Marked Value)) → Each NoColumn (all-cells constant-cells vs)
+constants-column vs = each-all constant-cells (λ v. quiet-column (constant-quiet (v .1) (v .0))) vs
 
-labels-column : (ls : List Label) → Each NoColumn (all-cells label-cells ls)
-labels-column ls = each-all label-cells (λ l. quiet-column (labelled-quiet 40 l refl)) ls
+labels-column : (ls : List (Marked Label)) → Each NoColumn (all-cells label-cells ls)
+labels-column ls = each-all label-cells (λ l. quiet-column (labelled-quiet (l .1) 40 (l .0) refl)) ls
 
 single-length : {A : Type 0} (f : A → Cell) (xs : List A) → length (all-cells (λ x. f x ∷ []) xs) ≡ length xs
 single-length f [] = refl
@@ -83,32 +83,32 @@ module _ {A : Type 0} (e : A → Expression) (k : A → Cell) (q : (x : A) → Q
   parts-length : (xs : List A) → length (all-cells part xs) ≡ sum (λ x. suc (size (e x))) xs
   parts-length xs = length-each part (λ x. suc (size (e x))) (λ x. part-length (e x) (q x)) xs
 
-key-quiet : (x : Expression × Bool) → Quiet (cell-of (key-cell (x .1)))
+key-quiet : (x : Expression × Bool × ℕ) → Quiet (marked (x .2) (cell-of (key-cell (x .1))))
 key-quiet x = quiet _ refl
 
-item-quiet : (x : Expression × Label) → Quiet (cell-of (item-cell (x .1)))
-item-quiet x = labelled-quiet 41 (x .1) refl
+item-quiet : (x : Expression × Label × ℕ) → Quiet (marked (x .2) (cell-of (item-cell (x .1))))
+item-quiet x = labelled-quiet (x .2) 41 (x .1) refl
 
-agg-quiet : (x : ℕ × Expression) → Quiet (cell-of (agg-cell (x .0)))
+agg-quiet : (x : ℕ × Expression × ℕ) → Quiet (marked (x .2) (cell-of (agg-cell (x .0))))
 agg-quiet x = quiet _ refl
 
-pub keys-inner : (ks : List (Expression × Bool)) → Each Inner (all-cells key-cells ks)
-keys-inner ks = parts-inner (λ x. x .0) (λ x. cell-of (key-cell (x .1))) key-quiet ks
+pub keys-inner : (ks : List (Expression × Bool × ℕ)) → Each Inner (all-cells key-cells ks)
+keys-inner ks = parts-inner (λ x. x .0) (λ x. marked (x .2) (cell-of (key-cell (x .1)))) key-quiet ks
 
-pub items-inner : (is : List (Expression × Label)) → Each Inner (all-cells item-cells is)
-items-inner is = parts-inner (λ x. x .0) (λ x. cell-of (item-cell (x .1))) item-quiet is
+pub items-inner : (is : List (Expression × Label × ℕ)) → Each Inner (all-cells item-cells is)
+items-inner is = parts-inner (λ x. x .0) (λ x. marked (x .2) (cell-of (item-cell (x .1)))) item-quiet is
 
-pub aggs-inner : (gs : List (ℕ × Expression)) → Each Inner (all-cells agg-cells gs)
-aggs-inner gs = parts-inner (λ x. x .1) (λ x. cell-of (agg-cell (x .0))) agg-quiet gs
+pub aggs-inner : (gs : List (ℕ × Expression × ℕ)) → Each Inner (all-cells agg-cells gs)
+aggs-inner gs = parts-inner (λ x. x .1) (λ x. marked (x .2) (cell-of (agg-cell (x .0)))) agg-quiet gs
 
 pub expressions-inner : (es : List Expression) → Each Inner (all-cells expression-cells es)
 expressions-inner es = each-all expression-cells expression-inner es
 
-pub constants-inner : (vs : List Value) → Each Inner (all-cells constant-cells vs)
-constants-inner vs = each-all constant-cells (λ v. next (constant-quiet v .inner) end) vs
+pub constants-inner : (vs : List (Marked Value)) → Each Inner (all-cells constant-cells vs)
+constants-inner vs = each-all constant-cells (λ v. next (constant-quiet (v .1) (v .0) .inner) end) vs
 
-pub labels-inner : (ls : List Label) → Each Inner (all-cells label-cells ls)
-labels-inner ls = each-all label-cells (λ l. next (labelled-quiet 40 l refl .inner) end) ls
+pub labels-inner : (ls : List (Marked Label)) → Each Inner (all-cells label-cells ls)
+labels-inner ls = each-all label-cells (λ l. next (labelled-quiet (l .1) 40 (l .0) refl .inner) end) ls
 
 -- ---- an expression that there may be
 
@@ -124,8 +124,8 @@ optional-column : (n at : ℕ) (f : Option Expression) → column-out n at (opti
 optional-column n at none = refl
 optional-column n at (some e) = column-out-expression n at e
 
-row-plain : (es : List Expression) → Each Plain (row-cells es)
-row-plain es = each-append (plain-inner (expressions-inner es)) (next (record { plain = refl }) end)
+row-plain : (es : Marked (List Expression)) → Each Plain (row-cells es)
+row-plain es = each-append (plain-inner (expressions-inner (es .0))) (next (record { plain = refl }) end)
 
 abbrev pub over-columns : Over → ℕ → ℕ
 over-columns (filter e) n = n
@@ -165,9 +165,9 @@ index-of i n h = omega arith
 module _ (schema : Schema) where
   -- ---- nodes over a source with n columns
 
-  pub over-told : (n at : ℕ) (o : Over) → Told schema n 0 n at (over-own o) (over-cells o) (over-outside schema n at o) (over-columns o n) (over-size o) 1
+  pub over-told : (n at og : ℕ) (o : Over) → Told schema n 0 n at (over-own o) (over-cells og o) (over-outside schema n at o) (over-columns o n) (over-size o) 1
   unfolding over-cells other-cells sources
-  over-told n at (filter e) =
+  over-told n at og (filter e) =
       record {
         last = _;
         cells-are = refl;
@@ -179,11 +179,11 @@ module _ (schema : Schema) where
         width-is = refl;
         size-is = omega (arith, expression-length e);
       }
-  over-told n at (other (limit m)) =
+  over-told n at og (other (limit m)) =
       record { last = _; cells-are = refl; plain = end; node = refl; sources-are = refl; reads = add-zero n; place = refl; width-is = refl; size-is = refl }
-  over-told n at (other (offset m)) =
+  over-told n at og (other (offset m)) =
       record { last = _; cells-are = refl; plain = end; node = refl; sources-are = refl; reads = add-zero n; place = refl; width-is = refl; size-is = refl }
-  over-told n at (other (order ks)) =
+  over-told n at og (other (order ks)) =
       record {
         last = _;
         cells-are = refl;
@@ -191,11 +191,11 @@ module _ (schema : Schema) where
         node = refl;
         sources-are = refl;
         reads = add-zero n;
-        place = first-of-none _ ∙ parts-column (λ x. x .0) (λ x. cell-of (key-cell (x .1))) key-quiet n at ks;
+        place = first-of-none _ ∙ parts-column (λ x. x .0) (λ x. marked (x .2) (cell-of (key-cell (x .1)))) key-quiet n at ks;
         width-is = refl;
-        size-is = omega (arith, parts-length (λ x. x .0) (λ x. cell-of (key-cell (x .1))) key-quiet ks);
+        size-is = omega (arith, parts-length (λ x. x .0) (λ x. marked (x .2) (cell-of (key-cell (x .1)))) key-quiet ks);
       }
-  over-told n at (other (projection is)) =
+  over-told n at og (other (projection is)) =
       record {
         last = _;
         cells-are = refl;
@@ -203,11 +203,11 @@ module _ (schema : Schema) where
         node = refl;
         sources-are = refl;
         reads = add-zero n;
-        place = first-of-none _ ∙ parts-column (λ x. x .0) (λ x. cell-of (item-cell (x .1))) item-quiet n at is;
+        place = first-of-none _ ∙ parts-column (λ x. x .0) (λ x. marked (x .2) (cell-of (item-cell (x .1)))) item-quiet n at is;
         width-is = refl;
-        size-is = omega (arith, parts-length (λ x. x .0) (λ x. cell-of (item-cell (x .1))) item-quiet is);
+        size-is = omega (arith, parts-length (λ x. x .0) (λ x. marked (x .2) (cell-of (item-cell (x .1)))) item-quiet is);
       }
-  over-told n at (other (remap ts)) =
+  over-told n at og (other (remap ts)) =
       let c = each-all target-cells target-column ts in
       record {
         last = _;
@@ -220,7 +220,7 @@ module _ (schema : Schema) where
         width-is = targets-end-is ts;
         size-is = omega (arith, targets-length ts);
       }
-  over-told n at (other (aggregate es gs)) =
+  over-told n at og (other (aggregate es gs)) =
       record {
         last = _;
         cells-are = sym (append-assoc (all-cells expression-cells es) (all-cells agg-cells gs) _);
@@ -232,19 +232,19 @@ module _ (schema : Schema) where
             first-of-none _
             ∙ column-out-append n at (all-cells expression-cells es) (all-cells agg-cells gs)
             ∙ rw (column-out-each n expression-cells (column-outside n) size (column-out-expression n) expression-length at es, length-each expression-cells size expression-length es)
-            (ap (first-of (expressions-outside n at es)) (parts-column (λ x. x .1) (λ x. cell-of (agg-cell (x .0))) agg-quiet n (at + sum size es) gs));
+            (ap (first-of (expressions-outside n at es)) (parts-column (λ x. x .1) (λ x. marked (x .2) (cell-of (agg-cell (x .0)))) agg-quiet n (at + sum size es) gs));
         width-is = add-comm (length es) (length gs);
         size-is =
             simp length-append
-            (omega (arith, length-each expression-cells size expression-length es, parts-length (λ x. x .1) (λ x. cell-of (agg-cell (x .0))) agg-quiet gs));
+            (omega (arith, length-each expression-cells size expression-length es, parts-length (λ x. x .1) (λ x. marked (x .2) (cell-of (agg-cell (x .0)))) agg-quiet gs));
       }
 
   -- ---- joins of sources with so many columns
 
-  pub join-told : (left right at : ℕ) (outer : Bool) (j : Join)
-      → Told schema left right (left + right) at (join-own j) (join-cells outer j) (join-outside schema left right at j) (left + right) (join-size j) 2
+  pub join-told : (left right at og : ℕ) (outer : Bool) (j : Join)
+      → Told schema left right (left + right) at (join-own j) (join-cells og outer j) (join-outside schema left right at j) (left + right) (join-size j) 2
   unfolding join-cells sources
-  join-told left right at outer (nested-loop p) =
+  join-told left right at og outer (nested-loop p) =
       record {
         last = _;
         cells-are = refl;
@@ -256,7 +256,7 @@ module _ (schema : Schema) where
         width-is = refl;
         size-is = omega (arith, optional-length p);
       }
-  join-told left right at outer (hash i j) =
+  join-told left right at og outer (hash i j) =
       record {
         last = _;
         cells-are = refl;
@@ -271,10 +271,10 @@ module _ (schema : Schema) where
 
   -- ---- leaves
 
-  scan-told : (at t : ℕ) (f : Option Expression) (flag b : ℕ)
-      → Told schema 0 0 (table-columns schema t) at (optional-cells f) (optional-cells f ++ (record { tag = 62; flag = flag; zeros = 0; a = t; b = b; c = 0 } ∷ [])) (optional-outside (table-columns schema t) at f) (table-columns schema t) (suc (optional-size f)) 0
+  scan-told : (at og t : ℕ) (f : Option Expression) (flag b : ℕ)
+      → Told schema 0 0 (table-columns schema t) at (optional-cells f) (optional-cells f ++ (record { tag = 62; flag = flag; origin = og; a = t; b = b; c = 0 } ∷ [])) (optional-outside (table-columns schema t) at f) (table-columns schema t) (suc (optional-size f)) 0
   unfolding sources
-  scan-told at t f flag b =
+  scan-told at og t f flag b =
       record {
         last = _;
         cells-are = refl;
@@ -287,10 +287,10 @@ module _ (schema : Schema) where
         size-is = omega (arith, optional-length f);
       }
 
-  lookup-told : (at t : ℕ) (vs : List Value) (flag b c : ℕ)
-      → Told schema 0 0 (table-columns schema t) at (all-cells constant-cells vs) (all-cells constant-cells vs ++ (record { tag = 54; flag = flag; zeros = 0; a = t; b = b; c = c } ∷ [])) none (table-columns schema t) (suc (length vs)) 0
+  lookup-told : (at og t : ℕ) (vs : List (Marked Value)) (flag b c : ℕ)
+      → Told schema 0 0 (table-columns schema t) at (all-cells constant-cells vs) (all-cells constant-cells vs ++ (record { tag = 54; flag = flag; origin = og; a = t; b = b; c = c } ∷ [])) none (table-columns schema t) (suc (length vs)) 0
   unfolding sources
-  lookup-told at t vs flag b c =
+  lookup-told at og t vs flag b c =
       record {
         last = _;
         cells-are = refl;
@@ -300,14 +300,14 @@ module _ (schema : Schema) where
         reads = refl;
         place = rw (no-column (table-columns schema t) at (constants-column vs)) refl;
         width-is = refl;
-        size-is = omega (arith, single-length (λ v. cell-of (constant-cell v)) vs);
+        size-is = omega (arith, single-length (λ v. marked (v .1) (cell-of (constant-cell (v .0)))) vs);
       }
 
-  index-told : (at t : ℕ) (vs : List Value) (flag b i : ℕ)
+  index-told : (at og t : ℕ) (vs : List (Marked Value)) (flag b i : ℕ)
       → i < 65536
-      → Told schema 0 0 (table-columns schema t) at (all-cells constant-cells vs) (all-cells constant-cells vs ++ (record { tag = 53; flag = flag; zeros = 0; a = t; b = b; c = i + 65536 * length vs } ∷ [])) (unless (ltb i (table-columns schema t)) (at + length vs)) (table-columns schema t) (suc (length vs)) 0
+      → Told schema 0 0 (table-columns schema t) at (all-cells constant-cells vs) (all-cells constant-cells vs ++ (record { tag = 53; flag = flag; origin = og; a = t; b = b; c = i + 65536 * length vs } ∷ [])) (unless (ltb i (table-columns schema t)) (at + length vs)) (table-columns schema t) (suc (length vs)) 0
   unfolding sources
-  index-told at t vs flag b i h =
+  index-told at og t vs flag b i h =
       record {
         last = _;
         cells-are = refl;
@@ -315,9 +315,9 @@ module _ (schema : Schema) where
         node = refl;
         sources-are = refl;
         reads = refl;
-        place = rw (no-column (table-columns schema t) at (constants-column vs), index-of i (length vs) h, single-length (λ v. cell-of (constant-cell v)) vs) refl;
+        place = rw (no-column (table-columns schema t) at (constants-column vs), index-of i (length vs) h, single-length (λ v. marked (v .1) (cell-of (constant-cell (v .0)))) vs) refl;
         width-is = refl;
-        size-is = omega (arith, single-length (λ v. cell-of (constant-cell v)) vs);
+        size-is = omega (arith, single-length (λ v. marked (v .1) (cell-of (constant-cell (v .0)))) vs);
       }
 
   -- the number of columns that a leaf reads
@@ -327,15 +327,15 @@ module _ (schema : Schema) where
   leaf-reads (nothing ls) = 0
   leaf-reads (values rs) = 0
 
-  pub leaf-told : (at : ℕ) (l : Leaf) → Indexed l → Told schema 0 0 (leaf-reads l) at (leaf-own l) (leaf-cells l) (leaf-outside schema at l) (leaf-columns schema l) (leaf-size l) 0
+  pub leaf-told : (at og : ℕ) (l : Leaf) → Indexed l → Told schema 0 0 (leaf-reads l) at (leaf-own l) (leaf-cells og l) (leaf-outside schema at l) (leaf-columns schema l) (leaf-size l) 0
   unfolding leaf-cells sources
-  leaf-told at (scan t none f) h = scan-told at t f _ _
-  leaf-told at (scan t (some r) f) h = scan-told at t f _ _
-  leaf-told at (lookup by-key t none vs) h = lookup-told at t vs _ _ _
-  leaf-told at (lookup by-key t (some r) vs) h = lookup-told at t vs _ _ _
-  leaf-told at (lookup (by-index i) t none vs) h = index-told at t vs _ _ i h
-  leaf-told at (lookup (by-index i) t (some r) vs) h = index-told at t vs _ _ i h
-  leaf-told at (nothing ls) h =
+  leaf-told at og (scan t none f) h = scan-told at og t f _ _
+  leaf-told at og (scan t (some r) f) h = scan-told at og t f _ _
+  leaf-told at og (lookup by-key t none vs) h = lookup-told at og t vs _ _ _
+  leaf-told at og (lookup by-key t (some r) vs) h = lookup-told at og t vs _ _ _
+  leaf-told at og (lookup (by-index i) t none vs) h = index-told at og t vs _ _ i h
+  leaf-told at og (lookup (by-index i) t (some r) vs) h = index-told at og t vs _ _ i h
+  leaf-told at og (nothing ls) h =
       record {
         last = _;
         cells-are = refl;
@@ -345,9 +345,9 @@ module _ (schema : Schema) where
         reads = refl;
         place = rw (no-column 0 at (labels-column ls)) refl;
         width-is = refl;
-        size-is = omega (arith, single-length (λ l. cell-of (label-cell l)) ls);
+        size-is = omega (arith, single-length (λ l. marked (l .1) (cell-of (label-cell (l .0)))) ls);
       }
-  leaf-told at (values rs) h =
+  leaf-told at og (values rs) h =
       record {
         last = _;
         cells-are = refl;
@@ -355,7 +355,7 @@ module _ (schema : Schema) where
         node = refl;
         sources-are = refl;
         reads = refl;
-        place = rw (column-out-each 0 row-cells (expressions-outside 0) row-size (row-column 0) row-length at rs, first-row-values rs, rows-have-values, length-each row-cells row-size row-length rs) refl;
+        place = rw (column-out-each 0 row-cells (λ i (row : Marked (List Expression)). expressions-outside 0 i (row .0)) row-size (row-column 0) row-length at rs, first-row-values rs, rows-have-values, length-each row-cells row-size row-length rs) refl;
         width-is = first-row-values rs;
         size-is = omega (arith, length-each row-cells row-size row-length rs);
       }

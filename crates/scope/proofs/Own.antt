@@ -11,10 +11,10 @@ use lib.Dec.{eqb}
 use lib.ListN.{length, length-append}
 use borrow.Author.Tests.{not-true}
 use Rattle.value.specs.Value.{False, Unknown, True, integer, float, string, Value, truth, datum}
-use Rattle.sql.specs.Expression.{Expression, constant, column, unary, binary, size, Unary, Not, function, IsNull, IsNaN, Identity, Negate, Binary, logical, Equal, And, Or, GreaterThan, LessThan, Add, Divide}
+use Rattle.sql.specs.Expression.{Marked, Expression, constant, column, unary, binary, size, Unary, Not, function, IsNull, IsNaN, Identity, Negate, Binary, logical, Equal, And, Or, GreaterThan, LessThan, Add, Divide}
 use Rattle.sql.specs.Plan.{Label, unlabelled, unqualified, qualified, sum, row-size, values-columns, remap-columns}
 use Rattle.sheet.specs.Cell.{Cell}
-use Rattle.sheet.specs.Content.{constant-as-cell, unary-tag, binary-tag, labelled, target-as-cell, cell-of, unary-cell, binary-cell}
+use Rattle.sheet.specs.Content.{constant-as-cell, unary-tag, binary-tag, labelled, target-as-cell, cell-of, constant-cell, unary-cell, binary-cell, marked}
 use Rattle.sheet.specs.Cells.{all-cells, expression-cells, row-cells, target-cells}
 use Rattle.sheet.specs.Scope.{first-of, unless, in-each, column-outside, expressions-outside, equally-long}
 use Rattle.node_scope.specs.Own.{is-node, column-below, column-out, first-row, rows-have, target-end, targets-end}
@@ -97,14 +97,14 @@ binary-is (function LessThan) = refl
 binary-is (function Add) = refl
 binary-is (function Divide) = refl
 
-pub constant-quiet : (v : Value) → Quiet (constant-as-cell v)
-constant-quiet v = quiet _ (constant-tag v)
+pub constant-quiet : (og : ℕ) (v : Value) → Quiet (marked og (cell-of (constant-cell v)))
+constant-quiet og v = quiet _ (constant-tag v)
 
-pub unary-quiet : (o : Unary) → Quiet (cell-of (unary-cell o))
-unary-quiet o = quiet _ (unary-is o)
+pub unary-quiet : (og : ℕ) (o : Unary) → Quiet (marked og (cell-of (unary-cell o)))
+unary-quiet og o = quiet _ (unary-is o)
 
-pub binary-quiet : (o : Binary) → Quiet (cell-of (binary-cell o))
-binary-quiet o = quiet _ (binary-is o)
+pub binary-quiet : (og : ℕ) (o : Binary) → Quiet (marked og (cell-of (binary-cell o)))
+binary-quiet og o = quiet _ (binary-is o)
 
 labelled-tag : (t : ℕ) (l : Label) → labelled t l .tag ≡ t
 labelled-tag t unlabelled = refl
@@ -115,17 +115,17 @@ labelled-tag t (qualified q n) = refl
 
 pub expression-length : (e : Expression) → length (expression-cells e) ≡ size e
 unfolding expression-cells
-expression-length (constant v) = refl
-expression-length (column i) = refl
-expression-length (unary o x) = simp (length-append, expression-length x) (omega arith)
-expression-length (binary o l r) = simp (length-append, expression-length l, expression-length r) (omega arith)
+expression-length (constant og v) = refl
+expression-length (column og i) = refl
+expression-length (unary og o x) = simp (length-append, expression-length x) (omega arith)
+expression-length (binary og o l r) = simp (length-append, expression-length l, expression-length r) (omega arith)
 
 pub expression-inner : (e : Expression) → Each Inner (expression-cells e)
 unfolding expression-cells
-expression-inner (constant v) = next (constant-quiet v .inner) end
-expression-inner (column i) = next (record { node = refl; target = refl; row = refl }) end
-expression-inner (unary o x) = each-append (expression-inner x) (next (unary-quiet o .inner) end)
-expression-inner (binary o l r) = each-append (expression-inner l) (each-append (expression-inner r) (next (binary-quiet o .inner) end))
+expression-inner (constant og v) = next (constant-quiet og v .inner) end
+expression-inner (column og i) = next (record { node = refl; target = refl; row = refl }) end
+expression-inner (unary og o x) = each-append (expression-inner x) (next (unary-quiet og o .inner) end)
+expression-inner (binary og o l r) = each-append (expression-inner l) (each-append (expression-inner r) (next (binary-quiet og o .inner) end))
 
 -- ---- Columns
 
@@ -149,15 +149,15 @@ module _ (n : ℕ) where
 
   pub column-out-expression : (at : ℕ) (e : Expression) → column-out n at (expression-cells e) ≡ column-outside n at e
   unfolding expression-cells
-  column-out-expression at (constant v) = column-out-quiet at (constant-quiet v)
-  column-out-expression at (column i) = first-of-none _
-  column-out-expression at (unary o x) =
-      column-out-before at (expression-cells x) (unary-quiet o) ∙ column-out-expression at x
-  column-out-expression at (binary o l r) =
+  column-out-expression at (constant og v) = column-out-quiet at (constant-quiet og v)
+  column-out-expression at (column og i) = first-of-none _
+  column-out-expression at (unary og o x) =
+      column-out-before at (expression-cells x) (unary-quiet og o) ∙ column-out-expression at x
+  column-out-expression at (binary og o l r) =
       column-out-append at (expression-cells l) _
       ∙ rw (expression-length l, column-out-expression at l)
       (ap (first-of (column-outside n at l))
-      (column-out-before (at + size l) (expression-cells r) (binary-quiet o) ∙ column-out-expression (at + size l) r))
+      (column-out-before (at + size l) (expression-cells r) (binary-quiet og o) ∙ column-out-expression (at + size l) r))
 
   -- trees of one sort, one after the other
   pub column-out-each : {A : Type 0} (f : A → List Cell) (g : ℕ → A → Option ℕ) (cells : A → ℕ)
@@ -186,18 +186,18 @@ module _ (e : Expression) {k : Cell} (q : Quiet k) where
   pub part-column : (n at : ℕ) → column-out n at (expression-cells e ++ (k ∷ [])) ≡ column-outside n at e
   part-column n at = column-out-before n at (expression-cells e) q ∙ column-out-expression n at e
 
-pub row-length : (es : List Expression) → length (row-cells es) ≡ row-size es
-row-length es = simp (length-append, length-each expression-cells size expression-length es) (omega arith)
+pub row-length : (es : Marked (List Expression)) → length (row-cells es) ≡ row-size es
+row-length es = simp (length-append, length-each expression-cells size expression-length (es .0)) (omega arith)
 
-pub row-column : (n at : ℕ) (es : List Expression) → column-out n at (row-cells es) ≡ expressions-outside n at es
+pub row-column : (n at : ℕ) (es : Marked (List Expression)) → column-out n at (row-cells es) ≡ expressions-outside n at (es .0)
 row-column n at es =
-    column-out-append n at (all-cells expression-cells es) _
-    ∙ first-of-none (column-out n at (all-cells expression-cells es))
-    ∙ column-out-each n expression-cells (column-outside n) size (column-out-expression n) expression-length at es
+    column-out-append n at (all-cells expression-cells (es .0)) _
+    ∙ first-of-none (column-out n at (all-cells expression-cells (es .0)))
+    ∙ column-out-each n expression-cells (column-outside n) size (column-out-expression n) expression-length at (es .0)
 
 -- a constant, a Label, an Item, a Key, an Agg, a Target, a Row: each is quiet, but that the last two are what they are
-pub labelled-quiet : (t : ℕ) (l : Label) → quiet-tag t ≡ true → Quiet (labelled t l)
-labelled-quiet t l e = quiet (labelled t l) (ap quiet-tag (labelled-tag t l) ∙ e)
+pub labelled-quiet : (og t : ℕ) (l : Label) → quiet-tag t ≡ true → Quiet (marked og (labelled t l))
+labelled-quiet og t l e = quiet (marked og (labelled t l)) (ap quiet-tag (labelled-tag t l) ∙ e)
 
 -- ---- Rows
 
@@ -210,30 +210,30 @@ pub rows-have-past : (n : ℕ) {xs : List Cell} → Each Inner xs → (ys : List
 rows-have-past n end ys = refl
 rows-have-past n (next p ps) ys = rw (p .row) (rows-have-past n ps ys)
 
-pub first-row-values : (rs : List (List Expression)) → first-row (all-cells row-cells rs) ≡ values-columns rs
+pub first-row-values : (rs : List (Marked (List Expression))) → first-row (all-cells row-cells rs) ≡ values-columns rs
 first-row-values [] = refl
-first-row-values (es ∷ rs) = rw append-assoc (first-row-past (each-all expression-cells expression-inner es) _)
+first-row-values (es ∷ rs) = rw append-assoc (first-row-past (each-all expression-cells expression-inner (es .0)) _)
 
-pub rows-have-values : (n : ℕ) (rs : List (List Expression)) → rows-have n (all-cells row-cells rs) ≡ equally-long n rs
+pub rows-have-values : (n : ℕ) (rs : List (Marked (List Expression))) → rows-have n (all-cells row-cells rs) ≡ equally-long n rs
 rows-have-values n [] = refl
 rows-have-values n (es ∷ rs) =
     rw append-assoc
-    (rows-have-past n (each-all expression-cells expression-inner es) _ ∙ ap (λ (b : Bool). eqb (length es) n && b) (rows-have-values n rs))
+    (rows-have-past n (each-all expression-cells expression-inner (es .0)) _ ∙ ap (λ (b : Bool). eqb (length (es .0)) n && b) (rows-have-values n rs))
 
 -- ---- Targets
 
-target-end-is : (t : Option ℕ) (ts : List (Option ℕ)) → max (target-end (target-as-cell t)) (remap-columns ts) ≡ remap-columns (t ∷ ts)
-target-end-is none ts = zero-max _
-target-end-is (some i) ts = rw add-one refl
+target-end-is : (t : Marked (Option ℕ)) (ts : List (Marked (Option ℕ))) → max (target-end (target-as-cell (t .0))) (remap-columns ts) ≡ remap-columns (t ∷ ts)
+target-end-is (none, og) ts = zero-max _
+target-end-is (some i, og) ts = rw add-one refl
 
-pub targets-end-is : (ts : List (Option ℕ)) → targets-end (all-cells target-cells ts) ≡ remap-columns ts
+pub targets-end-is : (ts : List (Marked (Option ℕ))) → targets-end (all-cells target-cells ts) ≡ remap-columns ts
 targets-end-is [] = refl
-targets-end-is (t ∷ ts) = ap (max (target-end (target-as-cell t))) (targets-end-is ts) ∙ target-end-is t ts
+targets-end-is (t ∷ ts) = ap (max (target-end (target-as-cell (t .0)))) (targets-end-is ts) ∙ target-end-is t ts
 
 target-tag : (t : Option ℕ) → target-as-cell t .tag ≡ 43
 target-tag none = refl
 target-tag (some i) = refl
 
-pub targets-length : (ts : List (Option ℕ)) → length (all-cells target-cells ts) ≡ length ts
+pub targets-length : (ts : List (Marked (Option ℕ))) → length (all-cells target-cells ts) ≡ length ts
 targets-length [] = refl
 targets-length (t ∷ ts) = ap suc (targets-length ts)

@@ -18,17 +18,17 @@ use Rattle.scope.proofs.Node.{Indexed}
 use Rattle.scope.proofs.Walk.{Indexes, walk, walked}
 
 module _ (text : List ℕ) (bytes tables : ℕ) where
-  indexed : (l : Leaf) → Each (Exact-cell text bytes tables) (leaf l) → Indexed l
-  indexed (scan t al f) e = tt
-  indexed (lookup by-key t al vs) e = tt
-  indexed (lookup (by-index i) t al vs) e = e .1 .1 .0
-  indexed (nothing ls) e = tt
-  indexed (values rs) e = tt
+  indexed : (og : ℕ) (l : Leaf) → Each (Exact-cell text bytes tables) (leaf og l) → Indexed l
+  indexed og (scan t al f) e = tt
+  indexed og (lookup by-key t al vs) e = tt
+  indexed og (lookup (by-index i) t al vs) e = e .1 .1 .0
+  indexed og (nothing ls) e = tt
+  indexed og (values rs) e = tt
 
   pub indexes : (n : Node) → Each (Exact-cell text bytes tables) n → Indexes n
-  indexes (leaf l) e = indexed l e
-  indexes (over o n) e = indexes n (e .0)
-  indexes (join outer j l r) e = (indexes l (e .0), indexes r (e .1 .0))
+  indexes (leaf og l) e = indexed og l e
+  indexes (over og o n) e = indexes n (e .0)
+  indexes (join og outer j l r) e = (indexes l (e .0), indexes r (e .1 .0))
 
 -- A sheet's cells are a plan's, and say it exactly.
 pub record Stands (s : List ℕ) (n : Node) : Type 0 where

@@ -38,9 +38,9 @@ if-node false at-node past = past
 
 -- IndexLookups' columns have two bytes.
 abbrev pub Indexes : Node → Type 0
-Indexes (leaf l) = Indexed l
-Indexes (over o n) = Indexes n
-Indexes (join outer j l r) = Indexes l × Indexes r
+Indexes (leaf og l) = Indexed l
+Indexes (over og o n) = Indexes n
+Indexes (join og outer j l r) = Indexes l × Indexes r
 
 unless-first : (x y : Option ℕ) (z : Scope) → unless-outside (first-of x y) z ≡ unless-outside x (unless-outside y z)
 unless-first none y z = refl
@@ -90,29 +90,29 @@ module _ (schema : Schema) where
       ∙ walk-at at own ws (t .last) ks (t .node) (t .sources-are) h (t .reads)
       ∙ rw (t .place, t .width-is, add-assoc, t .size-is) refl)
 
-  columns-over : (o : Over) (n : Node) → columns schema (over o n) ≡ over-columns o (columns schema n)
-  columns-over (filter e) n = refl
-  columns-over (other o) n = refl
+  columns-over : (og : ℕ) (o : Over) (n : Node) → columns schema (over og o n) ≡ over-columns o (columns schema n)
+  columns-over og (filter e) n = refl
+  columns-over og (other o) n = refl
 
   pub walk-cells : (at : ℕ) (n : Node) → Indexes n → (ws : List ℕ) (ks : List Cell)
       → walk at [] ws (cells n ++ ks) ≡ unless-outside (outside schema at n) (walk (at + node-size n) [] (columns schema n ∷ ws) ks)
   unfolding cells
-  walk-cells at (leaf l) h ws ks = walk-told at ws ws ks (leaf-told schema at l h) (λ next. refl)
-  walk-cells at (over o n) h ws ks =
+  walk-cells at (leaf og l) h ws ks = walk-told at ws ws ks (leaf-told schema at og l h) (λ next. refl)
+  walk-cells at (over og o n) h ws ks =
       rw append-assoc
-      (walk-cells at n h ws (over-cells o ++ ks)
+      (walk-cells at n h ws (over-cells og o ++ ks)
       ∙ ap (unless-outside (outside schema at n))
-      (walk-told (at + node-size n) (columns schema n ∷ ws) ws ks (over-told schema (columns schema n) (at + node-size n) o) (λ go. refl))
-      ∙ rw (columns-over o n, unless-first, add-assoc at (node-size n) (over-size o)) refl)
-  walk-cells at (join outer j l r) h ws ks =
+      (walk-told (at + node-size n) (columns schema n ∷ ws) ws ks (over-told schema (columns schema n) (at + node-size n) og o) (λ go. refl))
+      ∙ rw (columns-over og o n, unless-first, add-assoc at (node-size n) (over-size o)) refl)
+  walk-cells at (join og outer j l r) h ws ks =
       let second = at + node-size l in
       let third = second + node-size r in
       simp append-assoc
-      (walk-cells at l (h .0) ws (cells r ++ (join-cells outer j ++ ks))
+      (walk-cells at l (h .0) ws (cells r ++ (join-cells og outer j ++ ks))
       ∙ ap (unless-outside (outside schema at l))
-      (walk-cells second r (h .1) (columns schema l ∷ ws) (join-cells outer j ++ ks)
+      (walk-cells second r (h .1) (columns schema l ∷ ws) (join-cells og outer j ++ ks)
       ∙ ap (unless-outside (outside schema second r))
-      (walk-told third (columns schema r ∷ columns schema l ∷ ws) ws ks (join-told schema (columns schema l) (columns schema r) third outer j) (λ go. refl)))
+      (walk-told third (columns schema r ∷ columns schema l ∷ ws) ws ks (join-told schema (columns schema l) (columns schema r) third og outer j) (λ go. refl)))
       ∙ simp (unless-first, add-assoc))
 
 -- The walk over all cells of a plan.

@@ -1,4 +1,4 @@
--- A cell of document 01: 16 bytes with a tag, a flag, two zeros and the numbers a, b, c. Here: what each tag allows in the other fields, and refusals 6 and 7.
+-- A cell of document 01: 16 bytes with a tag, a flag, its origin (two zeros in edition 1) and the numbers a, b, c. Here: what each tag allows in the other fields, and refusals 6 and 7.
 use Prim.Native.Nat.{ℕ, _+_, _*_, _/_, _%_}
 use mathlib.Core.Bool.{Bool, true, false, not, _&&_, _||_, cond}
 use mathlib.Core.List.{List, [], _∷_}
@@ -8,13 +8,13 @@ use lib.Ieee as Ieee
 use lib.ListN.{length, getD}
 use Rattle.value.specs.Value.{the-nan}
 use Rattle.sheet.specs.Bytes.{byte, half, word}
-use Rattle.sheet.specs.Parts.{cells-at, tables-at, table-count, cell-count, record-at, inside, first-failing}
+use Rattle.sheet.specs.Parts.{edition, cells-at, tables-at, table-count, cell-count, record-at, inside, first-failing}
 use Rattle.sheet.specs.Tags
 
 pub record Cell : Type 0 where
   pub tag : ℕ
   pub flag : ℕ
-  pub zeros : ℕ
+  pub origin : ℕ
   pub a : ℕ
   pub b : ℕ
   pub c : ℕ
@@ -22,7 +22,7 @@ pub record Cell : Type 0 where
 -- the cell that starts at byte i
 abbrev pub cell-from : List ℕ → ℕ → Cell
 cell-from s i =
-    record { tag = byte s i; flag = byte s (i + 1); zeros = half s (i + 2); a = word s (i + 4); b = word s (i + 8); c = word s (i + 12) }
+    record { tag = byte s i; flag = byte s (i + 1); origin = half s (i + 2); a = word s (i + 4); b = word s (i + 8); c = word s (i + 12) }
 
 -- cell number i of a sheet
 unfoldable pub cell : List ℕ → ℕ → Cell
@@ -91,12 +91,12 @@ field-ok bytes tables flag table v = ltb v tables
 field-ok bytes tables flag (text k) v = cond (leb k flag) (inside bytes v) (eqb v 0)
 field-ok bytes tables flag (small k) v = cond (leb k flag) (ltb v 256) (eqb v 0)
 
-abbrev pub fields-ok : (bytes tables : ℕ) → Cell → Tag → Bool
-fields-ok bytes tables k unknown = false
-fields-ok bytes tables k not-carried = false
-fields-ok bytes tables k (carried flags a b c) =
+abbrev pub fields-ok : (origins bytes tables : ℕ) → Cell → Tag → Bool
+fields-ok origins bytes tables k unknown = false
+fields-ok origins bytes tables k not-carried = false
+fields-ok origins bytes tables k (carried flags a b c) =
     ltb (k .flag) flags
-    && (eqb (k .zeros) 0
+    && (ltb (k .origin) origins
     && (field-ok bytes tables (k .flag) a (k .a) && (field-ok bytes tables (k .flag) b (k .b) && field-ok bytes tables (k .flag) c (k .c))))
 
 -- a number of 64 bits from its low and its high half
@@ -107,14 +107,18 @@ wide low high = low + 4294967296 * high
 abbrev pub float-ok : Cell → Bool
 float-ok k = not (eqb (k .tag) Tags.float) || (not (Ieee.nanBits Ieee.binary64 (wide (k .a) (k .b))) || eqb (wide (k .a) (k .b)) the-nan)
 
-unfoldable pub cell-ok : (bytes tables : ℕ) → Cell → Bool
+-- How many origins there are for a cell, counted from 0: an edition 1 sheet has 0 alone, an edition 2 sheet every number of 16 bits.
+abbrev pub origins : List ℕ → ℕ
+origins s = cond (eqb (edition s) 1) 1 65536
+
+unfoldable pub cell-ok : (origins bytes tables : ℕ) → Cell → Bool
 unfolding tag-of
-cell-ok bytes tables k = fields-ok bytes tables k (tag-of (k .tag)) && float-ok k
+cell-ok origins bytes tables k = fields-ok origins bytes tables k (tag-of (k .tag)) && float-ok k
 
 -- Refusals 6 and 7 come from one walk: the lowest cell that breaks its layout.
 unfoldable pub bad-cell : List ℕ → Option ℕ
 unfolding first-failing
-bad-cell s = first-failing (λ i. cell-ok (tables-at s) (table-count s) (cell s i)) 0 (cell-count s)
+bad-cell s = first-failing (λ i. cell-ok (origins s) (tables-at s) (table-count s) (cell s i)) 0 (cell-count s)
 
 -- A tag that is known and not carried over is 7 with any fields, and anything else 6.
 abbrev pub bad-number : Tag → ℕ

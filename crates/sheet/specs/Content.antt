@@ -52,7 +52,7 @@ bit true = 1
 bit false = 0
 
 abbrev with : (tag flag a b c : ℕ) → Cell
-with t f a b c = record { tag = t; flag = f; zeros = 0; a = a; b = b; c = c }
+with t f a b c = record { tag = t; flag = f; origin = 0; a = a; b = b; c = c }
 
 abbrev pub unary-tag : Unary → ℕ
 unary-tag Not = Tags.not
@@ -122,6 +122,10 @@ cell-of (projection-cell n) = with Tags.projection 0 n 0 0
 cell-of (remap-cell n) = with Tags.remap 0 n 0 0
 cell-of (scan-cell f t al) = scan-as-cell f t al
 cell-of (values-cell n) = with Tags.values 0 n 0 0
+
+-- the same with an origin
+abbrev pub marked : ℕ → Cell → Cell
+marked og k = record { tag = k .tag; flag = k .flag; origin = og; a = k .a; b = k .b; c = k .c }
 
 -- ---- reading, of a cell whose layout is right
 

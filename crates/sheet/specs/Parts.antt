@@ -1,7 +1,7 @@
 -- Document 01, "The sheet": a sheet is text, table records, column records, cells and a trailer of 20 bytes, each part where the trailer says.
 -- Here: the parts, the records, and refusals 2 to 5. Each test says true of what is as it should be.
 use Prim.Native.Nat.{ℕ, zero, suc, _+_, _-_, _*_, _/_, _%_}
-use mathlib.Core.Bool.{Bool, true, false, _&&_, cond}
+use mathlib.Core.Bool.{Bool, true, false, _&&_, _||_, cond}
 use mathlib.Core.List.{List}
 use mathlib.Core.Option.{Option, none, some}
 use lib.Dec.{leb, ltb, eqb}
@@ -32,7 +32,7 @@ length-ok s = leb 20 (length s) && (leb (length s) 45332 && eqb (said-length s) 
 
 -- Refusal 3.
 unfoldable pub edition-ok : List ℕ → Bool
-edition-ok s = eqb (edition s) 1
+edition-ok s = eqb (edition s) 1 || eqb (edition s) 2
 
 -- From a byte up to another there are whole records of 16 bytes, at least `few` and at most `many`.
 abbrev pub records-ok : ℕ → ℕ → ℕ → ℕ → Bool

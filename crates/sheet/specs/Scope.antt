@@ -29,10 +29,10 @@ in-each f cells at (x ∷ xs) = first-of (f at x) (in-each f cells (at + cells x
 
 -- the first Column that is not below n
 abbrev pub column-outside : (n at : ℕ) → Expression → Option ℕ
-column-outside n at (constant v) = none
-column-outside n at (column i) = unless (ltb i n) at
-column-outside n at (unary o x) = column-outside n at x
-column-outside n at (binary o l r) = first-of (column-outside n at l) (column-outside n (at + size l) r)
+column-outside n at (constant og v) = none
+column-outside n at (column og i) = unless (ltb i n) at
+column-outside n at (unary og o x) = column-outside n at x
+column-outside n at (binary og o l r) = first-of (column-outside n at l) (column-outside n (at + size l) r)
 
 abbrev pub optional-outside : (n at : ℕ) → Option Expression → Option ℕ
 optional-outside n at none = none
@@ -42,9 +42,9 @@ abbrev pub expressions-outside : (n at : ℕ) → List Expression → Option ℕ
 expressions-outside n at es = in-each (column-outside n) size at es
 
 -- Rows of one Values are equally long.
-abbrev pub equally-long : ℕ → List (List Expression) → Bool
+abbrev pub equally-long : ℕ → List (List Expression × ℕ) → Bool
 equally-long n [] = true
-equally-long n (row ∷ rows) = eqb (length row) n && equally-long n rows
+equally-long n (row ∷ rows) = eqb (length (row .0)) n && equally-long n rows
 
 module _ (schema : Schema) where
   abbrev pub table-columns : ℕ → ℕ
@@ -57,7 +57,7 @@ module _ (schema : Schema) where
   leaf-outside at (lookup (by-index i) table alias constants) = unless (ltb i (table-columns table)) (at + length constants)
   leaf-outside at (nothing labels) = none
   leaf-outside at (values rows) =
-      first-of (in-each (expressions-outside 0) row-size at rows) (unless (equally-long (values-columns rows) rows) (at + sum row-size rows))
+      first-of (in-each (λ i (row : List Expression × ℕ). expressions-outside 0 i (row .0)) row-size at rows) (unless (equally-long (values-columns rows) rows) (at + sum row-size rows))
 
   -- of a node over a source with n columns, whose cells end where the node's own begin, at `at`
   abbrev pub over-outside : (n at : ℕ) → Over → Option ℕ
@@ -77,9 +77,9 @@ module _ (schema : Schema) where
 
   -- The lowest Column or node that is out of scope.
   abbrev pub outside : ℕ → Node → Option ℕ
-  outside at (leaf l) = leaf-outside at l
-  outside at (over o source) = first-of (outside at source) (over-outside (columns schema source) (at + node-size source) o)
-  outside at (join outer j left right) =
+  outside at (leaf og l) = leaf-outside at l
+  outside at (over og o source) = first-of (outside at source) (over-outside (columns schema source) (at + node-size source) o)
+  outside at (join og outer j left right) =
       first-of (outside at left)
       (first-of (outside (at + node-size left) right)
       (join-outside (columns schema left) (columns schema right) (at + node-size left + node-size right) j))
@@ -91,10 +91,10 @@ member t [] = false
 member t (u ∷ us) = eqb t u || member t us
 
 -- The first Target with flag 1 that equals one before it in the same Remap; `before` are those.
-abbrev pub repeated : (before : List ℕ) → ℕ → List (Option ℕ) → Option ℕ
+abbrev pub repeated : (before : List ℕ) → ℕ → List (Option ℕ × ℕ) → Option ℕ
 repeated before at [] = none
-repeated before at (none ∷ targets) = repeated before (suc at) targets
-repeated before at (some t ∷ targets) = elim (member t before) [ true ↦ some at | false ↦ repeated (t ∷ before) (suc at) targets ]
+repeated before at ((none, origin) ∷ targets) = repeated before (suc at) targets
+repeated before at ((some t, origin) ∷ targets) = elim (member t before) [ true ↦ some at | false ↦ repeated (t ∷ before) (suc at) targets ]
 
 abbrev pub over-repeated : ℕ → Over → Option ℕ
 over-repeated at (filter predicate) = none
@@ -106,6 +106,6 @@ over-repeated at (other (remap targets)) = repeated [] at targets
 over-repeated at (other (aggregate group-by aggregates)) = none
 
 abbrev pub target-repeated : ℕ → Node → Option ℕ
-target-repeated at (leaf l) = none
-target-repeated at (over o source) = first-of (target-repeated at source) (over-repeated (at + node-size source) o)
-target-repeated at (join outer j left right) = first-of (target-repeated at left) (target-repeated (at + node-size left) right)
+target-repeated at (leaf og l) = none
+target-repeated at (over og o source) = first-of (target-repeated at source) (over-repeated (at + node-size source) o)
+target-repeated at (join og outer j left right) = first-of (target-repeated at left) (target-repeated (at + node-size left) right)

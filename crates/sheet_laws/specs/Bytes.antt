@@ -98,10 +98,10 @@ pub length-cell-bytes : (k : Cell) → length (cell-bytes k) ≡ 16
 unfolding cell-bytes
 length-cell-bytes k = refl
 
-same-cell : (c d : Cell) → c .tag ≡ d .tag → c .flag ≡ d .flag → c .zeros ≡ d .zeros → c .a ≡ d .a → c .b ≡ d .b → c .c ≡ d .c → c ≡ d
+same-cell : (c d : Cell) → c .tag ≡ d .tag → c .flag ≡ d .flag → c .origin ≡ d .origin → c .a ≡ d .a → c .b ≡ d .b → c .c ≡ d .c → c ≡ d
 same-cell c d p q r s t u =
-    let e : _≡_ {A = Cell} (record { tag = c .tag; flag = c .flag; zeros = c .zeros; a = c .a; b = c .b; c = c .c })
-    (record { tag = d .tag; flag = d .flag; zeros = d .zeros; a = d .a; b = d .b; c = d .c }) = cc in
+    let e : _≡_ {A = Cell} (record { tag = c .tag; flag = c .flag; origin = c .origin; a = c .a; b = c .b; c = c .c })
+    (record { tag = d .tag; flag = d .flag; origin = d .origin; a = d .a; b = d .b; c = d .c }) = cc in
     e
 
 -- the cell written behind xs
@@ -110,7 +110,7 @@ unfolding cell-bytes half word bytes
 cell-written xs k ys p e w =
     let zs = cell-bytes k ++ ys in
     same-cell (cell-from (xs ++ zs) p) k (byte-after xs zs p 0 (omega arith)) (byte-after xs zs (p + 1) 1 (omega arith))
-    (half-after xs zs (p + 2) 2 (omega arith) ∙ mod-add-div (k .zeros) 256)
+    (half-after xs zs (p + 2) 2 (omega arith) ∙ mod-add-div (k .origin) 256)
     (word-after xs zs (p + 4) 4 (omega arith) ∙ digits (k .a) (w .a-word))
     (word-after xs zs (p + 8) 8 (omega arith) ∙ digits (k .b) (w .b-word))
     (word-after xs zs (p + 12) 12 (omega arith) ∙ digits (k .c) (w .c-word))

@@ -2,7 +2,7 @@
 use Prim.Native.Nat.{ℕ, zero, suc, _+_, _-_, _*_, _/_, _%_, _^_, _<_}
 use native.Mathlib.Nat.{mod-eq-of-lt, div-eq-of-lt, mod-lt, add-mul-mod-self-left, add-mul-div-left, div-lt-iff-lt-mul, mod-add-div}
 use native.Mathlib.Omega.{arith}
-use borrow.Author.Tests.{ltb-true, eqb-true, ltb-false}
+use borrow.Author.Tests.{ltb-true, lt-ltb, eqb-true, ltb-false}
 use mathlib.Core.Path.{_≡_, refl, sym, ap, _∙_, subst}
 use mathlib.Core.Bool.{Bool, true, false, _&&_, cond}
 use mathlib.Core.List.{List, [], _∷_}
@@ -18,7 +18,7 @@ use Rattle.sql.specs.Plan.{Label, unlabelled, unqualified, qualified}
 use Rattle.sheet.specs.Parts.{inside}
 use Rattle.sheet.specs.Cell.{Cell, Field, Tag, unknown, not-carried, carried, unused as unused-field, any as any-field, bit as bit-field, table as table-field, text as text-field, small as small-field, tags, tag-of, field-ok, fields-ok, float-ok, cell-ok, wide}
 use Rattle.sheet.specs.Content
-use Rattle.sheet.specs.Content.{Content, Reader, readers, low, high, content-of, cell-of, constant-cell, column-cell, unary-cell, binary-cell, label-cell, item-cell, key-cell, target-cell, agg-cell, row-cell, aggregate-cell, filter-cell, hash-join-cell, index-lookup-cell, key-lookup-cell, limit-cell, offset-cell, nested-loop-join-cell, nothing-cell, order-cell, projection-cell, remap-cell, scan-cell, values-cell}
+use Rattle.sheet.specs.Content.{Content, Reader, marked, readers, low, high, content-of, cell-of, constant-cell, column-cell, unary-cell, binary-cell, label-cell, item-cell, key-cell, target-cell, agg-cell, row-cell, aggregate-cell, filter-cell, hash-join-cell, index-lookup-cell, key-lookup-cell, limit-cell, offset-cell, nested-loop-join-cell, nothing-cell, order-cell, projection-cell, remap-cell, scan-cell, values-cell}
 use Rattle.sheet_laws.specs.Fits.{Word, Label-fits, Table-fits, Exact-cell}
 
 -- The numbers of a cell have 4 bytes.
@@ -68,15 +68,15 @@ wide-bound a b p q = omega arith
 
 -- ---- one tag
 
--- a cell with zeros where they belong
-abbrev pub laid : (t f a b c : ℕ) → Cell
-laid t f a b c = record { tag = t; flag = f; zeros = 0; a = a; b = b; c = c }
+-- a cell from its numbers, its origin first
+abbrev pub laid : (og t f a b c : ℕ) → Cell
+laid og t f a b c = record { tag = t; flag = f; origin = og; a = a; b = b; c = c }
 
--- What a reader says of a cell: a content that the cell is written for.
+-- What a reader says of a cell: a content that the cell, its origin aside, is written for.
 pub record Says (text : List ℕ) (bytes tables : ℕ) (said : Option Content) (c : Cell) : Type 0 where
   pub content : Content
   pub is : said ≡ some content
-  pub back : cell-of content ≡ c
+  pub back : cell-of content ≡ marked 0 c
   pub exact : Exact-cell text bytes tables content
 
 -- what a field that passes its test holds
@@ -122,43 +122,43 @@ abbrev Understands : ℕ → Tag → Reader → Type 0
 Understands t unknown reader = Unit {0}
 Understands t not-carried reader = Unit {0}
 Understands t (carried n fa fb fc) reader =
-    (text : List ℕ) (bytes tables f a b c : ℕ) → Fields bytes tables n fa fb fc f a b c → float-ok (laid t f a b c) ≡ true
-    → Says text bytes tables (reader text (laid t f a b c)) (laid t f a b c)
+    (og : ℕ) (text : List ℕ) (bytes tables f a b c : ℕ) → Fields bytes tables n fa fb fc f a b c → float-ok (laid og t f a b c) ≡ true
+    → Says text bytes tables (reader text (laid og t f a b c)) (laid og t f a b c)
 
 -- cells without numbers
-plain : (t : ℕ) (k : Content) → cell-of k ≡ laid t 0 0 0 0 → ((text : List ℕ) (bytes tables : ℕ) → Exact-cell text bytes tables k)
+plain : (t : ℕ) (k : Content) → cell-of k ≡ laid 0 t 0 0 0 0 → ((text : List ℕ) (bytes tables : ℕ) → Exact-cell text bytes tables k)
     → Understands t (carried 1 unused-field unused-field unused-field) (λ text c. some k)
-plain t k e x text bytes tables f a b c d g =
+plain t k e x og text bytes tables f a b c d g =
     let fe : f ≡ 0 = omega arith in
     record { content = k; is = refl; back = cc; exact = x text bytes tables }
 
 -- cells with a column number or a count in a
-counted : (t : ℕ) (k : ℕ → Content) → ((n : ℕ) → cell-of (k n) ≡ laid t 0 n 0 0)
+counted : (t : ℕ) (k : ℕ → Content) → ((n : ℕ) → cell-of (k n) ≡ laid 0 t 0 n 0 0)
     → ((text : List ℕ) (bytes tables n : ℕ) → Word n → Exact-cell text bytes tables (k n))
     → Understands t (carried 1 any-field unused-field unused-field) (λ text c. some (k (c .a)))
-counted t k e x text bytes tables f a b c d g =
+counted t k e x og text bytes tables f a b c d g =
     let fe : f ≡ 0 = omega arith in
     record { content = k a; is = refl; back = cc (e a); exact = x text bytes tables a (d .a-word) }
 
 boolean-says : Understands 2 (carried 1 bit-field unused-field unused-field) (λ text c. some (constant-cell (boolean (eqb (c .a) 1))))
-boolean-says text bytes tables f zero b c d g =
+boolean-says og text bytes tables f zero b c d g =
     let fe : f ≡ 0 = omega arith in
     record { content = constant-cell (truth False); is = refl; back = cc; exact = (tt, tt) }
-boolean-says text bytes tables f (suc zero) b c d g =
+boolean-says og text bytes tables f (suc zero) b c d g =
     let fe : f ≡ 0 = omega arith in
     record { content = constant-cell (truth True); is = refl; back = cc; exact = (tt, tt) }
-boolean-says text bytes tables f (suc (suc a)) b c d g = absurd (omega arith)
+boolean-says og text bytes tables f (suc (suc a)) b c d g = absurd (omega arith)
 
 string-says : Understands 5 (carried 1 (text-field 0) unused-field unused-field) (λ text c. some (constant-cell (datum (string (c .a) (bytes-at text (c .a))))))
-string-says text bytes tables zero a b c d g =
+string-says og text bytes tables zero a b c d g =
     record { content = constant-cell (datum (string a (bytes-at text a))); is = refl; back = cc; exact = ((d .a-ok, refl), tt) }
-string-says text bytes tables (suc f) a b c d g = absurd (omega (arith, d .flag-ok))
+string-says og text bytes tables (suc f) a b c d g = absurd (omega (arith, d .flag-ok))
 
 -- numbers of 64 bits: Integer, Float, Limit, Offset
-amount-says : (t : ℕ) (k : ℕ → Content) → ((n : ℕ) → n < 2 ^ 64 → cell-of (k n) ≡ laid t 0 (low n) (high n) 0)
-    → ((text : List ℕ) (bytes tables f a b c : ℕ) → wide a b < 2 ^ 64 → float-ok (laid t f a b c) ≡ true → Exact-cell text bytes tables (k (wide a b)))
+amount-says : (t : ℕ) (k : ℕ → Content) → ((n : ℕ) → n < 2 ^ 64 → cell-of (k n) ≡ laid 0 t 0 (low n) (high n) 0)
+    → ((text : List ℕ) (bytes tables f a b c : ℕ) → wide a b < 2 ^ 64 → float-ok (laid 0 t f a b c) ≡ true → Exact-cell text bytes tables (k (wide a b)))
     → Understands t (carried 1 any-field any-field unused-field) (λ text c. some (k (Content.amount c)))
-amount-says t k e x text bytes tables f a b c d g =
+amount-says t k e x og text bytes tables f a b c d g =
     let fe : f ≡ 0 = omega arith in
     let h : wide a b < 2 ^ 64 = wide-bound a b (d .a-word) (d .b-word) in
     record {
@@ -170,75 +170,75 @@ amount-says t k e x text bytes tables f a b c d g =
 
 integer-says : Understands 3 (carried 1 any-field any-field unused-field) (λ text c. some (constant-cell (datum (integer (integer-of-bits (Content.amount c))))))
 integer-says =
-    amount-says 3 (λ n. constant-cell (datum (integer (integer-of-bits n)))) (λ n h. ap (λ (m : ℕ). laid 3 0 (low m) (high m) 0) (bits-kept n h))
+    amount-says 3 (λ n. constant-cell (datum (integer (integer-of-bits n)))) (λ n h. ap (λ (m : ℕ). laid 0 3 0 (low m) (high m) 0) (bits-kept n h))
     (λ text bytes tables f a b c h g. (omega (arith, mag-of-bits (wide a b) h), tt))
 
 labelled-says : (t : ℕ) (k : Label → Content) → ((l : Label) → cell-of (k l) ≡ Content.labelled t l)
     → ((text : List ℕ) (bytes tables : ℕ) (l : Label) → Label-fits bytes l → Exact-cell text bytes tables (k l))
     → Understands t (carried 3 (text-field 1) (text-field 2) unused-field) (λ text c. some (k (Content.label-of c)))
-labelled-says t k e x text bytes tables zero a b c d g =
+labelled-says t k e x og text bytes tables zero a b c d g =
     record { content = k unlabelled; is = refl; back = cc (e unlabelled); exact = x text bytes tables unlabelled tt }
-labelled-says t k e x text bytes tables (suc zero) a b c d g =
+labelled-says t k e x og text bytes tables (suc zero) a b c d g =
     record { content = k (unqualified a); is = refl; back = cc (e (unqualified a)); exact = x text bytes tables (unqualified a) (d .a-ok) }
-labelled-says t k e x text bytes tables (suc (suc zero)) a b c d g =
+labelled-says t k e x og text bytes tables (suc (suc zero)) a b c d g =
     record { content = k (qualified a b); is = refl; back = cc (e (qualified a b)); exact = x text bytes tables (qualified a b) (d .a-ok, d .b-ok) }
-labelled-says t k e x text bytes tables (suc (suc (suc f))) a b c d g = absurd (omega (arith, d .flag-ok))
+labelled-says t k e x og text bytes tables (suc (suc (suc f))) a b c d g = absurd (omega (arith, d .flag-ok))
 
 key-says : Understands 42 (carried 2 unused-field unused-field unused-field) (λ text c. some (key-cell (Content.bit0 c)))
-key-says text bytes tables zero a b c d g = record { content = key-cell false; is = refl; back = cc; exact = (tt, tt) }
-key-says text bytes tables (suc zero) a b c d g = record { content = key-cell true; is = refl; back = cc; exact = (tt, tt) }
-key-says text bytes tables (suc (suc f)) a b c d g = absurd (omega (arith, d .flag-ok))
+key-says og text bytes tables zero a b c d g = record { content = key-cell false; is = refl; back = cc; exact = (tt, tt) }
+key-says og text bytes tables (suc zero) a b c d g = record { content = key-cell true; is = refl; back = cc; exact = (tt, tt) }
+key-says og text bytes tables (suc (suc f)) a b c d g = absurd (omega (arith, d .flag-ok))
 
 target-says : Understands 43 (carried 2 (small-field 1) unused-field unused-field) (λ text c. some (target-cell (Content.from-flag 1 c (c .a))))
-target-says text bytes tables zero a b c d g = record { content = target-cell none; is = refl; back = cc; exact = (tt, tt) }
-target-says text bytes tables (suc zero) a b c d g = record { content = target-cell (some a); is = refl; back = cc; exact = (omega (arith, d .a-ok), tt) }
-target-says text bytes tables (suc (suc f)) a b c d g = absurd (omega (arith, d .flag-ok))
+target-says og text bytes tables zero a b c d g = record { content = target-cell none; is = refl; back = cc; exact = (tt, tt) }
+target-says og text bytes tables (suc zero) a b c d g = record { content = target-cell (some a); is = refl; back = cc; exact = (omega (arith, d .a-ok), tt) }
+target-says og text bytes tables (suc (suc f)) a b c d g = absurd (omega (arith, d .flag-ok))
 
 agg-says : Understands 44 (carried 5 unused-field unused-field unused-field) (λ text c. some (agg-cell (c .flag)))
-agg-says text bytes tables f a b c d g = record { content = agg-cell f; is = refl; back = cc; exact = (omega (arith, d .flag-ok), tt) }
+agg-says og text bytes tables f a b c d g = record { content = agg-cell f; is = refl; back = cc; exact = (omega (arith, d .flag-ok), tt) }
 
 aggregate-says : Understands 50 (carried 1 any-field any-field unused-field) (λ text c. some (aggregate-cell (c .a) (c .b)))
-aggregate-says text bytes tables f a b c d g =
+aggregate-says og text bytes tables f a b c d g =
     let fe : f ≡ 0 = omega arith in
     record { content = aggregate-cell a b; is = refl; back = cc; exact = (tt, (d .a-word, d .b-word)) }
 
 hash-join-says : Understands 52 (carried 2 any-field any-field unused-field) (λ text c. some (hash-join-cell (Content.bit0 c) (c .a) (c .b)))
-hash-join-says text bytes tables zero a b c d g =
+hash-join-says og text bytes tables zero a b c d g =
     record { content = hash-join-cell false a b; is = refl; back = cc; exact = (tt, (d .a-word, d .b-word)) }
-hash-join-says text bytes tables (suc zero) a b c d g =
+hash-join-says og text bytes tables (suc zero) a b c d g =
     record { content = hash-join-cell true a b; is = refl; back = cc; exact = (tt, (d .a-word, d .b-word)) }
-hash-join-says text bytes tables (suc (suc f)) a b c d g = absurd (omega (arith, d .flag-ok))
+hash-join-says og text bytes tables (suc (suc f)) a b c d g = absurd (omega (arith, d .flag-ok))
 
 lookup-says : (t : ℕ) (k : ℕ → Option ℕ → ℕ → Content) → ((a : ℕ) (al : Option ℕ) (c : ℕ) → cell-of (k a al c) ≡ Content.lookup-as-cell t a al c)
     → ((text : List ℕ) (bytes tables a : ℕ) (al : Option ℕ) (c : ℕ) → Word c → Table-fits bytes tables a al → Exact-cell text bytes tables (k a al c))
     → Understands t (carried 2 table-field (text-field 1) any-field) (λ text c. some (k (c .a) (Content.from-flag 1 c (c .b)) (c .c)))
-lookup-says t k e x text bytes tables zero a b c d g =
+lookup-says t k e x og text bytes tables zero a b c d g =
     record { content = k a none c; is = refl; back = cc (e a none c); exact = x text bytes tables a none c (d .c-word) (d .a-ok, tt) }
-lookup-says t k e x text bytes tables (suc zero) a b c d g =
+lookup-says t k e x og text bytes tables (suc zero) a b c d g =
     record { content = k a (some b) c; is = refl; back = cc (e a (some b) c); exact = x text bytes tables a (some b) c (d .c-word) (d .a-ok, d .b-ok) }
-lookup-says t k e x text bytes tables (suc (suc f)) a b c d g = absurd (omega (arith, d .flag-ok))
+lookup-says t k e x og text bytes tables (suc (suc f)) a b c d g = absurd (omega (arith, d .flag-ok))
 
 nested-loop-says : Understands 56 (carried 4 unused-field unused-field unused-field) (λ text c. some (nested-loop-join-cell (Content.bit0 c) (Content.bit1 c)))
-nested-loop-says text bytes tables zero a b c d g =
+nested-loop-says og text bytes tables zero a b c d g =
     record { content = nested-loop-join-cell false false; is = refl; back = cc; exact = (tt, tt) }
-nested-loop-says text bytes tables (suc zero) a b c d g =
+nested-loop-says og text bytes tables (suc zero) a b c d g =
     record { content = nested-loop-join-cell true false; is = refl; back = cc; exact = (tt, tt) }
-nested-loop-says text bytes tables (suc (suc zero)) a b c d g =
+nested-loop-says og text bytes tables (suc (suc zero)) a b c d g =
     record { content = nested-loop-join-cell false true; is = refl; back = cc; exact = (tt, tt) }
-nested-loop-says text bytes tables (suc (suc (suc zero))) a b c d g =
+nested-loop-says og text bytes tables (suc (suc (suc zero))) a b c d g =
     record { content = nested-loop-join-cell true true; is = refl; back = cc; exact = (tt, tt) }
-nested-loop-says text bytes tables (suc (suc (suc (suc f)))) a b c d g = absurd (omega (arith, d .flag-ok))
+nested-loop-says og text bytes tables (suc (suc (suc (suc f)))) a b c d g = absurd (omega (arith, d .flag-ok))
 
 scan-says : Understands 62 (carried 4 table-field (text-field 2) unused-field) (λ text c. some (scan-cell (Content.bit0 c) (c .a) (Content.from-flag 2 c (c .b))))
-scan-says text bytes tables zero a b c d g =
+scan-says og text bytes tables zero a b c d g =
     record { content = scan-cell false a none; is = refl; back = cc; exact = ((d .a-ok, tt), tt) }
-scan-says text bytes tables (suc zero) a b c d g =
+scan-says og text bytes tables (suc zero) a b c d g =
     record { content = scan-cell true a none; is = refl; back = cc; exact = ((d .a-ok, tt), tt) }
-scan-says text bytes tables (suc (suc zero)) a b c d g =
+scan-says og text bytes tables (suc (suc zero)) a b c d g =
     record { content = scan-cell false a (some b); is = refl; back = cc; exact = ((d .a-ok, d .b-ok), tt) }
-scan-says text bytes tables (suc (suc (suc zero))) a b c d g =
+scan-says og text bytes tables (suc (suc (suc zero))) a b c d g =
     record { content = scan-cell true a (some b); is = refl; back = cc; exact = ((d .a-ok, d .b-ok), tt) }
-scan-says text bytes tables (suc (suc (suc (suc f)))) a b c d g = absurd (omega (arith, d .flag-ok))
+scan-says og text bytes tables (suc (suc (suc (suc f)))) a b c d g = absurd (omega (arith, d .flag-ok))
 
 -- ---- all tags: one proof for each row of the two tables
 
@@ -294,19 +294,15 @@ impossible : {A : Type 0} → false ≡ true → A
 impossible h = absurd (let z : _≡_ {A = ℕ} 0 1 = cc in omega arith)
 
 -- of a cell that passes the test of a tag's fields
-understood : (text : List ℕ) (bytes tables : ℕ) (c : Cell) (tag : Tag) (reader : Reader) → Understands (c .tag) tag reader → Words c
-    → fields-ok bytes tables c tag ≡ true → float-ok c ≡ true → Says text bytes tables (reader text c) c
-understood text bytes tables c unknown reader u w f g = impossible f
-understood text bytes tables c not-carried reader u w f g = impossible f
-understood text bytes tables c (carried n fa fb fc) reader u w f g =
-    let zabc : eqb (c .zeros) 0 && (fa-ok && (fb-ok && fc-ok)) ≡ true = and-right (ltb (c .flag) n) _ f in
-    let abc : fa-ok && (fb-ok && fc-ok) ≡ true = and-right (eqb (c .zeros) 0) _ zabc in
+understood : (text : List ℕ) (origins bytes tables : ℕ) (c : Cell) (tag : Tag) (reader : Reader) → Understands (c .tag) tag reader → Words c
+    → fields-ok origins bytes tables c tag ≡ true → float-ok c ≡ true → Says text bytes tables (reader text c) c
+understood text origins bytes tables c unknown reader u w f g = impossible f
+understood text origins bytes tables c not-carried reader u w f g = impossible f
+understood text origins bytes tables c (carried n fa fb fc) reader u w f g =
+    let zabc : ltb (c .origin) origins && (fa-ok && (fb-ok && fc-ok)) ≡ true = and-right (ltb (c .flag) n) _ f in
+    let abc : fa-ok && (fb-ok && fc-ok) ≡ true = and-right (ltb (c .origin) origins) _ zabc in
     let bc : fb-ok && fc-ok ≡ true = and-right fa-ok _ abc in
-    let z : c .zeros ≡ 0 = eqb-true (c .zeros) 0 (and-left (eqb (c .zeros) 0) _ zabc) in
-    let e : laid (c .tag) (c .flag) (c .a) (c .b) (c .c) ≡ c =
-    ap (λ (v : ℕ). record { tag = c .tag; flag = c .flag; zeros = v; a = c .a; b = c .b; c = c .c }) (sym z) in
-    subst (λ (k : Cell). Says text bytes tables (reader text k) k) e
-    (u text bytes tables (c .flag) (c .a) (c .b) (c .c)
+    u (c .origin) text bytes tables (c .flag) (c .a) (c .b) (c .c)
     (record {
       flag-ok = ltb-true (c .flag) n (and-left (ltb (c .flag) n) _ f);
       a-ok = holds bytes tables (c .flag) fa (c .a) (and-left fa-ok _ abc);
@@ -316,7 +312,7 @@ understood text bytes tables c (carried n fa fb fc) reader u w f g =
       b-word = w .b-word;
       c-word = w .c-word;
     })
-    (ap float-ok e ∙ g))
+    g
   where
     fa-ok : Bool
     fa-ok = field-ok bytes tables (c .flag) fa (c .a)
@@ -328,11 +324,43 @@ understood text bytes tables c (carried n fa fb fc) reader u w f g =
     fc-ok = field-ok bytes tables (c .flag) fc (c .c)
 
 -- A cell that passes its test says a content, and is the cell of that content.
-pub says : (text : List ℕ) (bytes tables : ℕ) (c : Cell) → Words c → cell-ok bytes tables c ≡ true → Says text bytes tables (content-of text c) c
+pub says : (text : List ℕ) (origins bytes tables : ℕ) (c : Cell) → Words c → cell-ok origins bytes tables c ≡ true → Says text bytes tables (content-of text c) c
 unfolding cell-ok tag-of content-of
-says text bytes tables c w h =
+says text origins bytes tables c w h =
     let tag = getD tags (c .tag) unknown in
     let reader : Reader = getD readers (c .tag) (λ text c. none) in
     let e : 0 + c .tag ≡ c .tag = omega arith in
-    understood text bytes tables c tag reader (subst (λ (t : ℕ). Understands t tag reader) e (tag-row all-rows (c .tag)))
-    w (and-left (fields-ok bytes tables c tag) (float-ok c) h) (and-right (fields-ok bytes tables c tag) (float-ok c) h)
+    understood text origins bytes tables c tag reader (subst (λ (t : ℕ). Understands t tag reader) e (tag-row all-rows (c .tag)))
+    w (and-left (fields-ok origins bytes tables c tag) (float-ok c) h) (and-right (fields-ok origins bytes tables c tag) (float-ok c) h)
+
+-- ---- origins
+
+-- the origin of a cell that passes the test of a tag's fields
+fields-origin : (origins bytes tables : ℕ) (c : Cell) (tag : Tag) → fields-ok origins bytes tables c tag ≡ true → c .origin < origins
+fields-origin origins bytes tables c unknown h = impossible h
+fields-origin origins bytes tables c not-carried h = impossible h
+fields-origin origins bytes tables c (carried n fa fb fc) h =
+    ltb-true (c .origin) origins (and-left (ltb (c .origin) origins) _ (and-right (ltb (c .flag) n) _ h))
+
+-- A cell that passes its test has one of the sheet's origins.
+pub origin-below : (origins bytes tables : ℕ) (c : Cell) → cell-ok origins bytes tables c ≡ true → c .origin < origins
+unfolding cell-ok tag-of
+origin-below origins bytes tables c h =
+    let tag = getD tags (c .tag) unknown in
+    fields-origin origins bytes tables c tag (and-left (fields-ok origins bytes tables c tag) (float-ok c) h)
+
+fields-marked : (few many bytes tables og : ℕ) (c : Cell) (tag : Tag) → og < many → fields-ok few bytes tables c tag ≡ true → fields-ok many bytes tables (marked og c) tag ≡ true
+fields-marked few many bytes tables og c unknown b h = impossible h
+fields-marked few many bytes tables og c not-carried b h = impossible h
+fields-marked few many bytes tables og c (carried n fa fb fc) b h =
+    and-true (ltb (c .flag) n) _ (and-left (ltb (c .flag) n) _ h)
+    (and-true (ltb og many) _ (lt-ltb og many b) (and-right (ltb (c .origin) few) _ (and-right (ltb (c .flag) n) _ h)))
+
+-- A cell that passes its test passes it with any other origin, in a sheet that has this one.
+pub ok-marked : (few many bytes tables og : ℕ) (c : Cell) → og < many → cell-ok few bytes tables c ≡ true → cell-ok many bytes tables (marked og c) ≡ true
+unfolding cell-ok tag-of
+ok-marked few many bytes tables og c b h =
+    let tag = getD tags (c .tag) unknown in
+    and-true (fields-ok many bytes tables (marked og c) tag) (float-ok c)
+    (fields-marked few many bytes tables og c tag b (and-left (fields-ok few bytes tables c tag) (float-ok c) h))
+    (and-right (fields-ok few bytes tables c tag) (float-ok c) h)

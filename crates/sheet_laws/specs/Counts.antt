@@ -10,7 +10,7 @@ use lib.Dec.{ltb}
 use lib.ListN.{length}
 use Rattle.value.specs.Value.{Value}
 use Rattle.sql.specs.Schema.{Schema, table-of}
-use Rattle.sql.specs.Expression.{Expression, constant, column, unary, binary, size}
+use Rattle.sql.specs.Expression.{Marked, Expression, constant, column, unary, binary, size}
 use Rattle.sql.specs.Plan.{by-key, by-index, Leaf, scan, lookup, nothing, values, limit, offset, order, projection, remap, aggregate, Over, filter, other, Join, nested-loop, hash, Node, leaf, over, join, remap-columns, values-columns, columns, sum, row-size, item-size, key-size, aggregate-size, leaf-size, over-size, join-size, node-size}
 use Rattle.sheet.specs.Content.{Content, constant-cell, label-cell, target-cell}
 use Rattle.sheet.specs.Scope.{first-of, unless, in-each, column-outside, optional-outside, expressions-outside, leaf-outside, over-outside, join-outside, outside}
@@ -42,10 +42,10 @@ all-map Q R f (x ∷ xs) q = (f x (q .0), all-map Q R f xs (q .1))
 -- ---- counts
 
 pub size-positive : (e : Expression) → 1 ≤ size e
-size-positive (constant v) = omega arith
-size-positive (column i) = omega arith
-size-positive (unary o x) = omega arith
-size-positive (binary o l r) = omega arith
+size-positive (constant og v) = omega arith
+size-positive (column og i) = omega arith
+size-positive (unary og o x) = omega arith
+size-positive (binary og o l r) = omega arith
 
 join-positive : (j : Join) → 1 ≤ join-size j
 join-positive (nested-loop p) = omega arith
@@ -56,9 +56,9 @@ pub count-bound : {A : Type 0} (g : A → ℕ) → ((x : A) → 1 ≤ g x) → (
 count-bound g p [] = omega arith
 count-bound g p (x ∷ xs) = omega (arith, p x, count-bound g p xs)
 
-pub values-bound : (rs : List (List Expression)) → values-columns rs ≤ sum row-size rs
+pub values-bound : (rs : List (Marked (List Expression))) → values-columns rs ≤ sum row-size rs
 values-bound [] = omega arith
-values-bound (r ∷ rs) = omega (arith, count-bound size size-positive r)
+values-bound (r ∷ rs) = omega (arith, count-bound size size-positive (r .0))
 
 -- The most columns of a plan with so many cells: 256 for each two of them, and for one that is left over. Joins of Scans of 256 columns have them: k Scans and the
 -- k - 1 joins over them are 2 k - 1 cells with 256 k columns.
@@ -74,38 +74,38 @@ module _ (schema : Schema) (narrow : (t : ℕ) → length (table-of schema t .co
     abbrev X : Content → Type 0
     X = Exact-cell text bytes tables
 
-    targets-bound : (ts : List (Option ℕ)) → All (λ t. F (target-cell t)) ts → remap-columns ts ≤ 256
+    targets-bound : (ts : List (Marked (Option ℕ))) → All (λ t. F (target-cell (t .0))) ts → remap-columns ts ≤ 256
     targets-bound [] x = omega arith
-    targets-bound (none ∷ ts) x = targets-bound ts (x .1)
-    targets-bound (some t ∷ ts) x = omega (arith, x .0, targets-bound ts (x .1))
+    targets-bound ((none, og) ∷ ts) x = targets-bound ts (x .1)
+    targets-bound ((some t, og) ∷ ts) x = omega (arith, x .0, targets-bound ts (x .1))
 
-    over-bound : (o : Over) (s : Node) → Each-over F o → columns schema s ≤ most-columns (node-size s)
-        → columns schema (over o s) ≤ most-columns (node-size (over o s))
-    over-bound (filter e) s x h = omega arith
-    over-bound (other (limit n)) s x h = omega arith
-    over-bound (other (offset n)) s x h = omega arith
-    over-bound (other (order ks)) s x h = omega arith
-    over-bound (other (projection is)) s x h = omega (arith, count-bound item-size (λ i. omega arith) is)
-    over-bound (other (remap ts)) s x h = omega (arith, targets-bound ts (x .0))
-    over-bound (other (aggregate es gs)) s x h =
+    over-bound : (og : ℕ) (o : Over) (s : Node) → Each-over F o → columns schema s ≤ most-columns (node-size s)
+        → columns schema (over og o s) ≤ most-columns (node-size (over og o s))
+    over-bound og (filter e) s x h = omega arith
+    over-bound og (other (limit n)) s x h = omega arith
+    over-bound og (other (offset n)) s x h = omega arith
+    over-bound og (other (order ks)) s x h = omega arith
+    over-bound og (other (projection is)) s x h = omega (arith, count-bound item-size (λ i. omega arith) is)
+    over-bound og (other (remap ts)) s x h = omega (arith, targets-bound ts (x .0))
+    over-bound og (other (aggregate es gs)) s x h =
         omega (arith, count-bound size size-positive es, count-bound aggregate-size (λ g. omega arith) gs)
 
     -- A plan has at most 256 columns for each two of its cells, if its tables have no more.
     pub columns-bound : (n : Node) → Each F n → columns schema n ≤ most-columns (node-size n)
-    columns-bound (leaf (scan t al p)) x = omega (arith, narrow t)
-    columns-bound (leaf (lookup a t al vs)) x = omega (arith, narrow t)
-    columns-bound (leaf (nothing ls)) x = omega arith
-    columns-bound (leaf (values rs)) x = omega (arith, values-bound rs)
-    columns-bound (over o s) x = over-bound o s (x .1) (columns-bound s (x .0))
-    columns-bound (join outer j l r) x = omega (arith, columns-bound l (x .0), columns-bound r (x .1 .0), join-positive j)
+    columns-bound (leaf og (scan t al p)) x = omega (arith, narrow t)
+    columns-bound (leaf og (lookup a t al vs)) x = omega (arith, narrow t)
+    columns-bound (leaf og (nothing ls)) x = omega arith
+    columns-bound (leaf og (values rs)) x = omega (arith, values-bound rs)
+    columns-bound (over og o s) x = over-bound og o s (x .1) (columns-bound s (x .0))
+    columns-bound (join og outer j l r) x = omega (arith, columns-bound l (x .0), columns-bound r (x .1 .0), join-positive j)
 
     -- ---- exact, in turn
 
     expression-exact : (w : ℕ) → w ≤ 2 ^ 32 → (e : Expression) (at : ℕ) → Each-expression F e → column-outside w at e ≡ none → Each-expression X e
-    expression-exact w b (constant v) at x h = (x, tt)
-    expression-exact w b (column i) at x h = (tt, omega (arith, ltb-true i w (unless-none (ltb i w) at h)))
-    expression-exact w b (unary o e) at x h = (expression-exact w b e at (x .0) h, (tt, tt))
-    expression-exact w b (binary o l r) at x h =
+    expression-exact w b (constant og v) at x h = (x, tt)
+    expression-exact w b (column og i) at x h = (tt, omega (arith, ltb-true i w (unless-none (ltb i w) at h)))
+    expression-exact w b (unary og o e) at x h = (expression-exact w b e at (x .0) h, (tt, tt))
+    expression-exact w b (binary og o l r) at x h =
         let p = first-of-none (column-outside w at l) (column-outside w (at + size l) r) h in
         (expression-exact w b l at (x .0) (p .0), (expression-exact w b r (at + size l) (x .1 .0) (p .1), (tt, tt)))
 
@@ -119,12 +119,15 @@ module _ (schema : Schema) (narrow : (t : ℕ) → length (table-of schema t .co
     expressions-exact w b es at x h s =
         in-each-none (column-outside w) size (Each-expression F) (Each-expression X) (λ e i y g c. expression-exact w b e i y g) es at x h s
 
-    row-exact : (es : List Expression) (at : ℕ) → Each-row F es → expressions-outside 0 at es ≡ none → row-size es ≤ 2048 → Each-row X es
-    row-exact es at x h s =
-        (expressions-exact 0 (omega arith) es at (x .0) h (omega arith), (tt, omega (arith, count-bound size size-positive es)))
+    abbrev row-outside : ℕ → Marked (List Expression) → Option ℕ
+    row-outside i row = expressions-outside 0 i (row .0)
 
-    constants-exact : (vs : List Value) → All (λ v. F (constant-cell v)) vs → All (λ v. X (constant-cell v)) vs
-    constants-exact = all-map (λ v. F (constant-cell v)) (λ v. X (constant-cell v)) (λ v x. (x, tt))
+    row-exact : (es : Marked (List Expression)) (at : ℕ) → Each-row F es → expressions-outside 0 at (es .0) ≡ none → row-size es ≤ 2048 → Each-row X es
+    row-exact es at x h s =
+        (expressions-exact 0 (omega arith) (es .0) at (x .0) h (omega arith), (tt, omega (arith, count-bound size size-positive (es .0))))
+
+    constants-exact : (vs : List (Marked Value)) → All (λ v. F (constant-cell (v .0))) vs → All (λ v. X (constant-cell (v .0))) vs
+    constants-exact = all-map (λ v. F (constant-cell (v .0))) (λ v. X (constant-cell (v .0))) (λ v x. (x, tt))
 
     leaf-exact : (l : Leaf) (at : ℕ) → Each-leaf F l → leaf-outside schema at l ≡ none → leaf-size l ≤ 2048 → Each-leaf X l
     leaf-exact (scan t al p) at x h s = (optional-exact (length (table-of schema t .columns)) (omega (arith, narrow t)) p at (x .0) h, (x .1, tt))
@@ -133,10 +136,10 @@ module _ (schema : Schema) (narrow : (t : ℕ) → length (table-of schema t .co
         let c = ltb-true i (length (table-of schema t .columns)) (unless-none (ltb i (length (table-of schema t .columns))) (at + length vs) h) in
         (constants-exact vs (x .0), (x .1, (omega (arith, narrow t), omega arith)))
     leaf-exact (nothing ls) at x h s =
-        (all-map (λ l. F (label-cell l)) (λ l. X (label-cell l)) (λ l y. (y, tt)) ls (x .0), (tt, omega arith))
+        (all-map (λ l. F (label-cell (l .0))) (λ l. X (label-cell (l .0))) (λ l y. (y, tt)) ls (x .0), (tt, omega arith))
     leaf-exact (values rs) at x h s =
-        let p = first-of-none (in-each (expressions-outside 0) row-size at rs) _ h in (
-          in-each-none (expressions-outside 0) row-size (Each-row F) (Each-row X) (λ r i. row-exact r i) rs at (x .0) (p .0) (omega arith),
+        let p = first-of-none (in-each row-outside row-size at rs) _ h in (
+          in-each-none row-outside row-size (Each-row F) (Each-row X) (λ r i. row-exact r i) rs at (x .0) (p .0) (omega arith),
           (tt, omega (arith, count-bound row-size (λ r. omega arith) rs)),
         )
 
@@ -153,7 +156,7 @@ module _ (schema : Schema) (narrow : (t : ℕ) → length (table-of schema t .co
       (tt, omega (arith, count-bound item-size (λ i. omega arith) is)),
     )
     over-exact w b (other (remap ts)) at x h s =
-        (all-map (λ t. F (target-cell t)) (λ t. X (target-cell t)) (λ t y. (y, tt)) ts (x .0), (tt, omega arith))
+        (all-map (λ t. F (target-cell (t .0))) (λ t. X (target-cell (t .0))) (λ t y. (y, tt)) ts (x .0), (tt, omega arith))
     over-exact w b (other (aggregate es gs)) at x h s =
         let p = first-of-none (expressions-outside w at es) _ h in (
           expressions-exact w b es at (x .0) (p .0) (omega arith),
@@ -173,13 +176,13 @@ module _ (schema : Schema) (narrow : (t : ℕ) → length (table-of schema t .co
 
     -- A plan that fits, is in scope and has room is exact.
     pub exact : (n : Node) (at : ℕ) → Each F n → outside schema at n ≡ none → node-size n ≤ 2048 → Each X n
-    exact (leaf l) at x h s = leaf-exact l at x h s
-    exact (over o n) at x h s =
+    exact (leaf og l) at x h s = leaf-exact l at x h s
+    exact (over og o n) at x h s =
         let p = first-of-none (outside schema at n) _ h in (
           exact n at (x .0) (p .0) (omega arith),
           over-exact (columns schema n) (omega (arith, columns-bound n (x .0))) o (at + node-size n) (x .1) (p .1) (omega arith),
         )
-    exact (join outer j l r) at x h s =
+    exact (join og outer j l r) at x h s =
         let p = first-of-none (outside schema at l) _ h in
         let q = first-of-none (outside schema (at + node-size l) r) _ (p .1) in (
           exact l at (x .0) (p .0) (omega arith),

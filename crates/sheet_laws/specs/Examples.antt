@@ -25,21 +25,21 @@ pub examples : List (List ℕ × Numbers)
 examples =
     -- P1 before its passes: Filter(Values(Row(1)), And(true, Not(false)))
     (
-      sheet [] [] [] (laid 3 0 1 0 0 ∷ laid 45 0 1 0 0 ∷ laid 63 0 1 0 0 ∷ laid 2 0 1 0 0 ∷ laid 2 0 0 0 0 ∷ laid 30 0 0 0 0 ∷ laid 10 0 0 0 0 ∷ laid 51 0 0 0 0 ∷ []),
+      sheet [] [] [] (laid 0 3 0 1 0 0 ∷ laid 0 45 0 1 0 0 ∷ laid 0 63 0 1 0 0 ∷ laid 0 2 0 1 0 0 ∷ laid 0 2 0 0 0 0 ∷ laid 0 30 0 0 0 0 ∷ laid 0 10 0 0 0 0 ∷ laid 0 51 0 0 0 0 ∷ []),
       success 8 1,
     )
     -- a Scan with the filter #0 = 5, of a table `t` with one column `k`
     ∷ (
       sheet (116 ∷ 107 ∷ []) (bytes 65536 ++ (bytes 0 ++ (bytes 1 ++ bytes 0))) (bytes 65537 ++ (1 ∷ 1 ∷ 0 ∷ 0 ∷ (bytes 0 ++ bytes 0)))
-          (laid 6 0 0 0 0 ∷ laid 3 0 5 0 0 ∷ laid 12 0 0 0 0 ∷ laid 62 1 0 0 0 ∷ []),
+          (laid 0 6 0 0 0 0 ∷ laid 0 3 0 5 0 0 ∷ laid 0 12 0 0 0 0 ∷ laid 0 62 1 0 0 0 ∷ []),
       success 4 1,
     )
     -- A Row of two expressions where there is one lacks a child.
-    ∷ (sheet [] [] [] (laid 3 0 1 0 0 ∷ laid 45 0 2 0 0 ∷ laid 63 0 1 0 0 ∷ []), refusal 8 1)
+    ∷ (sheet [] [] [] (laid 0 3 0 1 0 0 ∷ laid 0 45 0 2 0 0 ∷ laid 0 63 0 1 0 0 ∷ []), refusal 8 1)
     -- A Column in Values is out of scope.
-    ∷ (sheet [] [] [] (laid 6 0 0 0 0 ∷ laid 45 0 1 0 0 ∷ laid 63 0 1 0 0 ∷ []), refusal 9 0)
+    ∷ (sheet [] [] [] (laid 0 6 0 0 0 0 ∷ laid 0 45 0 1 0 0 ∷ laid 0 63 0 1 0 0 ∷ []), refusal 9 0)
     -- The second of two equal Targets in one Remap is refused.
-    ∷ (sheet [] [] [] (laid 3 0 1 0 0 ∷ laid 3 0 2 0 0 ∷ laid 45 0 2 0 0 ∷ laid 63 0 1 0 0 ∷ laid 43 1 7 0 0 ∷ laid 43 1 7 0 0 ∷ laid 61 0 2 0 0 ∷ []), refusal 10 5)
+    ∷ (sheet [] [] [] (laid 0 3 0 1 0 0 ∷ laid 0 3 0 2 0 0 ∷ laid 0 45 0 2 0 0 ∷ laid 0 63 0 1 0 0 ∷ laid 0 43 1 7 0 0 ∷ laid 0 43 1 7 0 0 ∷ laid 0 61 0 2 0 0 ∷ []), refusal 10 5)
     ∷ []
 
 pub examples-checked : map (λ e. check (e .0)) examples ≡ map (λ e. e .1) examples

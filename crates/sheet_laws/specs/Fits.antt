@@ -10,11 +10,12 @@ use lib.ListN.{length}
 use lib.Signed.{mag}
 use Rattle.value.specs.Value.{integer, float, string, Value, truth, datum, the-nan}
 use Rattle.value.specs.Meaning.{bytes-at}
-use Rattle.sql.specs.Expression.{Expression, constant, column, unary, binary}
+use Rattle.sql.specs.Expression.{Marked, Expression, constant, column, unary, binary}
 use Rattle.sql.specs.Plan.{Label, unlabelled, unqualified, qualified, Leaf, scan, lookup, nothing, values, limit, offset, order, projection, remap, aggregate, Over, filter, other, Join, nested-loop, hash, Node, leaf, over, join}
 use Rattle.sheet.specs.Parts.{inside}
+use Rattle.sheet.specs.Cell.{Cell}
 use Rattle.sheet.specs.Content.{Content, constant-cell, column-cell, unary-cell, binary-cell, label-cell, item-cell, key-cell, target-cell, agg-cell, row-cell, aggregate-cell, filter-cell, hash-join-cell, index-lookup-cell, key-lookup-cell, limit-cell, offset-cell, nested-loop-join-cell, nothing-cell, order-cell, projection-cell, remap-cell, scan-cell, values-cell}
-use Rattle.sheet.specs.Cells.{present, lookup-content}
+use Rattle.sheet.specs.Cells.{cells, present, lookup-content}
 
 -- ---- a property of each cell of a plan, by what the cell says
 
@@ -28,27 +29,27 @@ Optional P (some x) = P x
 
 module _ (P : Content → Type 0) where
   abbrev pub Each-expression : Expression → Type 0
-  Each-expression (constant v) = P (constant-cell v)
-  Each-expression (column i) = P (column-cell i)
-  Each-expression (unary o x) = Each-expression x × P (unary-cell o)
-  Each-expression (binary o l r) = Each-expression l × (Each-expression r × P (binary-cell o))
+  Each-expression (constant og v) = P (constant-cell v)
+  Each-expression (column og i) = P (column-cell i)
+  Each-expression (unary og o x) = Each-expression x × P (unary-cell o)
+  Each-expression (binary og o l r) = Each-expression l × (Each-expression r × P (binary-cell o))
 
-  abbrev pub Each-item : Expression × Label → Type 0
+  abbrev pub Each-item : Expression × Label × ℕ → Type 0
   Each-item i = Each-expression (i .0) × P (item-cell (i .1))
 
-  abbrev pub Each-key : Expression × Bool → Type 0
+  abbrev pub Each-key : Expression × Bool × ℕ → Type 0
   Each-key k = Each-expression (k .0) × P (key-cell (k .1))
 
-  abbrev pub Each-agg : ℕ × Expression → Type 0
+  abbrev pub Each-agg : ℕ × Expression × ℕ → Type 0
   Each-agg a = Each-expression (a .1) × P (agg-cell (a .0))
 
-  abbrev pub Each-row : List Expression → Type 0
-  Each-row es = All Each-expression es × P (row-cell (length es))
+  abbrev pub Each-row : Marked (List Expression) → Type 0
+  Each-row es = All Each-expression (es .0) × P (row-cell (length (es .0)))
 
   abbrev pub Each-leaf : Leaf → Type 0
   Each-leaf (scan t al f) = Optional Each-expression f × P (scan-cell (present f) t al)
-  Each-leaf (lookup a t al vs) = All (λ v. P (constant-cell v)) vs × P (lookup-content a t al (length vs))
-  Each-leaf (nothing ls) = All (λ l. P (label-cell l)) ls × P (nothing-cell (length ls))
+  Each-leaf (lookup a t al vs) = All (λ v. P (constant-cell (v .0))) vs × P (lookup-content a t al (length vs))
+  Each-leaf (nothing ls) = All (λ l. P (label-cell (l .0))) ls × P (nothing-cell (length ls))
   Each-leaf (values rs) = All Each-row rs × P (values-cell (length rs))
 
   -- without the source
@@ -58,7 +59,7 @@ module _ (P : Content → Type 0) where
   Each-over (other (offset n)) = P (offset-cell n)
   Each-over (other (order ks)) = All Each-key ks × P (order-cell (length ks))
   Each-over (other (projection is)) = All Each-item is × P (projection-cell (length is))
-  Each-over (other (remap ts)) = All (λ t. P (target-cell t)) ts × P (remap-cell (length ts))
+  Each-over (other (remap ts)) = All (λ t. P (target-cell (t .0))) ts × P (remap-cell (length ts))
   Each-over (other (aggregate es gs)) = All Each-expression es × (All Each-agg gs × P (aggregate-cell (length es) (length gs)))
 
   -- without the sources
@@ -67,9 +68,9 @@ module _ (P : Content → Type 0) where
   Each-join outer (hash l r) = P (hash-join-cell outer l r)
 
   abbrev pub Each : Node → Type 0
-  Each (leaf l) = Each-leaf l
-  Each (over o n) = Each n × Each-over o
-  Each (join outer j l r) = Each l × (Each r × Each-join outer j)
+  Each (leaf og l) = Each-leaf l
+  Each (over og o n) = Each n × Each-over o
+  Each (join og outer j l r) = Each l × (Each r × Each-join outer j)
 
 -- ---- what a cell can say
 
@@ -163,3 +164,9 @@ Exact-cell text bytes tables k = Content-fits text bytes tables k × Counts-fit 
 -- The plan's column numbers and counts can, too, so that its cells say it exactly.
 abbrev pub Exact : (text : List ℕ) (tables : ℕ) → Node → Type 0
 Exact text tables n = Each (Exact-cell text (length text) tables) n
+
+-- ---- origins
+
+-- The origins of a plan's cells are below a number.
+abbrev pub Origins-below : ℕ → Node → Type 0
+Origins-below bound n = All (λ c. c .origin < bound) (cells n)

@@ -4,7 +4,7 @@ use native.Mathlib.Nat.{mul-mod-right, mul-div-cancel-left}
 use native.Mathlib.Omega.{arith}
 use borrow.Author.Tests.{ltb-true, ltb-false, eqb-true, eqb-false, le-leb, eq-eqb}
 use mathlib.Core.Path.{_≡_, refl, sym, ap, _∙_, subst}
-use mathlib.Core.Bool.{Bool, true, false, cond}
+use mathlib.Core.Bool.{Bool, true, false, _||_, cond}
 use mathlib.Core.List.{List, [], _∷_, _++_, map, append-assoc}
 use mathlib.Core.Option.{none}
 use lib.Dec.{leb, ltb, eqb}
@@ -15,15 +15,16 @@ use Rattle.sql.specs.Schema.{Schema}
 use Rattle.sql.specs.Plan.{Leaf, scan, lookup, nothing, values, Node, leaf, over, join, leaf-size, node-size, columns, up-to}
 use Rattle.sheet.specs.Bytes.{byte, half, word}
 use Rattle.sheet.specs.Parts.{tables-at, columns-at, cells-at, edition, said-length, length-ok, edition-ok, records-ok, parts-ok, table-count, column-count, cell-count, record-at, table-name, first-column, columns-of, columns-before, table-ok, column-name, column-ok, record-ok, bad-record}
-use Rattle.sheet.specs.Cell.{Cell, cell-from, cell, cell-ok, bad-cell}
+use Rattle.sheet.specs.Cell.{Cell, cell-from, cell, cell-ok, origins, bad-cell}
+use Rattle.sheet.specs.Content.{marked}
 use Rattle.sheet.specs.Cells.{cells}
 use Rattle.sheet.specs.Tree.{read}
 use Rattle.sheet.specs.Scope.{outside, target-repeated}
 use Rattle.sheet.specs.Check.{text, table, column, schema, cells-of, plan, check}
 use Rattle.sheet.specs.Write.{cell-bytes, cells-bytes, trailer, sheet-with, write}
 use Rattle.sheet_laws.specs.Size.{node-length}
-use Rattle.sheet_laws.specs.Fits.{All, Fits, Exact}
-use Rattle.sheet_laws.specs.Content.{Words, and-true}
+use Rattle.sheet_laws.specs.Fits.{All, Fits, Exact, Origins-below}
+use Rattle.sheet_laws.specs.Content.{Words, and-true, ok-marked}
 use Rattle.sheet_laws.specs.Reading.{Good}
 use Rattle.sheet_laws.specs.Complete.{cells-good, complete}
 use Rattle.sheet_laws.specs.Counts.{exact, all-map}
@@ -124,9 +125,9 @@ module _ (s : List ℕ) (ks : List Cell) (r : Replaces s ks) where
   unfolding ends trailer word
   same-cells-at = ends-word 8 (cells-at s) (length w - 12) (omega (arith, length-w)) (digits (cells-at s) (omega arith))
 
-  edition-w : edition w ≡ 1
+  same-edition : edition w ≡ edition s
   unfolding ends trailer word
-  edition-w = ends-word 12 1 (length w - 8) (omega (arith, length-w)) refl
+  same-edition = ends-word 12 (edition s) (length w - 8) (omega (arith, length-w)) (digits (edition s) (omega (arith, r .parts-are .edition-small)))
 
   said-w : said-length w ≡ length w
   unfolding ends trailer word
@@ -142,7 +143,7 @@ module _ (s : List ℕ) (ks : List Cell) (r : Replaces s ks) where
 
   edition-ok-w : edition-ok w ≡ true
   unfolding edition-ok
-  edition-ok-w = eq-eqb (edition w) 1 edition-w
+  edition-ok-w = ap (λ (e : ℕ). eqb e 1 || eqb e 2) same-edition ∙ r .parts-are .edition-known
 
   parts-ok-w : parts-ok w ≡ true
   unfolding parts-ok
@@ -271,15 +272,19 @@ module _ (s : List ℕ) (ks : List Cell) (r : Replaces s ks) where
       ∙ ap (λ (c : ℕ). map (λ i. cell-from w (record-at c i)) (up-to 0 (length ks))) same-cells-at
       ∙ cells-written (cells-at s) (take (cells-at s) s) ks (trailer s (cells-at s + 16 * length ks + 20)) 0 start (r .words)
 
-  bad-cell-w : All (λ k. cell-ok (tables-at s) (table-count s) k ≡ true) ks → bad-cell w ≡ none
+  same-origins : origins w ≡ origins s
+  same-origins = ap (λ (e : ℕ). cond (eqb e 1) 1 65536) same-edition
+
+  bad-cell-w : All (λ k. cell-ok (origins s) (tables-at s) (table-count s) k ≡ true) ks → bad-cell w ≡ none
   unfolding bad-cell cells-of
   bad-cell-w h =
-      let all : All (λ k. cell-ok (tables-at w) (table-count w) k ≡ true) (map (cell w) (up-to 0 (cell-count w))) =
-      subst (λ (cs : List Cell). All (λ k. cell-ok (tables-at w) (table-count w) k ≡ true) cs) (sym cells-of-w)
-      (subst (λ (t : ℕ). All (λ k. cell-ok t (table-count w) k ≡ true) ks) (sym same-tables-at)
-      (subst (λ (t : ℕ). All (λ k. cell-ok (tables-at s) t k ≡ true) ks) (sym same-table-count) h)) in
-      all-passing (λ i. cell-ok (tables-at w) (table-count w) (cell w i)) 0 (cell-count w)
-      (λ j a b. all-at (λ k. cell-ok (tables-at w) (table-count w) k ≡ true) (cell w) 0 (cell-count w) all j a b)
+      let all : All (λ k. cell-ok (origins w) (tables-at w) (table-count w) k ≡ true) (map (cell w) (up-to 0 (cell-count w))) =
+      subst (λ (cs : List Cell). All (λ k. cell-ok (origins w) (tables-at w) (table-count w) k ≡ true) cs) (sym cells-of-w)
+      (subst (λ (o : ℕ). All (λ k. cell-ok o (tables-at w) (table-count w) k ≡ true) ks) (sym same-origins)
+      (subst (λ (t : ℕ). All (λ k. cell-ok (origins s) t (table-count w) k ≡ true) ks) (sym same-tables-at)
+      (subst (λ (t : ℕ). All (λ k. cell-ok (origins s) (tables-at s) t k ≡ true) ks) (sym same-table-count) h))) in
+      all-passing (λ i. cell-ok (origins w) (tables-at w) (table-count w) (cell w i)) 0 (cell-count w)
+      (λ j a b. all-at (λ k. cell-ok (origins w) (tables-at w) (table-count w) k ≡ true) (cell w) 0 (cell-count w) all j a b)
 
   -- Other cells are then written as they would be from s.
   written-over : (ls : List Cell) → sheet-with w ls ≡ sheet-with s ls
@@ -288,27 +293,34 @@ module _ (s : List ℕ) (ks : List Cell) (r : Replaces s ks) where
       let same-front : take (cells-at w) w ≡ take (cells-at s) s =
       ap (λ (n : ℕ). take n w) same-cells-at
       ∙ take-at (take (cells-at s) s) (cells-bytes ks ++ trailer s (cells-at s + 16 * length ks + 20)) (cells-at s) (length-take-le (cells-at s) s (omega arith)) in
-      cc (same-front, same-tables-at, same-columns-at, same-cells-at)
+      cc (same-front, same-tables-at, same-columns-at, same-cells-at, same-edition)
 
 -- ---- what is handed out
 
 -- From an accepted sheet, a plan in scope that the sheet can hold.
 pub record Can-hold (s : List ℕ) (m : Node) : Type 0 where
   pub fits : Fits (text s) (table-count s) m
+  pub origins-are : Origins-below (origins s) m
   pub in-scope : outside (schema s) 0 m ≡ none
   pub targets : target-repeated 0 m ≡ none
   pub room : node-size m ≤ 2048
 
 pub node-size-positive : (m : Node) → 1 ≤ node-size m
-node-size-positive (leaf l) = leaf-positive l
+node-size-positive (leaf og l) = leaf-positive l
   where
     leaf-positive : (l : Leaf) → 1 ≤ leaf-size l
     leaf-positive (scan t al f) = omega arith
     leaf-positive (lookup a t al vs) = omega arith
     leaf-positive (nothing ls) = omega arith
     leaf-positive (values rs) = omega arith
-node-size-positive (over o m) = omega (arith, node-size-positive m)
-node-size-positive (join outer j l r) = omega (arith, node-size-positive l)
+node-size-positive (over og o m) = omega (arith, node-size-positive m)
+node-size-positive (join og outer j l r) = omega (arith, node-size-positive l)
+
+-- Cells that pass their test but for their origins, and whose origins the sheet has.
+all-ok : (origins bytes tables : ℕ) (ks : List Cell) → All (Good bytes tables) ks → All (λ k. k .origin < origins) ks → All (λ k. cell-ok origins bytes tables k ≡ true) ks
+all-ok origins bytes tables [] g o = tt
+all-ok origins bytes tables (k ∷ ks) g o =
+    (ok-marked 1 origins bytes tables (k .origin) (marked 0 k) (o .0) (g .0 .ok), all-ok origins bytes tables ks (g .1) (o .1))
 
 module _ (s : List ℕ) (n : Node) (h : plan s ≡ done n) (m : Node) (c : Can-hold s m) where
   -- It is exact, so its cells can stand in the sheet.
@@ -350,9 +362,9 @@ module _ (s : List ℕ) (n : Node) (h : plan s ≡ done n) (m : Node) (c : Can-h
   written-plan =
       let a = accepted s n h in
       let p = parts-of a in
-      let ok : All (λ k. cell-ok (tables-at s) (table-count s) k ≡ true) (cells m) =
-      subst (λ (t : ℕ). All (λ k. cell-ok t (table-count s) k ≡ true) (cells m)) (text-length s p)
-      (all-map (Good (length (text s)) (table-count s)) (λ k. cell-ok (length (text s)) (table-count s) k ≡ true) (λ k g. g .ok) (cells m) held-good) in
+      let ok : All (λ k. cell-ok (origins s) (tables-at s) (table-count s) k ≡ true) (cells m) =
+      subst (λ (t : ℕ). All (λ k. cell-ok (origins s) t (table-count s) k ≡ true) (cells m)) (text-length s p)
+      (all-ok (origins s) (length (text s)) (table-count s) (cells m) held-good (c .origins-are)) in
       accepting (record {
         length-is = length-ok-w s (cells m) held-cells;
         edition-is = edition-ok-w s (cells m) held-cells;

@@ -4,7 +4,7 @@ use native.Mathlib.Nat.{div-add-mod}
 use native.Mathlib.Omega.{arith}
 use borrow.Author.Tests.{ltb-true, leb-true, eqb-true, eqb-false, lt-ltb, le-ltb, le-leb}
 use mathlib.Core.Path.{_≡_, refl, sym, ap, _∙_}
-use mathlib.Core.Bool.{Bool, true, false, cond}
+use mathlib.Core.Bool.{_||_, Bool, true, false, cond}
 use mathlib.Core.List.{List, map}
 use mathlib.Core.Option.{Option, none, some}
 use lib.Dec.{leb, ltb, eqb}
@@ -20,7 +20,8 @@ pub record Parts (s : List ℕ) : Type 0 where
   pub long : 20 ≤ length s
   pub short : length s ≤ 45332
   pub said : said-length s ≡ length s
-  pub edition-one : edition s ≡ 1
+  pub edition-known : edition-ok s ≡ true
+  pub edition-small : edition s ≤ 2
   pub text-short : tables-at s ≤ 8192
   pub tables : columns-at s ≡ tables-at s + table-count s * 16
   pub tables-few : table-count s ≤ 16
@@ -47,6 +48,13 @@ counted from upto few many h =
     let d = div-add-mod (upto - from) 16 in
     record { ends = omega arith; least = omega arith; most = omega arith }
 
+one-or-two : (e : ℕ) → eqb e 1 || eqb e 2 ≡ true → e ≤ 2
+one-or-two e h = go (eqb e 1) refl h
+  where
+    go : (b : Bool) → eqb e 1 ≡ b → b || eqb e 2 ≡ true → e ≤ 2
+    go true q h = omega (arith, eqb-true e 1 q)
+    go false q h = omega (arith, eqb-true e 2 h)
+
 pub parts : (s : List ℕ) → length-ok s ≡ true → edition-ok s ≡ true → parts-ok s ≡ true → Parts s
 unfolding length-ok edition-ok parts-ok
 parts s l e p =
@@ -61,7 +69,8 @@ parts s l e p =
       long = long;
       short = leb-true (length s) 45332 (and-left (leb (length s) 45332) _ l1);
       said = eqb-true (said-length s) (length s) (and-right (leb (length s) 45332) _ l1);
-      edition-one = eqb-true (edition s) 1 e;
+      edition-known = e;
+      edition-small = one-or-two (edition s) e;
       text-short = leb-true (tables-at s) 8192 (and-left (leb (tables-at s) 8192) _ p);
       tables = t .ends;
       tables-few = t .most;

@@ -2,22 +2,24 @@
 use Prim.Native.Nat.{ℕ, zero, suc, _+_, _≤_, _<_}
 use native.Mathlib.Omega.{arith}
 use mathlib.Core.Path.{_≡_, sym, ap, _∙_, subst}
+use mathlib.Core.Bool.{Bool, true, false, cond}
 use mathlib.Core.List.{List, [], _∷_, map}
 use mathlib.Core.Option.{none}
+use lib.Dec.{eqb}
 use lib.ListN.{length, length-map}
 use lib.Seq.{length-take-le}
 use Rattle.sql.specs.Answer.{done}
 use Rattle.sql.specs.Plan.{Node, node-size, up-to}
 use Rattle.sheet.specs.Bytes.{byte, word}
-use Rattle.sheet.specs.Parts.{tables-at, cells-at, cell-count, table-count, record-at}
-use Rattle.sheet.specs.Cell.{cell, cell-ok, bad-cell}
+use Rattle.sheet.specs.Parts.{edition, tables-at, cells-at, cell-count, table-count, record-at}
+use Rattle.sheet.specs.Cell.{cell, cell-ok, origins, bad-cell}
 use Rattle.sheet.specs.Cells.{cells}
 use Rattle.sheet.specs.Content.{Content}
 use Rattle.sheet.specs.Tree.{node-tree}
 use Rattle.sheet.specs.Check.{text, cells-of, plan}
 use Rattle.sheet_laws.specs.Size.{node-length}
-use Rattle.sheet_laws.specs.Fits.{All, Word, Each, Content-fits, Exact-cell, Fits, Exact}
-use Rattle.sheet_laws.specs.Content.{Words}
+use Rattle.sheet_laws.specs.Fits.{All, Word, Each, Content-fits, Exact-cell, Fits, Exact, Origins-below}
+use Rattle.sheet_laws.specs.Content.{Words, origin-below, ok-marked}
 use Rattle.sheet_laws.specs.Reading.{Good, sound, read-runs}
 use Rattle.sheet_laws.specs.Complete.{one-reading}
 use Rattle.sheet_laws.specs.Accepted.{Accepted, accepted}
@@ -53,7 +55,27 @@ pub cells-pass : (s : List ℕ) → Bytes s → bad-cell s ≡ none → All (Goo
 unfolding bad-cell cells-of
 cells-pass s b h =
     all-up-to (Good (tables-at s) (table-count s)) (cell s) 0 (cell-count s)
-    (λ j p q. record { words = cell-words s b j; ok = none-failing (λ i. cell-ok (tables-at s) (table-count s) (cell s i)) 0 (cell-count s) h j p q })
+    (λ j p q. record {
+      words = cell-words s b j;
+      ok = ok-marked (origins s) 1 (tables-at s) (table-count s) 0 (cell s j) (omega arith)
+          (none-failing (λ i. cell-ok (origins s) (tables-at s) (table-count s) (cell s i)) 0 (cell-count s) h j p q);
+    })
+
+-- Every sheet has the origin 0.
+pub origins-some : (s : List ℕ) → 0 < origins s
+origins-some s = go (eqb (edition s) 1)
+  where
+    go : (b : Bool) → 0 < cond b 1 65536
+    go true = omega arith
+    go false = omega arith
+
+-- Their origins are some that the sheet has.
+pub cells-origins : (s : List ℕ) → bad-cell s ≡ none → All (λ c. c .origin < origins s) (cells-of s)
+unfolding bad-cell cells-of
+cells-origins s h =
+    all-up-to (λ c. c .origin < origins s) (cell s) 0 (cell-count s)
+    (λ j p q. origin-below (origins s) (tables-at s) (table-count s) (cell s j)
+    (none-failing (λ i. cell-ok (origins s) (tables-at s) (table-count s) (cell s i)) 0 (cell-count s) h j p q))
 
 pub length-cells-of : (s : List ℕ) → length (cells-of s) ≡ cell-count s
 unfolding cells-of
@@ -86,6 +108,9 @@ module _ (s : List ℕ) (b : Bytes s) (n : Node) (h : plan s ≡ done n) where
 
   pub plan-fits : Fits (text s) (table-count s) n
   plan-fits = holds-each (Content-fits (text s) (length (text s)) (table-count s)) (λ k x. x .0)
+
+  pub plan-origins : Origins-below (origins s) n
+  plan-origins = subst (All (λ c. c .origin < origins s)) plan-cells (cells-origins s (accepted s n h .cells-are))
 
   -- No other plan that the sheet can hold has those cells.
   pub plan-unique : (m : Node) → Exact (text s) (table-count s) m → cells m ≡ cells-of s → m ≡ n

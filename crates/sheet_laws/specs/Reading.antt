@@ -8,14 +8,14 @@ use mathlib.Core.List.{List, [], _∷_, _++_, append-assoc, append-nil}
 use mathlib.Core.Option.{Option, none, some}
 use lib.ListN.{length, length-append}
 use Rattle.value.specs.Value.{Value}
-use Rattle.sql.specs.Expression.{Expression, constant, column, unary, binary}
+use Rattle.sql.specs.Expression.{Marked, Expression, constant, column, unary, binary}
 use Rattle.sql.specs.Plan.{Label, by-key, by-index, scan, lookup, nothing, values, limit, offset, order, projection, remap, Over, other, Node, leaf, over}
 use Rattle.sheet.specs.Cell.{Cell, cell-ok}
-use Rattle.sheet.specs.Content.{Content, constant-cell, column-cell, unary-cell, binary-cell, label-cell, item-cell, key-cell, target-cell, agg-cell, row-cell, aggregate-cell, filter-cell, hash-join-cell, index-lookup-cell, key-lookup-cell, limit-cell, offset-cell, nested-loop-join-cell, nothing-cell, order-cell, projection-cell, remap-cell, scan-cell, values-cell}
+use Rattle.sheet.specs.Content.{Content, marked, constant-cell, column-cell, unary-cell, binary-cell, label-cell, item-cell, key-cell, target-cell, agg-cell, row-cell, aggregate-cell, filter-cell, hash-join-cell, index-lookup-cell, key-lookup-cell, limit-cell, offset-cell, nested-loop-join-cell, nothing-cell, order-cell, projection-cell, remap-cell, scan-cell, values-cell}
 use Rattle.sheet.specs.Cells.{all-cells, alone, expression-cells, label-cells, target-cells, item-cells, key-cells, agg-cells, row-cells, leaf-cells, other-cells, over-cells, join-cells, cells}
 use Rattle.sheet.specs.Tree.{Tree, expression-tree, label-tree, item-tree, key-tree, target-tree, agg-tree, row-tree, node-tree, bind, an-expression, a-constant, a-label, an-item, a-key, a-target, an-agg, a-row, a-node, Stack, pop, children, child, push, reduce, after, lacking, stack, read}
 use Rattle.sheet_laws.specs.Fits.{All, Each-expression, Each-item, Each-key, Each-agg, Each-row, Each-over, Each, Exact-cell}
-use Rattle.sheet_laws.specs.Content.{Words, says}
+use Rattle.sheet_laws.specs.Content.{Words, says, ok-marked}
 
 -- the cells of a tree of any sort
 abbrev pub tree-cells : Tree → List Cell
@@ -36,10 +36,10 @@ stack-cells (t ∷ st) = stack-cells st ++ tree-cells t
 -- a property of each cell of a tree
 abbrev pub Each-tree : (Content → Type 0) → Tree → Type 0
 Each-tree P (expression-tree e) = Each-expression P e
-Each-tree P (label-tree l) = P (label-cell l)
+Each-tree P (label-tree l) = P (label-cell (l .0))
 Each-tree P (item-tree i) = Each-item P i
 Each-tree P (key-tree k) = Each-key P k
-Each-tree P (target-tree t) = P (target-cell t)
+Each-tree P (target-tree t) = P (target-cell (t .0))
 Each-tree P (agg-tree a) = Each-agg P a
 Each-tree P (row-tree es) = Each-row P es
 Each-tree P (node-tree n) = Each P n
@@ -67,12 +67,12 @@ the-child f h = cc
 -- a case for each sort of tree
 pub by-cases : {A : Type 0} (sort : Tree → Option A) (tree : A → Tree)
     → ((x : Expression) → Only sort tree (expression-tree x))
-    → ((x : Label) → Only sort tree (label-tree x))
-    → ((x : Expression × Label) → Only sort tree (item-tree x))
-    → ((x : Expression × Bool) → Only sort tree (key-tree x))
-    → ((x : Option ℕ) → Only sort tree (target-tree x))
-    → ((x : ℕ × Expression) → Only sort tree (agg-tree x))
-    → ((x : List Expression) → Only sort tree (row-tree x))
+    → ((x : Marked Label) → Only sort tree (label-tree x))
+    → ((x : Expression × Label × ℕ) → Only sort tree (item-tree x))
+    → ((x : Expression × Bool × ℕ) → Only sort tree (key-tree x))
+    → ((x : Marked (Option ℕ)) → Only sort tree (target-tree x))
+    → ((x : ℕ × Expression × ℕ) → Only sort tree (agg-tree x))
+    → ((x : Marked (List Expression)) → Only sort tree (row-tree x))
     → ((x : Node) → Only sort tree (node-tree x))
     → (t : Tree) → Only sort tree t
 by-cases sort tree e l i k t g r n (expression-tree x) = e x
@@ -93,7 +93,7 @@ expression-sort =
           (λ x a. no-child) (λ x a. no-child) (λ x a. no-child) (λ x a. no-child);
     }
 
-abbrev pub label-sort : Sort Label a-label
+abbrev pub label-sort : Sort (Marked Label) a-label
 label-sort =
     record {
       tree = label-tree;
@@ -102,7 +102,7 @@ label-sort =
           (λ x a. no-child) (λ x a. no-child) (λ x a. no-child) (λ x a. no-child);
     }
 
-abbrev pub item-sort : Sort (Expression × Label) an-item
+abbrev pub item-sort : Sort (Expression × Label × ℕ) an-item
 item-sort =
     record {
       tree = item-tree;
@@ -111,7 +111,7 @@ item-sort =
           (λ x a. no-child) (λ x a. no-child) (λ x a. no-child) (λ x a. no-child);
     }
 
-abbrev pub key-sort : Sort (Expression × Bool) a-key
+abbrev pub key-sort : Sort (Expression × Bool × ℕ) a-key
 key-sort =
     record {
       tree = key-tree;
@@ -120,7 +120,7 @@ key-sort =
           (λ x a. no-child) (λ x a. no-child) (λ x a. no-child) (λ x a. no-child);
     }
 
-abbrev pub target-sort : Sort (Option ℕ) a-target
+abbrev pub target-sort : Sort (Marked (Option ℕ)) a-target
 target-sort =
     record {
       tree = target-tree;
@@ -129,7 +129,7 @@ target-sort =
           (λ x a. the-child target-tree) (λ x a. no-child) (λ x a. no-child) (λ x a. no-child);
     }
 
-abbrev pub agg-sort : Sort (ℕ × Expression) an-agg
+abbrev pub agg-sort : Sort (ℕ × Expression × ℕ) an-agg
 agg-sort =
     record {
       tree = agg-tree;
@@ -138,7 +138,7 @@ agg-sort =
           (λ x a. no-child) (λ x a. the-child agg-tree) (λ x a. no-child) (λ x a. no-child);
     }
 
-abbrev pub row-sort : Sort (List Expression) a-row
+abbrev pub row-sort : Sort (Marked (List Expression)) a-row
 row-sort =
     record {
       tree = row-tree;
@@ -156,18 +156,22 @@ node-sort =
           (λ x a. no-child) (λ x a. no-child) (λ x a. no-child) (λ x a. the-child node-tree);
     }
 
-pub constant-only : (e : Expression) → Only a-constant (λ v. expression-tree (constant v)) (expression-tree e)
-constant-only (constant w) v h = the-child (λ u. expression-tree (constant u)) h
-constant-only (column i) v h = no-child h
-constant-only (unary o x) v h = no-child h
-constant-only (binary o l r) v h = no-child h
+-- a constant as a tree
+abbrev pub constant-tree : Marked Value → Tree
+constant-tree v = expression-tree (constant (v .1) (v .0))
 
-abbrev pub constant-sort : Sort Value a-constant
+pub constant-only : (e : Expression) → Only a-constant constant-tree (expression-tree e)
+constant-only (constant og w) v h = the-child constant-tree h
+constant-only (column og i) v h = no-child h
+constant-only (unary og o x) v h = no-child h
+constant-only (binary og o l r) v h = no-child h
+
+abbrev pub constant-sort : Sort (Marked Value) a-constant
 constant-sort =
     record {
-      tree = λ v. expression-tree (constant v);
+      tree = constant-tree;
       of = λ a. refl;
-      only = by-cases a-constant (λ v. expression-tree (constant v)) constant-only (λ x a. no-child) (λ x a. no-child) (λ x a. no-child)
+      only = by-cases a-constant constant-tree constant-only (λ x a. no-child) (λ x a. no-child) (λ x a. no-child)
           (λ x a. no-child) (λ x a. no-child) (λ x a. no-child) (λ x a. no-child);
     }
 
@@ -259,104 +263,104 @@ pushed-all Q tree (x ∷ xs) st h = let p = pushed-all Q tree xs (tree x ∷ st)
 -- ---- a cell put on the stack with its children
 
 -- A stack has the cells of the one before, and then the cell read; a property of each cell stays.
-pub record Reduced (P : Content → Type 0) (k : Content) (st next : Stack) : Type 0 where
-  pub cells-are : stack-cells next ≡ stack-cells st ++ alone k
+pub record Reduced (P : Content → Type 0) (og : ℕ) (k : Content) (st next : Stack) : Type 0 where
+  pub cells-are : stack-cells next ≡ stack-cells st ++ alone og k
   pub keeps : All (Each-tree P) st → P k → All (Each-tree P) next
 
 module _ (P : Content → Type 0) where
   -- from the tree that was put on
-  put-on : {k : Content} {t : Tree} {st rest next : Stack} → stack-cells rest ++ tree-cells t ≡ stack-cells st ++ alone k
-      → (All (Each-tree P) st → P k → All (Each-tree P) (t ∷ rest)) → push t rest ≡ some next → Reduced P k st next
-  put-on {k} {t} {st} {rest} {next} e a h =
-      subst (λ (u : Stack). Reduced P k st u) (the-child (λ (u : Stack). u) h) (record { cells-are = e; keeps = a })
+  put-on : {og : ℕ} {k : Content} {t : Tree} {st rest next : Stack} → stack-cells rest ++ tree-cells t ≡ stack-cells st ++ alone og k
+      → (All (Each-tree P) st → P k → All (Each-tree P) (t ∷ rest)) → push t rest ≡ some next → Reduced P og k st next
+  put-on {og} {k} {t} {st} {rest} {next} e a h =
+      subst (λ (u : Stack). Reduced P og k st u) (the-child (λ (u : Stack). u) h) (record { cells-are = e; keeps = a })
 
   -- a cell with one child
-  one : {A : Type 0} {sort : Tree → Option A} (S : Sort A sort) (k : Content) (tree : A → Tree)
-      → ((x : A) → tree-cells (tree x) ≡ tree-cells (S .tree x) ++ alone k) → ((x : A) → Each-tree P (S .tree x) → P k → Each-tree P (tree x))
-      → (st next : Stack) → child sort st (λ x rest. push (tree x) rest) ≡ some next → Reduced P k st next
-  one S k tree c e st next h =
-      child-taken S (λ u. Reduced P k u next) st next (λ x rest. push (tree x) rest)
+  one : {A : Type 0} {sort : Tree → Option A} (S : Sort A sort) (og : ℕ) (k : Content) (tree : A → Tree)
+      → ((x : A) → tree-cells (tree x) ≡ tree-cells (S .tree x) ++ alone og k) → ((x : A) → Each-tree P (S .tree x) → P k → Each-tree P (tree x))
+      → (st next : Stack) → child sort st (λ x rest. push (tree x) rest) ≡ some next → Reduced P og k st next
+  one S og k tree c e st next h =
+      child-taken S (λ u. Reduced P og k u next) st next (λ x rest. push (tree x) rest)
       (λ x rest. put-on (simp (c, append-assoc)) (λ all p. (e x (all .0) p, all .1))) h
 
   -- a cell with a row of children and their count
-  row-of : {A : Type 0} {sort : Tree → Option A} (S : Sort A sort) (k : ℕ → Content) (tree : List A → Tree)
-      → ((xs : List A) → tree-cells (tree xs) ≡ all-cells (λ x. tree-cells (S .tree x)) xs ++ alone (k (length xs)))
+  row-of : {A : Type 0} {sort : Tree → Option A} (S : Sort A sort) (og : ℕ) (k : ℕ → Content) (tree : List A → Tree)
+      → ((xs : List A) → tree-cells (tree xs) ≡ all-cells (λ x. tree-cells (S .tree x)) xs ++ alone og (k (length xs)))
       → ((xs : List A) → All (λ x. Each-tree P (S .tree x)) xs → P (k (length xs)) → Each-tree P (tree xs))
-      → (n : ℕ) (st next : Stack) → children sort n st (λ xs rest. push (tree xs) rest) ≡ some next → Reduced P (k n) st next
-  row-of S k tree c e n st next h =
-      children-taken S (λ m u. Reduced P (k m) u next) n st next (λ xs rest. push (tree xs) rest)
+      → (n : ℕ) (st next : Stack) → children sort n st (λ xs rest. push (tree xs) rest) ≡ some next → Reduced P og (k n) st next
+  row-of S og k tree c e n st next h =
+      children-taken S (λ m u. Reduced P og (k m) u next) n st next (λ xs rest. push (tree xs) rest)
       (λ xs rest. put-on (simp (c, pushed-cells (S .tree), append-assoc))
       (λ all p. let q = pushed-all (Each-tree P) (S .tree) xs rest all in (e xs (q .0) p, q .1))) h
 
   -- a source, and then such a row
-  row-over : {A : Type 0} {sort : Tree → Option A} (S : Sort A sort) (k : ℕ → Content) (o : List A → Over)
-      → ((xs : List A) → over-cells (o xs) ≡ all-cells (λ x. tree-cells (S .tree x)) xs ++ alone (k (length xs)))
+  row-over : {A : Type 0} {sort : Tree → Option A} (S : Sort A sort) (og : ℕ) (k : ℕ → Content) (o : List A → Over)
+      → ((xs : List A) → over-cells og (o xs) ≡ all-cells (λ x. tree-cells (S .tree x)) xs ++ alone og (k (length xs)))
       → ((xs : List A) → All (λ x. Each-tree P (S .tree x)) xs → P (k (length xs)) → Each-over P (o xs))
-      → (n : ℕ) (st next : Stack) → children sort n st (λ xs below. child a-node below (λ s rest. push (node-tree (over (o xs) s)) rest)) ≡ some next → Reduced P (k n) st next
+      → (n : ℕ) (st next : Stack) → children sort n st (λ xs below. child a-node below (λ s rest. push (node-tree (over og (o xs) s)) rest)) ≡ some next → Reduced P og (k n) st next
   unfolding cells
-  row-over S k o c e n st next h =
-      children-taken S (λ m u. Reduced P (k m) u next) n st next (λ xs below. child a-node below (λ s rest. push (node-tree (over (o xs) s)) rest))
-      (λ xs below. child-taken node-sort (λ u. Reduced P (k (length xs)) (pushed (S .tree) xs u) next) below next (λ s rest. push (node-tree (over (o xs) s)) rest)
+  row-over S og k o c e n st next h =
+      children-taken S (λ m u. Reduced P og (k m) u next) n st next (λ xs below. child a-node below (λ s rest. push (node-tree (over og (o xs) s)) rest))
+      (λ xs below. child-taken node-sort (λ u. Reduced P og (k (length xs)) (pushed (S .tree) xs u) next) below next (λ s rest. push (node-tree (over og (o xs) s)) rest)
       (λ s rest. put-on (simp (c, pushed-cells (S .tree), append-assoc))
       (λ all p. let q = pushed-all (Each-tree P) (S .tree) xs (node-tree s ∷ rest) all in ((q .1 .0, e xs (q .0) p), q .1 .1)))) h
 
-  pub reduced : (k : Content) (st next : Stack) → reduce k st ≡ some next → Reduced P k st next
+  pub reduced : (og : ℕ) (k : Content) (st next : Stack) → reduce og k st ≡ some next → Reduced P og k st next
   unfolding reduce expression-cells cells leaf-cells over-cells other-cells join-cells
-  reduced (constant-cell v) st next h = put-on refl (λ all p. (p, all)) h
-  reduced (column-cell i) st next h = put-on refl (λ all p. (p, all)) h
-  reduced (unary-cell o) st next h = one expression-sort (unary-cell o) (λ x. expression-tree (unary o x)) (λ x. refl) (λ x a p. (a, p)) st next h
-  reduced (binary-cell o) st next h =
-      child-taken expression-sort (λ u. Reduced P (binary-cell o) u next) st next _
-      (λ r below. child-taken expression-sort (λ u. Reduced P (binary-cell o) (expression-tree r ∷ u) next) below next _
+  reduced og (constant-cell v) st next h = put-on refl (λ all p. (p, all)) h
+  reduced og (column-cell i) st next h = put-on refl (λ all p. (p, all)) h
+  reduced og (unary-cell o) st next h = one expression-sort og (unary-cell o) (λ x. expression-tree (unary og o x)) (λ x. refl) (λ x a p. (a, p)) st next h
+  reduced og (binary-cell o) st next h =
+      child-taken expression-sort (λ u. Reduced P og (binary-cell o) u next) st next _
+      (λ r below. child-taken expression-sort (λ u. Reduced P og (binary-cell o) (expression-tree r ∷ u) next) below next _
       (λ l rest. put-on (simp append-assoc) (λ all p. ((all .1 .0, (all .0, p)), all .1 .1)))) h
-  reduced (label-cell l) st next h = put-on refl (λ all p. (p, all)) h
-  reduced (item-cell l) st next h = one expression-sort (item-cell l) (λ x. item-tree (x, l)) (λ x. refl) (λ x a p. (a, p)) st next h
-  reduced (key-cell d) st next h = one expression-sort (key-cell d) (λ x. key-tree (x, d)) (λ x. refl) (λ x a p. (a, p)) st next h
-  reduced (target-cell t) st next h = put-on refl (λ all p. (p, all)) h
-  reduced (agg-cell f) st next h = one expression-sort (agg-cell f) (λ x. agg-tree (f, x)) (λ x. refl) (λ x a p. (a, p)) st next h
-  reduced (row-cell n) st next h = row-of expression-sort row-cell row-tree (λ xs. refl) (λ xs a p. (a, p)) n st next h
-  reduced (aggregate-cell n m) st next h =
-      children-taken agg-sort (λ i u. Reduced P (aggregate-cell n i) u next) m st next _
-      (λ gs below. children-taken expression-sort (λ i u. Reduced P (aggregate-cell i (length gs)) (pushed agg-tree gs u) next) n below next _
-      (λ es low. child-taken node-sort (λ u. Reduced P (aggregate-cell (length es) (length gs)) (pushed agg-tree gs (pushed expression-tree es u)) next) low next _
+  reduced og (label-cell l) st next h = put-on refl (λ all p. (p, all)) h
+  reduced og (item-cell l) st next h = one expression-sort og (item-cell l) (λ x. item-tree (x, l, og)) (λ x. refl) (λ x a p. (a, p)) st next h
+  reduced og (key-cell d) st next h = one expression-sort og (key-cell d) (λ x. key-tree (x, d, og)) (λ x. refl) (λ x a p. (a, p)) st next h
+  reduced og (target-cell t) st next h = put-on refl (λ all p. (p, all)) h
+  reduced og (agg-cell f) st next h = one expression-sort og (agg-cell f) (λ x. agg-tree (f, x, og)) (λ x. refl) (λ x a p. (a, p)) st next h
+  reduced og (row-cell n) st next h = row-of expression-sort og row-cell (λ es. row-tree (es, og)) (λ xs. refl) (λ xs a p. (a, p)) n st next h
+  reduced og (aggregate-cell n m) st next h =
+      children-taken agg-sort (λ i u. Reduced P og (aggregate-cell n i) u next) m st next _
+      (λ gs below. children-taken expression-sort (λ i u. Reduced P og (aggregate-cell i (length gs)) (pushed agg-tree gs u) next) n below next _
+      (λ es low. child-taken node-sort (λ u. Reduced P og (aggregate-cell (length es) (length gs)) (pushed agg-tree gs (pushed expression-tree es u)) next) low next _
       (λ s rest. put-on (simp (pushed-cells agg-tree, pushed-cells expression-tree, append-assoc))
       (λ all p.
       let q = pushed-all (Each-tree P) agg-tree gs (pushed expression-tree es (node-tree s ∷ rest)) all in
       let r = pushed-all (Each-tree P) expression-tree es (node-tree s ∷ rest) (q .1) in
       ((r .1 .0, (r .0, (q .0, p))), r .1 .1))))) h
-  reduced filter-cell st next h =
-      child-taken expression-sort (λ u. Reduced P filter-cell u next) st next _
-      (λ e below. child-taken node-sort (λ u. Reduced P filter-cell (expression-tree e ∷ u) next) below next _
+  reduced og filter-cell st next h =
+      child-taken expression-sort (λ u. Reduced P og filter-cell u next) st next _
+      (λ e below. child-taken node-sort (λ u. Reduced P og filter-cell (expression-tree e ∷ u) next) below next _
       (λ s rest. put-on (simp append-assoc) (λ all p. ((all .1 .0, (all .0, p)), all .1 .1)))) h
-  reduced (hash-join-cell o i j) st next h =
-      child-taken node-sort (λ u. Reduced P (hash-join-cell o i j) u next) st next _
-      (λ r below. child-taken node-sort (λ u. Reduced P (hash-join-cell o i j) (node-tree r ∷ u) next) below next _
+  reduced og (hash-join-cell o i j) st next h =
+      child-taken node-sort (λ u. Reduced P og (hash-join-cell o i j) u next) st next _
+      (λ r below. child-taken node-sort (λ u. Reduced P og (hash-join-cell o i j) (node-tree r ∷ u) next) below next _
       (λ l rest. put-on (simp append-assoc) (λ all p. ((all .1 .0, (all .0, p)), all .1 .1)))) h
-  reduced (index-lookup-cell t al i n) st next h =
-      row-of constant-sort (index-lookup-cell t al i) (λ vs. node-tree (leaf (lookup (by-index i) t al vs))) (λ xs. refl) (λ xs a p. (a, p)) n st next h
-  reduced (key-lookup-cell t al n) st next h =
-      row-of constant-sort (key-lookup-cell t al) (λ vs. node-tree (leaf (lookup by-key t al vs))) (λ xs. refl) (λ xs a p. (a, p)) n st next h
-  reduced (limit-cell n) st next h = one node-sort (limit-cell n) (λ s. node-tree (over (other (limit n)) s)) (λ s. refl) (λ s a p. (a, p)) st next h
-  reduced (offset-cell n) st next h = one node-sort (offset-cell n) (λ s. node-tree (over (other (offset n)) s)) (λ s. refl) (λ s a p. (a, p)) st next h
-  reduced (nested-loop-join-cell false o) st next h =
-      child-taken node-sort (λ u. Reduced P (nested-loop-join-cell false o) u next) st next _
-      (λ r below. child-taken node-sort (λ u. Reduced P (nested-loop-join-cell false o) (node-tree r ∷ u) next) below next _
+  reduced og (index-lookup-cell t al i n) st next h =
+      row-of constant-sort og (index-lookup-cell t al i) (λ vs. node-tree (leaf og (lookup (by-index i) t al vs))) (λ xs. refl) (λ xs a p. (a, p)) n st next h
+  reduced og (key-lookup-cell t al n) st next h =
+      row-of constant-sort og (key-lookup-cell t al) (λ vs. node-tree (leaf og (lookup by-key t al vs))) (λ xs. refl) (λ xs a p. (a, p)) n st next h
+  reduced og (limit-cell n) st next h = one node-sort og (limit-cell n) (λ s. node-tree (over og (other (limit n)) s)) (λ s. refl) (λ s a p. (a, p)) st next h
+  reduced og (offset-cell n) st next h = one node-sort og (offset-cell n) (λ s. node-tree (over og (other (offset n)) s)) (λ s. refl) (λ s a p. (a, p)) st next h
+  reduced og (nested-loop-join-cell false o) st next h =
+      child-taken node-sort (λ u. Reduced P og (nested-loop-join-cell false o) u next) st next _
+      (λ r below. child-taken node-sort (λ u. Reduced P og (nested-loop-join-cell false o) (node-tree r ∷ u) next) below next _
       (λ l rest. put-on (simp append-assoc) (λ all p. ((all .1 .0, (all .0, (tt, p))), all .1 .1)))) h
-  reduced (nested-loop-join-cell true o) st next h =
-      child-taken expression-sort (λ u. Reduced P (nested-loop-join-cell true o) u next) st next _
-      (λ e low. child-taken node-sort (λ u. Reduced P (nested-loop-join-cell true o) (expression-tree e ∷ u) next) low next _
-      (λ r below. child-taken node-sort (λ u. Reduced P (nested-loop-join-cell true o) (expression-tree e ∷ node-tree r ∷ u) next) below next _
+  reduced og (nested-loop-join-cell true o) st next h =
+      child-taken expression-sort (λ u. Reduced P og (nested-loop-join-cell true o) u next) st next _
+      (λ e low. child-taken node-sort (λ u. Reduced P og (nested-loop-join-cell true o) (expression-tree e ∷ u) next) low next _
+      (λ r below. child-taken node-sort (λ u. Reduced P og (nested-loop-join-cell true o) (expression-tree e ∷ node-tree r ∷ u) next) below next _
       (λ l rest. put-on (simp append-assoc) (λ all p. ((all .1 .1 .0, (all .1 .0, (all .0, p))), all .1 .1 .1))))) h
-  reduced (nothing-cell n) st next h =
-      row-of label-sort nothing-cell (λ ls. node-tree (leaf (nothing ls))) (λ xs. refl) (λ xs a p. (a, p)) n st next h
-  reduced (order-cell n) st next h = row-over key-sort order-cell (λ ks. other (order ks)) (λ xs. refl) (λ xs a p. (a, p)) n st next h
-  reduced (projection-cell n) st next h = row-over item-sort projection-cell (λ is. other (projection is)) (λ xs. refl) (λ xs a p. (a, p)) n st next h
-  reduced (remap-cell n) st next h = row-over target-sort remap-cell (λ ts. other (remap ts)) (λ xs. refl) (λ xs a p. (a, p)) n st next h
-  reduced (scan-cell false t al) st next h = put-on refl (λ all p. ((tt, p), all)) h
-  reduced (scan-cell true t al) st next h =
-      one expression-sort (scan-cell true t al) (λ e. node-tree (leaf (scan t al (some e)))) (λ x. refl) (λ x a p. (a, p)) st next h
-  reduced (values-cell n) st next h =
-      row-of row-sort values-cell (λ rs. node-tree (leaf (values rs))) (λ xs. refl) (λ xs a p. (a, p)) n st next h
+  reduced og (nothing-cell n) st next h =
+      row-of label-sort og nothing-cell (λ ls. node-tree (leaf og (nothing ls))) (λ xs. refl) (λ xs a p. (a, p)) n st next h
+  reduced og (order-cell n) st next h = row-over key-sort og order-cell (λ ks. other (order ks)) (λ xs. refl) (λ xs a p. (a, p)) n st next h
+  reduced og (projection-cell n) st next h = row-over item-sort og projection-cell (λ is. other (projection is)) (λ xs. refl) (λ xs a p. (a, p)) n st next h
+  reduced og (remap-cell n) st next h = row-over target-sort og remap-cell (λ ts. other (remap ts)) (λ xs. refl) (λ xs a p. (a, p)) n st next h
+  reduced og (scan-cell false t al) st next h = put-on refl (λ all p. ((tt, p), all)) h
+  reduced og (scan-cell true t al) st next h =
+      one expression-sort og (scan-cell true t al) (λ e. node-tree (leaf og (scan t al (some e)))) (λ x. refl) (λ x a p. (a, p)) st next h
+  reduced og (values-cell n) st next h =
+      row-of row-sort og values-cell (λ rs. node-tree (leaf og (values rs))) (λ xs. refl) (λ xs a p. (a, p)) n st next h
 
 -- ---- all cells in turn
 
@@ -385,10 +389,10 @@ pub runs-append : {text : List ℕ} {cs ds : List Cell} {st mid last : Stack} �
 runs-append at-end q = q
 runs-append (on e r) q = on e (runs-append r q)
 
--- a cell as a sheet holds it, which passes its test
+-- a cell as a sheet holds it, which passes its test whatever its origin is
 pub record Good (bytes tables : ℕ) (c : Cell) : Type 0 where
   pub words : Words c
-  pub ok : cell-ok bytes tables c ≡ true
+  pub ok : cell-ok 1 bytes tables (marked 0 c) ≡ true
 
 -- What reading gives; P is a property of each cell's content, such as that it is exact.
 pub record Sound (P : Content → Type 0) (cs : List Cell) (st last : Stack) : Type 0 where
@@ -400,11 +404,11 @@ pub sound : {text : List ℕ} {cs : List Cell} {st last : Stack} (bytes tables :
     → All (Good bytes tables) cs → Runs text cs st last → Sound P cs st last
 sound {st = st} bytes tables P x g at-end = record { cells-are = sym (append-nil (stack-cells st)); keeps = λ all. all }
 sound {text} {st = st} {last = last} bytes tables P x g (on {c = c} {cs = cs} {next = next} e r) =
-    let s = says text bytes tables c (g .0 .words) (g .0 .ok) in
-    let k = reduced P (s .content) st next (sym (ap (λ (o : Option Content). bind o (λ k. reduce k st)) (s .is)) ∙ e) in
+    let s = says text (suc (c .origin)) bytes tables c (g .0 .words) (ok-marked 1 (suc (c .origin)) bytes tables (c .origin) (marked 0 c) (omega arith) (g .0 .ok)) in
+    let k = reduced P (c .origin) (s .content) st next (sym (ap (λ (o : Option Content). bind o (λ k. reduce (c .origin) k st)) (s .is)) ∙ e) in
     let d = sound bytes tables P x (g .1) r in
     record {
-      cells-are = d .cells-are ∙ ap (λ (l : List Cell). l ++ cs) (k .cells-are ∙ ap (λ (u : Cell). stack-cells st ++ (u ∷ [])) (s .back))
+      cells-are = d .cells-are ∙ ap (λ (l : List Cell). l ++ cs) (k .cells-are ∙ ap (λ (u : Cell). stack-cells st ++ (marked (c .origin) u ∷ [])) (s .back))
           ∙ append-assoc (stack-cells st) (c ∷ []) cs;
       keeps = λ all. d .keeps (k .keeps all (x (s .content) (s .exact)));
     }

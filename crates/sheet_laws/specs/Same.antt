@@ -39,8 +39,7 @@ module _ (s : List ℕ) (b : Bytes s) where
       ∙ ap (λ (l : List ℕ). bytes (edition s) ++ l) (word-next s b (length s - 4) (length s) (omega arith) (omega arith)
       ∙ ap (λ (l : List ℕ). bytes (said-length s) ++ l) (drop-of-length-le s {i = length s} (omega arith))
       ∙ append-nil (bytes (said-length s))
-      ∙ ap bytes (p .said))
-      ∙ ap (λ (v : ℕ). bytes v ++ bytes (length s)) (p .edition-one))))
+      ∙ ap bytes (p .said)))))
 
   -- Writing gives back what was read.
   pub write-same : (n : Node) → plan s ≡ done n → write s n ≡ s

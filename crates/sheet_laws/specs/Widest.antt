@@ -13,14 +13,17 @@ use Rattle.sql.specs.Expression.{column}
 use Rattle.sql.specs.Plan.{scan, nested-loop, Node, leaf, join, columns, node-size}
 use Rattle.sql.specs.Answer.{done}
 use Rattle.sheet.specs.Parts.{table-count}
+use Rattle.sheet.specs.Cell.{Cell, origins}
+use Rattle.sheet.specs.Cells.{expression-cells, leaf-cells, join-cells, cells}
 use Rattle.sheet.specs.Scope.{first-of, unless, outside, target-repeated}
 use Rattle.sheet.specs.Check.{text, schema, plan}
 use Rattle.sheet.specs.Write.{write}
-use Rattle.sheet_laws.specs.Fits.{Fits}
+use Rattle.sheet_laws.specs.Fits.{Fits, Origins-below}
+use Rattle.sheet_laws.specs.Complete.{all-append}
 use Rattle.sheet_laws.specs.Counts.{most-columns, columns-bound}
 use Rattle.sheet_laws.specs.Accepted.{accepted}
 use Rattle.sheet_laws.specs.Layout.{tables-good}
-use Rattle.sheet_laws.specs.Plan.{Bytes, parts-of, plan-fits, plan-size}
+use Rattle.sheet_laws.specs.Plan.{Bytes, parts-of, plan-fits, plan-size, origins-some}
 use Rattle.sheet_laws.specs.Handed.{Can-hold, written-plan}
 
 -- ======== The statements. Each is proved below, under its name in small letters.
@@ -35,12 +38,12 @@ Plans-few = (s : List ℕ) → Bytes s → (n : Node) → plan s ≡ done n → 
 
 -- A Scan of a table, and so many more of it, each joined to those before it.
 unfoldable pub joined-scans : (table more : ℕ) → Node
-joined-scans table zero = leaf (scan table none none)
-joined-scans table (suc more) = join false (nested-loop none) (joined-scans table more) (leaf (scan table none none))
+joined-scans table zero = leaf 0 (scan table none none)
+joined-scans table (suc more) = join 0 false (nested-loop none) (joined-scans table more) (leaf 0 (scan table none none))
 
 -- The same with one Scan more, joined by a predicate that is the bare column c.
 abbrev pub widest : (table more c : ℕ) → Node
-widest table more c = join false (nested-loop (some (column c))) (joined-scans table more) (leaf (scan table none none))
+widest table more c = join 0 false (nested-loop (some (column 0 c))) (joined-scans table more) (leaf 0 (scan table none none))
 
 -- Scans of 256 columns have as many as their cells allow, whatever their number.
 abbrev pub Scans-reach : Type 0
@@ -104,6 +107,12 @@ unfolding joined-scans
 scans-unrepeated table zero at = refl
 scans-unrepeated table (suc more) at = ap (λ (o : Option ℕ). first-of o none) (scans-unrepeated table more at)
 
+scans-origins : (s : List ℕ) (table more : ℕ) → Origins-below (origins s) (joined-scans table more)
+unfolding joined-scans cells leaf-cells join-cells
+scans-origins s table zero = (origins-some s, tt)
+scans-origins s table (suc more) =
+    all-append (λ c. c .origin < origins s) (cells (joined-scans table more)) _ (scans-origins s table more) (origins-some s, (origins-some s, tt))
+
 module _ (s : List ℕ) (table more c : ℕ) (w : length (table-of (schema s) table .columns) ≡ 256) where
   widest-cells : node-size (widest table more c) ≡ 2 * more + 4
   widest-cells = omega (arith, scans-cells table more)
@@ -111,10 +120,17 @@ module _ (s : List ℕ) (table more c : ℕ) (w : length (table-of (schema s) ta
   widest-columns : columns (schema s) (widest table more c) ≡ 256 * (more + 2)
   widest-columns = omega (arith, scans-columns (schema s) table w more)
 
+  widest-origins : Origins-below (origins s) (widest table more c)
+  unfolding cells leaf-cells join-cells expression-cells
+  widest-origins =
+      let some = origins-some s in
+      all-append (λ c. c .origin < origins s) (cells (joined-scans table more)) _ (scans-origins s table more) (some, (some, (some, tt)))
+
   widest-held : table < table-count s → c < 256 * (more + 2) → more ≤ 1022 → Can-hold s (widest table more c)
   widest-held t i j =
       record {
         fits = (scans-fit s table t more, ((tt, (t, tt)), (tt, tt)));
+        origins-are = widest-origins;
         in-scope = ap₂ first-of (scans-inside (schema s) table more 0)
             (ap (λ (b : Bool). unless b (0 + node-size (joined-scans table more) + 1)) (lt-ltb c (columns (schema s) (widest table more c)) (omega (arith, widest-columns))));
         targets = ap (λ (o : Option ℕ). first-of o none) (scans-unrepeated table more 0);

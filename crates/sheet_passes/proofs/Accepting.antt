@@ -1,5 +1,5 @@
 -- What holds of the plan of a sheet that is accepted, and what is lent of its schema.
-use Prim.Native.Nat.{ℕ, _+_, _*_, _≤_, _<_}
+use Prim.Native.Nat.{ℕ, _+_, _*_, _%_, _≤_, _<_}
 use native.Mathlib.Omega.{arith}
 use mathlib.Core.Path.{_≡_, refl, sym, ap, _∙_}
 use mathlib.Core.List.{List, _++_, map}
@@ -8,13 +8,19 @@ use Rattle.sql.specs.Schema.{Table}
 use Rattle.sql.specs.Plan.{Node, columns, node-size}
 use Rattle.sql.specs.Answer.{Answer, done}
 use Rattle.sheet.specs.Parts.{table-count}
+use Rattle.sheet.specs.Cell.{origins}
 use Rattle.sheet.specs.Check.{text, schema, cells-of, plan}
 use Rattle.sheet_laws.specs.Accepted.{accepted}
-use Rattle.sheet_laws.specs.Plan.{Bytes, parts-of, text-length, plan-cells, plan-fits}
+use Rattle.sheet_laws.specs.Plan.{Bytes, parts-of, text-length, plan-cells, plan-fits, plan-origins, origins-some}
+use Rattle.sheet_laws.specs.Fits.{Origins-below}
+use Rattle.origins.specs.Origins.{map-node-origins}
+use Rattle.origins.specs.Proof.{passes-keep, five-keep}
+use Rattle.sound.specs.Origins.{below-left, left-below}
 use Rattle.sound.specs.Sound.{Sound}
 use Rattle.sound.specs.HandedOut.{names-inside}
 use Rattle.sound.specs.Checks.{passes-sound}
 use Rattle.layout.specs.Layout.{Whole}
+use Rattle.cells.specs.Cells.{cell-words}
 use Rattle.cells.specs.Room.{most-words, Wrote}
 use Rattle.cells.proofs.Laws.{fits as room-for}
 use Rattle.words.specs.Words.{node-words}
@@ -31,6 +37,7 @@ use Rattle.checker.specs.declared.Answer as Code
 use Rattle.hand_out.specs.HandOut.{Fit, AnsweredAt, HandsOut}
 use Rattle.optimizer.specs.Choices.{chosen}
 use Rattle.optimizer.specs.declared.Chosen.{Chosen}
+use Rattle.optimizer.specs.declared.Chosen.the-variants.{One, All}
 use Rattle.passes.specs.Passes.{Lent, Plan-in, PlanAt, Alike, Leaves, Runs, For-all}
 use Rattle.sheet_passes.specs.SheetPasses.{RunAt, Lends, RunsOn}
 
@@ -39,6 +46,19 @@ module _ (s : List ℕ) (b : Bytes s) (n : Node) (h : plan s ≡ done n) where
   fit =
       let a = accepted s n h in
       (passes-sound (schema s) (text s) (table-count s) n 0 (plan-fits s b n h) (a .scope-is) (a .targets-are), refl)
+
+  -- What is chosen makes no origin of its own: put through this function, the origins that the sheet has stay as they are, and no others do.
+  abbrev remainder : ℕ → ℕ
+  remainder og = og % origins s
+
+  chosen-keeps : (c : Chosen) (room : ℕ) (m : Node) → map-node-origins remainder n ≡ n → chosen c room (schema s) n ≡ done m → map-node-origins remainder m ≡ m
+  chosen-keeps (One k) room m e q = passes-keep room (schema s) k remainder n m e q
+  chosen-keeps All room m e q = five-keep room (schema s) remainder n m e q
+
+  chosen-origins : (c : Chosen) (room : ℕ) (m : Node) → chosen c room (schema s) n ≡ done m → Origins-below (origins s) m
+  chosen-origins c room m q =
+      let some = origins-some s in
+      left-below (origins s) some m (chosen-keeps c room m (below-left (origins s) some n (plan-origins s b n h)) q)
 
   text-short : length (text s) < 65536
   text-short = let p = parts-of (accepted s n h) in omega (arith, text-length s p)
@@ -52,7 +72,7 @@ module _ (s : List ℕ) (b : Bytes s) (n : Node) (h : plan s ≡ done n) where
       }
 
   -- decoded, the plan is in x
-  pub decoded : (x : List ℕ) (t : ℕ) (x′ : List ℕ) (room : ℕ) → Decodes s x t x′ → length x′ ≡ length x → length x ≤ most-words → length x ≡ 6 * room → node-size n ≤ room
+  pub decoded : (x : List ℕ) (t : ℕ) (x′ : List ℕ) (room : ℕ) → Decodes s x t x′ → length x′ ≡ length x → length x ≤ most-words → length x ≡ cell-words * room → node-size n ≤ room
       → Plan-in (schema s) (text s) (table-count s) x′ t room n
   decoded x t x′ room d same short all fits =
       let long = words-long n in
@@ -94,7 +114,7 @@ module _ (s : List ℕ) (b : Bytes s) {x y z w : List ℕ} (at : RunAt s x y z w
       record { second = omega (arith, a .second, same); third = omega (arith, a .third, same); fourth = omega (arith, a .fourth, same) }
 
   module _ (c : Chosen) (y′ : List ℕ) (long : length y′ ≡ length y) (r : Folded) (run : Runs (For-all text′ widths names columns keys) (chosen c) x′ t y′ r) where
-    left : (node : Node) (room : ℕ) → plan s ≡ done node → node-size node ≤ room → length x ≡ 6 * room
+    left : (node : Node) (room : ℕ) → plan s ≡ done node → node-size node ≤ room → length x ≡ cell-words * room
         → Leaves (Fit s node) y′ (chosen c room (schema s) node) r
     left node room is fits all =
         run (schema s) (text s) (table-count s) room node (given s b node is text′ e l) (decoded s b node is x t x′ room d same (at .short) all fits)
@@ -106,6 +126,7 @@ module _ (s : List ℕ) (b : Bytes s) {x y z w : List ℕ} (at : RunAt s x y z w
           is = at .is;
           answer = chosen c (at .room) (schema s) (at .node);
           leaves = left (at .node) (at .room) (at .is) (at .fits) (at .all);
+          origins-are = chosen-origins s b (at .node) (at .is) c (at .room);
           short = omega (arith, at .short, at .alike .second, long);
         }
 

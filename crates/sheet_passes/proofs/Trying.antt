@@ -13,6 +13,7 @@ use Rattle.sheet.specs.Check.{schema, plan}
 use Rattle.sheet.specs.Write.{write}
 use Rattle.sheet.specs.Operations.{Outcome, written, hand-out}
 use Rattle.checker.specs.declared.Answer as Code
+use Rattle.cells.specs.Cells.{cell-words}
 use Rattle.cells.specs.Room.{most-words}
 use Rattle.passes.specs.Passes.{Alike}
 use Rattle.optimizer.specs.Choices.{chosen}
@@ -59,10 +60,10 @@ again room more s c count out a out₁ b out₂ z first second node is k =
 pub in-more : {s : List ℕ} {room more : ℕ} → FitsIn room s → room ≤ more → FitsIn more s
 in-more f h = record { node = f .node; is = f .is; fits = omega (arith, f .fits) }
 
-pub run-at : {s x y z w : List ℕ} (room : ℕ) → FitsIn room s → length x ≡ 6 * room → Alike x y z w → length x ≤ most-words → RunAt s x y z w
+pub run-at : {s x y z w : List ℕ} (room : ℕ) → FitsIn room s → length x ≡ cell-words * room → Alike x y z w → length x ≤ most-words → RunAt s x y z w
 run-at room f e a h = record { node = f .node; is = f .is; room = room; all = e; fits = f .fits; alike = a; short = h }
 
-pub runs-in : (room : ℕ) (s : List ℕ) (c : Chosen) (count : ℕ) (x out : List ℕ) (a : Code.Answer) (out′ : List ℕ) → FitsIn room s → length x ≡ 6 * room
+pub runs-in : (room : ℕ) (s : List ℕ) (c : Chosen) (count : ℕ) (x out : List ℕ) (a : Code.Answer) (out′ : List ℕ) → FitsIn room s → length x ≡ cell-words * room
     → RunsOn s c count x out a out′ → RunsIn room s c count out a out′
 runs-in room s c count x out a out′ f e h node is k =
     let same : node-size node ≡ node-size (f .node) = ap (λ (r : Answer Node). size-of r) (sym is ∙ f .is) in

@@ -17,7 +17,7 @@ use Rattle.optimizer.specs.declared.Chosen.{Chosen}
 use Rattle.hand_out.specs.HandOut.{outcome}
 use Rattle.cells.specs.Cells.{cell-words}
 
--- s stands for a plan that fits into x. Each buffer has six words for each cell that there is room for.
+-- s stands for a plan that fits into x. Each buffer has seven words for each cell that there is room for.
 pub record RunAt (s x y z w : List ℕ) : Type 0 where
   pub node : Node
   pub is : plan s ≡ done node

@@ -4,6 +4,7 @@ use native.Mathlib.Omega.{arith}
 use mathlib.Core.Path.{_≡_, refl, sym, _∙_, subst}
 use mathlib.Core.List.{List}
 use lib.ListN.{length}
+use Rattle.cells.specs.Cells.{cell-words}
 use Rattle.cells.specs.Room.{most-words}
 use Rattle.nodes.specs.Own.{OwnStart, SourceCount}
 use Rattle.nodes.specs.Columns.{ColumnsAt}
@@ -16,7 +17,7 @@ use Rattle.short_circuit.specs.ShortCircuit.{CircuitsNode, CircuitAt, Ci
 use Rattle.short_circuit.proofs.Pass.{names-at, source-at, over-ready, over-stop, over-circuits}
 
 -- what is left to read behind a node, and behind its source
-behind : (end hi tail : ℕ) → end + 6 ≤ hi → tail + (hi - (end + 6)) + (end + 6 - end) ≡ tail + (hi - end)
+behind : (end hi tail : ℕ) → end + cell-words ≤ hi → tail + (hi - (end + cell-words)) + (end + cell-words - end) ≡ tail + (hi - end)
 behind end hi tail h = omega arith
 
 module _ {widths names columns x : List ℕ} {lo : ℕ} {y : List ℕ} {at : ℕ} where
@@ -53,16 +54,16 @@ module _ {widths names columns x : List ℕ} {lo end hi tail : ℕ} {y₀ : List
 
   module _ (h : end < hi) where
     -- the next bare node
-    by-next : (P : Type 0) → (SourceCount x lo (end + 6) 1 → OwnStart x lo (end + 6) end → Bare x lo hi (end + 6) → P) → P
+    by-next : (P : Type 0) → (SourceCount x lo (end + cell-words) 1 → OwnStart x lo (end + cell-words) end → Bare x lo hi (end + cell-words) → P) → P
     by-next P f = go (g .bare)
       where
         go : Bare x lo hi end → P
         go (no-more e) = absurd (omega arith)
         go (one-more c own b) = f c own b
 
-    pub climb-in : (end + 6 ≤ hi) × ((hi ≤ length x) × ((length x ≤ most-words) × (tail + (hi - end) ≤ most-words)))
+    pub climb-in : (end + cell-words ≤ hi) × ((hi ≤ length x) × ((length x ≤ most-words) × (tail + (hi - end) ≤ most-words)))
     climb-in =
-        by-next ((end + 6 ≤ hi) × ((hi ≤ length x) × ((length x ≤ most-words) × (tail + (hi - end) ≤ most-words))))
+        by-next ((end + cell-words ≤ hi) × ((hi ≤ length x) × ((length x ≤ most-words) × (tail + (hi - end) ≤ most-words))))
         (λ c own b. (
           bare-in b,
           (
@@ -71,16 +72,16 @@ module _ {widths names columns x : List ℕ} {lo end hi tail : ℕ} {y₀ : List
           ),
         ))
 
-    module _ (z : u ≤ length y) {v : ℕ} {y₁ : List ℕ} (k : length y₁ ≡ length y) (f : Finishes x end (end + 6) y at u v y₁) where
-      pub climb-ready : ColumnsAt widths y₁ at v × ((v + (tail + (hi - (end + 6))) ≤ length y₁) × (length y₁ ≤ most-words))
+    module _ (z : u ≤ length y) {v : ℕ} {y₁ : List ℕ} (k : length y₁ ≡ length y) (f : Finishes x end (end + cell-words) y at u v y₁) where
+      pub climb-ready : ColumnsAt widths y₁ at v × ((v + (tail + (hi - (end + cell-words))) ≤ length y₁) × (length y₁ ≤ most-words))
       climb-ready =
-          by-next (ColumnsAt widths y₁ at v × ((v + (tail + (hi - (end + 6))) ≤ length y₁) × (length y₁ ≤ most-words)))
+          by-next (ColumnsAt widths y₁ at v × ((v + (tail + (hi - (end + cell-words))) ≤ length y₁) × (length y₁ ≤ most-words)))
           (λ c own b. over-ready (below-at b (g .given)) c own (g .long) (circuits-as refl (sym (behind end hi tail (bare-in b))) (g .below)) z k f)
 
-      pub climb-next : {n : ℕ} {y₂ : List ℕ} → length y₂ ≡ length y₁ → CircuitsNode widths names columns y₁ at v (tail + (hi - (end + 6))) n y₂
-          → Climbing widths names columns x lo (end + 6) hi tail y₀ at n y₂
+      pub climb-next : {n : ℕ} {y₂ : List ℕ} → length y₂ ≡ length y₁ → CircuitsNode widths names columns y₁ at v (tail + (hi - (end + cell-words))) n y₂
+          → Climbing widths names columns x lo (end + cell-words) hi tail y₀ at n y₂
       climb-next {n} {y₂} i e =
-          by-next (Climbing widths names columns x lo (end + 6) hi tail y₀ at n y₂)
+          by-next (Climbing widths names columns x lo (end + cell-words) hi tail y₀ at n y₂)
           (λ c own b. record {
             bare = b;
             given = g .given;

@@ -9,21 +9,22 @@ use lib.ListN.{length, take, length-map}
 use lib.Seq.{take-take, take-at, length-take-le}
 use Rattle.sql.specs.Schema.{Schema}
 use Rattle.sql.specs.Expression.{Expression}
-use Rattle.sql.specs.Plan.{scan, lookup, nothing, values, limit, offset, order, projection, remap, aggregate, filter, other, nested-loop, hash, Node, leaf, over, join, up-to, columns, column-label, column-labels, optional-size, node-size}
+use Rattle.sql.specs.Plan.{node-origin, Label, scan, lookup, nothing, values, limit, offset, order, projection, remap, aggregate, filter, other, nested-loop, hash, Node, leaf, over, join, up-to, columns, column-label, column-labels, optional-size, node-size}
 use Rattle.sql.specs.Optimizer.{verdict, optional-verdict, is-always, remove-true, is-noop, remove-useless, empty-or-node}
 use Rattle.sheet.specs.Content.{nothing-cell}
 use Rattle.sheet_laws.specs.Layout.{length-up-to}
-use Rattle.cells.specs.Cells.{sized, Part}
+use Rattle.cells.specs.declared.Cell.{Cell}
+use Rattle.cells.specs.Cells.{cell-words, sized, origin-at, Part}
 use Rattle.cells.specs.Room.{Short, most-words, Wrote, Seals, Copies}
 use Rattle.cells.proofs.Laws.{fits}
 use Rattle.words.specs.Words.{cell, all-words, label-words, node-words}
 use Rattle.words.specs.Place.{NodeHere}
-use Rattle.words.proofs.Nodes.{node-in}
+use Rattle.words.proofs.Nodes.{node-in, node-cell-is}
 use Rattle.words.proofs.Sizes.{words-long, all-single, sized-long}
 use Rattle.nodes.specs.Columns.{Tables, Narrow, ColumnsAt, ColumnCount}
 use Rattle.nodes.proofs.Widths.{few-columns}
 use Rattle.labels.specs.Names.{Names, NamesAt}
-use Rattle.column_labels.specs.ColumnLabels.{WritesLabels}
+use Rattle.column_labels.specs.ColumnLabels.{marked, WritesLabels}
 use Rattle.remove_useless.specs.RemoveUseless.{Removes}
 use Rattle.remove_useless.proofs.Standing.{wrote-part, wrote-here}
 use Rattle.is_empty.specs.IsEmpty.{IsEmpty}
@@ -53,43 +54,54 @@ fitted-over {w = w} k e a =
 labels-count : (schema : Schema) (p : Node) → length (column-labels schema p) ≡ columns schema p
 labels-count schema p = length-map (up-to 0 (columns schema p)) (column-label schema p) ∙ length-up-to 0 (columns schema p)
 
-labels-long : (schema : Schema) (p : Node) → length (all-words label-words (column-labels schema p)) ≡ 6 * columns schema p
-labels-long schema p = all-single label-words (λ l. refl) (column-labels schema p) ∙ ap (λ (n : ℕ). 6 * n) (labels-count schema p)
+module _ (new : ℕ) (schema : Schema) (p : Node) where
+  marked-count : length (marked new (column-labels schema p)) ≡ columns schema p
+  marked-count = length-map (column-labels schema p) (λ (l : Label). (l, new)) ∙ labels-count schema p
 
-nothing-long : (schema : Schema) (p : Node) → length (node-words (leaf (nothing (column-labels schema p)))) ≡ 6 * columns schema p + 6
-unfolding node-words
-nothing-long schema p =
-    sized-long (all-words label-words (column-labels schema p)) (cell (nothing-cell (length (column-labels schema p)))) ∙ ap (λ (n : ℕ). n + 6) (labels-long schema p)
+  labels-long : length (all-words label-words (marked new (column-labels schema p))) ≡ cell-words * columns schema p
+  labels-long = all-single label-words (λ l. refl) (marked new (column-labels schema p)) ∙ ap (λ (n : ℕ). cell-words * n) marked-count
+
+  nothing-long : length (node-words (leaf new (nothing (marked new (column-labels schema p))))) ≡ cell-words * columns schema p + cell-words
+  unfolding node-words
+  nothing-long =
+      sized-long (all-words label-words (marked new (column-labels schema p))) (cell new (nothing-cell (length (marked new (column-labels schema p)))))
+      ∙ ap (λ (n : ℕ). n + cell-words) labels-long
+
+origin-is : {y : List ℕ} {lo hi : ℕ} (p : Node) → NodeHere y lo hi p → origin-at y hi ≡ node-origin p
+unfolding cell
+origin-is p u = ap (λ (k : Cell). k .origin) (node-cell-is p u)
 
 module _ {widths y : List ℕ} {lo hi n : ℕ} (c : ColumnCount widths y lo hi n) where
-  pub no-room : {names columns′ : List ℕ} {tail r : ℕ} {y′ : List ℕ} → length y < lo + (6 * n + 6) + tail → length y < r → Empties widths names columns′ y lo hi tail r y′
+  pub no-room : {names columns′ : List ℕ} {tail r : ℕ} {y′ : List ℕ} → length y < lo + (cell-words * n + cell-words) + tail → length y < r → Empties widths names columns′ y lo hi tail r y′
   no-room h k schema p g u =
       let e = c schema p (g .tables) u in
-      let l = nothing-long schema p in
+      let l = nothing-long (node-origin p) schema p in
       record { fits = λ i. absurd (omega arith); full = λ i. k }
 
   pub count-few : ColumnsAt widths y lo hi → n ≤ 4294967296
   count-few t = omega (arith, few-columns t, c (t .schema) (t .p) (t .tables) (t .here))
 
-  module _ {names columns′ z : List ℕ} {end : ℕ} {z₁ : List ℕ} (k₁ : length z₁ ≡ length z) (f : WritesLabels widths names columns′ y lo hi z 0 end z₁) (h : 6 * n ≤ length z)
-      (s : length z ≤ most-words) where
-    labels-part : (schema : Schema) (p : Node) → Names schema widths names columns′ → NodeHere y lo hi p → Part z₁ 0 end (all-words label-words (column-labels schema p))
-    labels-part schema p g u = wrote-part k₁ (omega (arith, c schema p (g .tables) u, labels-long schema p)) (omega (arith, c schema p (g .tables) u, labels-long schema p)) (f schema p g u)
+  module _ {new : ℕ} (o : new ≡ origin-at y hi) {names columns′ z : List ℕ} {end : ℕ} {z₁ : List ℕ} (k₁ : length z₁ ≡ length z) (f : WritesLabels new widths names columns′ y lo hi z 0 end z₁)
+      (h : cell-words * n ≤ length z) (s : length z ≤ most-words) where
+    labels-part : (schema : Schema) (p : Node) → Names schema widths names columns′ → NodeHere y lo hi p → Part z₁ 0 end (all-words label-words (marked new (column-labels schema p)))
+    labels-part schema p g u =
+        wrote-part k₁ (omega (arith, c schema p (g .tables) u, labels-long new schema p)) (omega (arith, c schema p (g .tables) u, labels-long new schema p)) (f schema p g u)
 
     pub labels-end : NamesAt widths names columns′ → ColumnsAt widths y lo hi → end ≤ length z₁
     labels-end g t =
         let p = labels-part (g .schema) (t .p) (g .given) (t .here) in
-        omega (arith, k₁, h, p .high, labels-long (g .schema) (t .p), c (g .schema) (t .p) (g .given .tables) (t .here))
+        omega (arith, k₁, h, p .high, labels-long new (g .schema) (t .p), c (g .schema) (t .p) (g .given .tables) (t .here))
 
-    pub emptied : {tail : ℕ} → lo + (6 * n + 6) + tail ≤ length y → length y ≤ most-words → {at r : ℕ} {y₁ y₂ : List ℕ} → length y₁ ≡ length y → Copies z₁ 0 end y lo at y₁
-        → Seals y₁ lo at (record { tag = 57; flag = 0; a = n; b = 0; c = 0 }) r y₂ → Empties widths names columns′ y lo hi tail r y₂
+    pub emptied : {tail : ℕ} → lo + (cell-words * n + cell-words) + tail ≤ length y → length y ≤ most-words → {at r : ℕ} {y₁ y₂ : List ℕ} → length y₁ ≡ length y → Copies z₁ 0 end y lo at y₁
+        → Seals y₁ lo at (record { origin = new; tag = 57; flag = 0; a = n; b = 0; c = 0 }) r y₂ → Empties widths names columns′ y lo hi tail r y₂
     unfolding cell node-words
     emptied {tail} i j {at} {r} {y₁} {y₂} k₂ a b schema p g u =
-        let w = all-words label-words (column-labels schema p) in
-        let e : n ≡ length (column-labels schema p) = c schema p (g .tables) u ∙ sym (labels-count schema p) in
-        wrote-fitted (omega (arith, nothing-long schema p, c schema p (g .tables) u)) (omega arith)
-        (subst (λ (m : ℕ). Wrote y lo (sized w (record { tag = 57; flag = 0; a = m; b = 0; c = 0 })) r y₂) e
-        (b y w k₂ (a w (labels-part schema p g u))))
+        let w = all-words label-words (marked new (column-labels schema p)) in
+        let e : n ≡ length (marked new (column-labels schema p)) = c schema p (g .tables) u ∙ sym (marked-count new schema p) in
+        subst (λ (og : ℕ). Fitted y lo (node-words (leaf og (nothing (marked og (column-labels schema p))))) tail r y₂) (o ∙ origin-is p u)
+        (wrote-fitted (omega (arith, nothing-long new schema p, c schema p (g .tables) u)) (omega arith)
+        (subst (λ (m : ℕ). Wrote y lo (sized w (record { origin = new; tag = 57; flag = 0; a = m; b = 0; c = 0 })) r y₂) e
+        (b y w k₂ (a w (labels-part schema p g u)))))
 
 -- ---- without what is useless
 
@@ -106,38 +118,38 @@ module _ (schema : Schema) where
   chosen-size false n m h = omega arith
 
   useless-size : (p : Node) → node-size (remove-useless schema p) ≤ node-size p
-  useless-size (leaf (scan t al q)) = omega (arith, true-size q)
-  useless-size (leaf (lookup a t al vs)) = omega arith
-  useless-size (leaf (nothing ls)) = omega arith
-  useless-size (leaf (values rs)) = omega arith
-  useless-size (over (filter e) n) = chosen-size (is-always (verdict e)) n (over (filter e) n) (omega arith)
-  useless-size (over (other (limit a)) n) = omega arith
-  useless-size (over (other (offset a)) n) = omega arith
-  useless-size (over (other (order ks)) n) = omega arith
-  useless-size (over (other (projection is)) n) = chosen-size (is-noop schema is n) n (over (other (projection is)) n) (omega arith)
-  useless-size (over (other (remap ts)) n) = omega arith
-  useless-size (over (other (aggregate es gs)) n) = omega arith
-  useless-size (join outer (nested-loop q) l r) = omega (arith, true-size q)
-  useless-size (join outer (hash i j) l r) = omega arith
+  useless-size (leaf og (scan t al q)) = omega (arith, true-size q)
+  useless-size (leaf og (lookup a t al vs)) = omega arith
+  useless-size (leaf og (nothing ls)) = omega arith
+  useless-size (leaf og (values rs)) = omega arith
+  useless-size (over og (filter e) n) = chosen-size (is-always (verdict e)) n (over og (filter e) n) (omega arith)
+  useless-size (over og (other (limit a)) n) = omega arith
+  useless-size (over og (other (offset a)) n) = omega arith
+  useless-size (over og (other (order ks)) n) = omega arith
+  useless-size (over og (other (projection is)) n) = chosen-size (is-noop schema is n) n (over og (other (projection is)) n) (omega arith)
+  useless-size (over og (other (remap ts)) n) = omega arith
+  useless-size (over og (other (aggregate es gs)) n) = omega arith
+  useless-size (join og outer (nested-loop q) l r) = omega (arith, true-size q)
+  useless-size (join og outer (hash i j) l r) = omega arith
 
   chosen-narrow : (b : Bool) (n m : Node) → Narrow n → Narrow m → Narrow (cond b n m)
   chosen-narrow true n m h k = h
   chosen-narrow false n m h k = k
 
   useless-narrow : (p : Node) → Narrow p → Narrow (remove-useless schema p)
-  useless-narrow (leaf (scan t al q)) k = k
-  useless-narrow (leaf (lookup a t al vs)) k = k
-  useless-narrow (leaf (nothing ls)) k = k
-  useless-narrow (leaf (values rs)) k = k
-  useless-narrow (over (filter e) n) k = chosen-narrow (is-always (verdict e)) n (over (filter e) n) (k .1) k
-  useless-narrow (over (other (limit a)) n) k = k
-  useless-narrow (over (other (offset a)) n) k = k
-  useless-narrow (over (other (order ks)) n) k = k
-  useless-narrow (over (other (projection is)) n) k = chosen-narrow (is-noop schema is n) n (over (other (projection is)) n) (k .1) k
-  useless-narrow (over (other (remap ts)) n) k = k
-  useless-narrow (over (other (aggregate es gs)) n) k = k
-  useless-narrow (join outer (nested-loop q) l r) k = k
-  useless-narrow (join outer (hash i j) l r) k = k
+  useless-narrow (leaf og (scan t al q)) k = k
+  useless-narrow (leaf og (lookup a t al vs)) k = k
+  useless-narrow (leaf og (nothing ls)) k = k
+  useless-narrow (leaf og (values rs)) k = k
+  useless-narrow (over og (filter e) n) k = chosen-narrow (is-always (verdict e)) n (over og (filter e) n) (k .1) k
+  useless-narrow (over og (other (limit a)) n) k = k
+  useless-narrow (over og (other (offset a)) n) k = k
+  useless-narrow (over og (other (order ks)) n) k = k
+  useless-narrow (over og (other (projection is)) n) k = chosen-narrow (is-noop schema is n) n (over og (other (projection is)) n) (k .1) k
+  useless-narrow (over og (other (remap ts)) n) k = k
+  useless-narrow (over og (other (aggregate es gs)) n) k = k
+  useless-narrow (join og outer (nested-loop q) l r) k = k
+  useless-narrow (join og outer (hash i j) l r) k = k
 
 module _ {widths y : List ℕ} {lo hi end : ℕ} {y₁ : List ℕ} (k₁ : length y₁ ≡ length y) (f : Removes widths y lo hi end y₁) (s : length y ≤ most-words) where
   removed-fits : (schema : Schema) (p : Node) → NodeHere y lo hi p → lo + length (node-words (remove-useless schema p)) ≤ hi

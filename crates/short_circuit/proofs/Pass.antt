@@ -19,7 +19,7 @@ use Rattle.sheet_laws.specs.Counts.{size-positive}
 use Rattle.sound.specs.Sound.{Named}
 use Rattle.sound.specs.Keeps.{keeps-next}
 use Rattle.sound.specs.Circuit.{one-keeps}
-use Rattle.cells.specs.Cells.{tag-at, start-at}
+use Rattle.cells.specs.Cells.{cell-words, tag-at, start-at}
 use Rattle.cells.specs.Room.{most-words, Copies}
 use Rattle.cells.proofs.Laws.{lt-or-ge}
 use Rattle.words.specs.Words.{node-words}
@@ -81,20 +81,20 @@ module _ {widths names columns′ x : List ℕ} {lo hi tail : ℕ} {y : List ℕ
 
   -- the node there, and its source or sources
   with-leaf : SourceCount x lo hi 0 → (P : Type 0)
-      → ((l : Leaf) → Reading (d .stream .schema) (d .stream .text) (d .stream .tables) x lo hi tail y at (d .stream .room) (d .stream .rest) (leaf l) → P) → P
+      → ((og : ℕ) (l : Leaf) → Reading (d .stream .schema) (d .stream .text) (d .stream .tables) x lo hi tail y at (d .stream .room) (d .stream .rest) (leaf og l) → P) → P
   with-leaf c P f =
       by-leaf (λ p. Reading (d .stream .schema) (d .stream .text) (d .stream .tables) x lo hi tail y at (d .stream .room) (d .stream .rest) p → P) f
       (d .stream .p) (sym (c (d .stream .p) (d .stream .reading .here))) (d .stream .reading)
 
   with-over : SourceCount x lo hi 1 → (P : Type 0)
-      → ((o : Over) (n : Node) → Reading (d .stream .schema) (d .stream .text) (d .stream .tables) x lo hi tail y at (d .stream .room) (d .stream .rest) (over o n) → P) → P
+      → ((og : ℕ) (o : Over) (n : Node) → Reading (d .stream .schema) (d .stream .text) (d .stream .tables) x lo hi tail y at (d .stream .room) (d .stream .rest) (over og o n) → P) → P
   with-over c P f =
       by-over (λ p. Reading (d .stream .schema) (d .stream .text) (d .stream .tables) x lo hi tail y at (d .stream .room) (d .stream .rest) p → P) f
       (d .stream .p) (sym (c (d .stream .p) (d .stream .reading .here))) (d .stream .reading)
 
   with-join : SourceCount x lo hi 2 → (P : Type 0)
-      → ((outer : Bool) (j : Join) (l r : Node)
-      → Reading (d .stream .schema) (d .stream .text) (d .stream .tables) x lo hi tail y at (d .stream .room) (d .stream .rest) (join outer j l r) → P)
+      → ((og : ℕ) (outer : Bool) (j : Join) (l r : Node)
+      → Reading (d .stream .schema) (d .stream .text) (d .stream .tables) x lo hi tail y at (d .stream .room) (d .stream .rest) (join og outer j l r) → P)
       → P
   with-join c P f =
       by-join (λ p. Reading (d .stream .schema) (d .stream .text) (d .stream .tables) x lo hi tail y at (d .stream .room) (d .stream .rest) p → P) f
@@ -131,56 +131,56 @@ module _ {widths names columns′ x : List ℕ} {lo hi tail : ℕ} {y : List ℕ
       → ColumnsAt widths y₁ at v × ((v + tail ≤ length y₁) × (length y₁ ≤ most-words))
   leaf-ready c {v} {y₁} k a =
       with-leaf c (ColumnsAt widths y₁ at v × ((v + tail ≤ length y₁) × (length y₁ ≤ most-words)))
-      (λ l h. ready (leaf l) (leaf l) (omega (arith, h .fits)) k (copied-done (leaf l) h k a))
+      (λ og l h. ready (leaf og l) (leaf og l) (omega (arith, h .fits)) k (copied-done (leaf og l) h k a))
 
   module _ (c : SourceCount x lo hi 1) {m : ℕ} (own : OwnStart x lo hi m) where
     pub source-at : CircuitAt widths names columns′ x lo m (tail + (hi - m)) y at
-    source-at = with-over c (CircuitAt widths names columns′ x lo m (tail + (hi - m)) y at) (λ o n h. sub-at n refl (source-reading own o n h))
+    source-at = with-over c (CircuitAt widths names columns′ x lo m (tail + (hi - m)) y at) (λ og o n h. sub-at n refl (source-reading own og o n h))
 
     pub over-ready : {u : ℕ} {y₁ : List ℕ} → length y₁ ≡ length y → Circuits widths names columns′ x lo m (tail + (hi - m)) y at u y₁ → u ≤ length y₁
         → {v : ℕ} {y₂ : List ℕ} → length y₂ ≡ length y₁ → Finishes x m hi y₁ at u v y₂
         → ColumnsAt widths y₂ at v × ((v + tail ≤ length y₂) × (length y₂ ≤ most-words))
     over-ready {u} {y₁} k₁ a z {v} {y₂} k₂ f =
         with-over c (ColumnsAt widths y₂ at v × ((v + tail ≤ length y₂) × (length y₂ ≤ most-words)))
-        (λ o n h.
+        (λ og o n h.
         streamed-with (ShortCircuit (d .stream .room) (d .stream .schema) (d .stream .rest + over-size o) n)
-        (a (d .stream .schema) (d .stream .text) (d .stream .tables) (d .stream .lent) (d .named) (d .stream .room) (d .stream .rest + over-size o) n (source-reading own o n h)) z
+        (a (d .stream .schema) (d .stream .text) (d .stream .tables) (d .stream .lent) (d .named) (d .stream .room) (d .stream .rest + over-size o) n (source-reading own og o n h)) z
         (ColumnsAt widths y₂ at v × ((v + tail ≤ length y₂) × (length y₂ ≤ most-words)))
-        (λ q s. ready (over o n) (over o q) (omega (arith, h .fits)) (k₂ ∙ k₁) (over-done own o n h k₁ q s k₂ f)))
+        (λ q s. ready (over og o n) (over og o q) (omega (arith, h .fits)) (k₂ ∙ k₁) (over-done own og o n h k₁ q s k₂ f)))
 
   module _ (c : SourceCount x lo hi 2) {m : ℕ} (own : OwnStart x lo hi m) {mid : ℕ} (st : mid ≡ start-at x m) where
     pub left-at : CircuitAt widths names columns′ x lo mid (tail + (hi - mid)) y at
-    left-at = with-join c (CircuitAt widths names columns′ x lo mid (tail + (hi - mid)) y at) (λ outer j l r h. sub-at l refl (left-reading own st outer j l r h))
+    left-at = with-join c (CircuitAt widths names columns′ x lo mid (tail + (hi - mid)) y at) (λ og outer j l r h. sub-at l refl (left-reading own st og outer j l r h))
 
     module _ {u : ℕ} {y₁ : List ℕ} (k₁ : length y₁ ≡ length y) (a : Circuits widths names columns′ x lo mid (tail + (hi - mid)) y at u y₁) (z : u ≤ length y₁) where
       with-left : (P : Type 0)
-          → ((outer : Bool) (j : Join) (l r : Node)
-          → (h : Reading (d .stream .schema) (d .stream .text) (d .stream .tables) x lo hi tail y at (d .stream .room) (d .stream .rest) (join outer j l r))
+          → ((og : ℕ) (outer : Bool) (j : Join) (l r : Node)
+          → (h : Reading (d .stream .schema) (d .stream .text) (d .stream .tables) x lo hi tail y at (d .stream .room) (d .stream .rest) (join og outer j l r))
           → (p : Node) → Streamed (Kept (d .stream .schema) (d .stream .text) (d .stream .tables) l) y at (tail + (hi - mid)) u y₁ (done p) → P)
           → P
       with-left P f =
           with-join c P
-          (λ outer j l r h.
+          (λ og outer j l r h.
           streamed-with (ShortCircuit (d .stream .room) (d .stream .schema) (d .stream .rest + (node-size r + join-size j)) l)
           (a (d .stream .schema) (d .stream .text) (d .stream .tables) (d .stream .lent) (d .named) (d .stream .room) (d .stream .rest + (node-size r + join-size j)) l
-          (left-reading own st outer j l r h)) z P (f outer j l r h))
+          (left-reading own st og outer j l r h)) z P (f og outer j l r h))
 
       pub right-at : CircuitAt widths names columns′ x mid m (tail + (hi - m)) y₁ u
       right-at =
           with-left (CircuitAt widths names columns′ x mid m (tail + (hi - m)) y₁ u)
-          (λ outer j l r h p s. sub-at r k₁ (right-reading own st outer j l r h k₁ p s))
+          (λ og outer j l r h p s. sub-at r k₁ (right-reading own st og outer j l r h k₁ p s))
 
       pub join-ready : {v : ℕ} {y₂ : List ℕ} → length y₂ ≡ length y₁ → Circuits widths names columns′ x mid m (tail + (hi - m)) y₁ u v y₂ → v ≤ length y₂
           → {w : ℕ} {y₃ : List ℕ} → length y₃ ≡ length y₂ → Finishes x m hi y₂ at v w y₃
           → ColumnsAt widths y₃ at w × ((w + tail ≤ length y₃) × (length y₃ ≤ most-words))
       join-ready {v} {y₂} k₂ b i {w} {y₃} k₃ f =
           with-left (ColumnsAt widths y₃ at w × ((w + tail ≤ length y₃) × (length y₃ ≤ most-words)))
-          (λ outer j l r h p s.
+          (λ og outer j l r h p s.
           streamed-with (ShortCircuit (d .stream .room) (d .stream .schema) (d .stream .rest + (node-size p + join-size j)) r)
           (b (d .stream .schema) (d .stream .text) (d .stream .tables) (d .stream .lent) (d .named) (d .stream .room) (d .stream .rest + (node-size p + join-size j)) r
-          (right-reading own st outer j l r h k₁ p s)) i
+          (right-reading own st og outer j l r h k₁ p s)) i
           (ColumnsAt widths y₃ at w × ((w + tail ≤ length y₃) × (length y₃ ≤ most-words)))
-          (λ q t. ready (join outer j l r) (join outer j p q) (omega (arith, h .fits)) (k₃ ∙ k₂ ∙ k₁) (join-done own st outer j l r h k₁ p s k₂ q t k₃ f)))
+          (λ q t. ready (join og outer j l r) (join og outer j p q) (omega (arith, h .fits)) (k₃ ∙ k₂ ∙ k₁) (join-done own st og outer j l r h k₁ p s k₂ q t k₃ f)))
 
 -- ---- what is handed out
 
@@ -190,21 +190,21 @@ module _ {widths names columns′ x : List ℕ} {lo hi tail : ℕ} {y : List ℕ
   unfolding ShortCircuit
   leaf-circuits c {v} {y₁} k a {n} {y₂} k₂ f schema text tables g named room rest p h =
       by-leaf (λ p. Reading schema text tables x lo hi tail y at room rest p → Streamed (Kept schema text tables p) y at tail n y₂ (ShortCircuit room schema rest p))
-      (λ l h. written-next g (leaf l) (leaf l) (omega (arith, h .fits)) k (copied-done (leaf l) h k a) named k₂ (h .shares) f) p (sym (c p (h .here))) h
+      (λ og l h. written-next g (leaf og l) (leaf og l) (omega (arith, h .fits)) k (copied-done (leaf og l) h k a) named k₂ (h .shares) f) p (sym (c p (h .here))) h
 
   -- a Scan without a filter stays as it is
-  pub scan-circuits : hi - lo ≡ 6 → tag-at x hi ≡ 62 → {n : ℕ} {y₁ : List ℕ} → length y₁ ≡ length y → Copies x lo hi y at n y₁ → Circuits widths names columns′ x lo hi tail y at n y₁
+  pub scan-circuits : hi - lo ≡ cell-words → tag-at x hi ≡ 62 → {n : ℕ} {y₁ : List ℕ} → length y₁ ≡ length y → Copies x lo hi y at n y₁ → Circuits widths names columns′ x lo hi tail y at n y₁
   unfolding ShortCircuit short-circuit
   scan-circuits e i {n} {y₁} k a schema text tables g named room rest p h =
       by-scan (λ p. Reading schema text tables x lo hi tail y at room rest p → Streamed (Kept schema text tables p) y at tail n y₁ (ShortCircuit room schema rest p)) go
       p (sym (tagged p) ∙ sym (node-tag p (h .here)) ∙ i) h
     where
-      go : (t : ℕ) (al : Option ℕ) (q : Option Expression) → Reading schema text tables x lo hi tail y at room rest (leaf (scan t al q))
-          → Streamed (Kept schema text tables (leaf (scan t al q))) y at tail n y₁ (ShortCircuit room schema rest (leaf (scan t al q)))
-      go t al none h =
+      go : (og t : ℕ) (al : Option ℕ) (q : Option Expression) → Reading schema text tables x lo hi tail y at room rest (leaf og (scan t al q))
+          → Streamed (Kept schema text tables (leaf og (scan t al q))) y at tail n y₁ (ShortCircuit room schema rest (leaf og (scan t al q)))
+      go og t al none h =
           let s = h .here .part .high in
-          fitted-step (leaf (scan t al none)) (h .fit) (h .shares) k (wrote-fitted (omega (arith, h .fits)) (h .shares .short) (a (node-words (leaf (scan t al none))) (h .here .part)))
-      go t al (some f) h = absurd (omega (arith, node-long (leaf (scan t al (some f))) (h .here), expression-long f, size-positive f))
+          fitted-step (leaf og (scan t al none)) (h .fit) (h .shares) k (wrote-fitted (omega (arith, h .fits)) (h .shares .short) (a (node-words (leaf og (scan t al none))) (h .here .part)))
+      go og t al (some f) h = absurd (omega (arith, node-long (leaf og (scan t al (some f))) (h .here), expression-long f, size-positive f))
 
   module _ (c : SourceCount x lo hi 1) {m : ℕ} (own : OwnStart x lo hi m) {u : ℕ} {y₁ : List ℕ} (a : Circuits widths names columns′ x lo m (tail + (hi - m)) y at u y₁) where
     -- the source is refused
@@ -212,17 +212,17 @@ module _ {widths names columns′ x : List ℕ} {lo hi tail : ℕ} {y : List ℕ
     unfolding ShortCircuit
     over-stop z schema text tables g named room rest p h =
         by-over (λ p. Reading schema text tables x lo hi tail y at room rest p → Streamed (Kept schema text tables p) y at tail u y₁ (ShortCircuit room schema rest p))
-        (λ o n h. streamed-stop (ShortCircuit room schema (rest + over-size o) n) (a schema text tables g named room (rest + over-size o) n (source-reading own o n h))
-        (λ q. short-circuit room schema rest (over o q)) z) p (sym (c p (h .here))) h
+        (λ og o n h. streamed-stop (ShortCircuit room schema (rest + over-size o) n) (a schema text tables g named room (rest + over-size o) n (source-reading own og o n h))
+        (λ q. short-circuit room schema rest (over og o q)) z) p (sym (c p (h .here))) h
 
     pub over-circuits : length y₁ ≡ length y → u ≤ length y₁ → {v : ℕ} {y₂ : List ℕ} → length y₂ ≡ length y₁ → Finishes x m hi y₁ at u v y₂ → {n : ℕ} {y₃ : List ℕ}
         → length y₃ ≡ length y₂ → CircuitsNode widths names columns′ y₂ at v tail n y₃ → Circuits widths names columns′ x lo hi tail y at n y₃
     unfolding ShortCircuit
     over-circuits k₁ z {v} {y₂} k₂ e {n} {y₃} k₃ f schema text tables g named room rest p h =
         by-over (λ p. Reading schema text tables x lo hi tail y at room rest p → Streamed (Kept schema text tables p) y at tail n y₃ (ShortCircuit room schema rest p))
-        (λ o i h. streamed-go (ShortCircuit room schema (rest + over-size o) i) (a schema text tables g named room (rest + over-size o) i (source-reading own o i h))
-        (λ q. short-circuit room schema rest (over o q)) z
-        (λ q s. written-next g (over o i) (over o q) (omega (arith, h .fits)) (k₂ ∙ k₁) (over-done own o i h k₁ q s k₂ e) named k₃ (h .shares) f))
+        (λ og o i h. streamed-go (ShortCircuit room schema (rest + over-size o) i) (a schema text tables g named room (rest + over-size o) i (source-reading own og o i h))
+        (λ q. short-circuit room schema rest (over og o q)) z
+        (λ q s. written-next g (over og o i) (over og o q) (omega (arith, h .fits)) (k₂ ∙ k₁) (over-done own og o i h k₁ q s k₂ e) named k₃ (h .shares) f))
         p (sym (c p (h .here))) h
 
   module _ (c : SourceCount x lo hi 2) {m : ℕ} (own : OwnStart x lo hi m) {mid : ℕ} (st : mid ≡ start-at x m) {u : ℕ} {y₁ : List ℕ}
@@ -232,40 +232,40 @@ module _ {widths names columns′ x : List ℕ} {lo hi tail : ℕ} {y : List ℕ
     unfolding ShortCircuit
     left-stop z schema text tables g named room rest p h =
         by-join (λ p. Reading schema text tables x lo hi tail y at room rest p → Streamed (Kept schema text tables p) y at tail u y₁ (ShortCircuit room schema rest p))
-        (λ outer j l r h. streamed-stop (ShortCircuit room schema (rest + (node-size r + join-size j)) l)
-        (a schema text tables g named room (rest + (node-size r + join-size j)) l (left-reading own st outer j l r h))
-        (λ p. ShortCircuit room schema (rest + (node-size p + join-size j)) r >>= λ q. short-circuit room schema rest (join outer j p q)) z) p (sym (c p (h .here))) h
+        (λ og outer j l r h. streamed-stop (ShortCircuit room schema (rest + (node-size r + join-size j)) l)
+        (a schema text tables g named room (rest + (node-size r + join-size j)) l (left-reading own st og outer j l r h))
+        (λ p. ShortCircuit room schema (rest + (node-size p + join-size j)) r >>= λ q. short-circuit room schema rest (join og outer j p q)) z) p (sym (c p (h .here))) h
 
     module _ (k₁ : length y₁ ≡ length y) (z : u ≤ length y₁) {v : ℕ} {y₂ : List ℕ} (b : Circuits widths names columns′ x mid m (tail + (hi - m)) y₁ u v y₂) where
       left-went : {n : ℕ} {y₃ : List ℕ} (schema : Schema) (text : List ℕ) (tables : ℕ) → Names schema widths names columns′ → Named schema (length text) → (room rest : ℕ)
-          → ((outer : Bool) (j : Join) (l r : Node) (h : Reading schema text tables x lo hi tail y at room rest (join outer j l r))
+          → ((og : ℕ) (outer : Bool) (j : Join) (l r : Node) (h : Reading schema text tables x lo hi tail y at room rest (join og outer j l r))
           → (p : Node) (s : Streamed (Kept schema text tables l) y at (tail + (hi - mid)) u y₁ (done p))
           → Streamed (Kept schema text tables r) y₁ u (tail + (hi - m)) v y₂ (ShortCircuit room schema (rest + (node-size p + join-size j)) r)
-          → Streamed (Kept schema text tables (join outer j l r)) y at tail n y₃
-          (ShortCircuit room schema (rest + (node-size p + join-size j)) r >>= λ q. short-circuit room schema rest (join outer j p q)))
+          → Streamed (Kept schema text tables (join og outer j l r)) y at tail n y₃
+          (ShortCircuit room schema (rest + (node-size p + join-size j)) r >>= λ q. short-circuit room schema rest (join og outer j p q)))
           → (p : Node) → Reading schema text tables x lo hi tail y at room rest p → Streamed (Kept schema text tables p) y at tail n y₃ (ShortCircuit room schema rest p)
       unfolding ShortCircuit
       left-went {n} {y₃} schema text tables g named room rest e p h =
           by-join (λ p. Reading schema text tables x lo hi tail y at room rest p → Streamed (Kept schema text tables p) y at tail n y₃ (ShortCircuit room schema rest p))
-          (λ outer j l r h. streamed-go (ShortCircuit room schema (rest + (node-size r + join-size j)) l)
-          (a schema text tables g named room (rest + (node-size r + join-size j)) l (left-reading own st outer j l r h))
-          (λ p. ShortCircuit room schema (rest + (node-size p + join-size j)) r >>= λ q. short-circuit room schema rest (join outer j p q)) z
-          (λ p s. e outer j l r h p s
-          (b schema text tables g named room (rest + (node-size p + join-size j)) r (right-reading own st outer j l r h k₁ p s)))) p (sym (c p (h .here))) h
+          (λ og outer j l r h. streamed-go (ShortCircuit room schema (rest + (node-size r + join-size j)) l)
+          (a schema text tables g named room (rest + (node-size r + join-size j)) l (left-reading own st og outer j l r h))
+          (λ p. ShortCircuit room schema (rest + (node-size p + join-size j)) r >>= λ q. short-circuit room schema rest (join og outer j p q)) z
+          (λ p s. e og outer j l r h p s
+          (b schema text tables g named room (rest + (node-size p + join-size j)) r (right-reading own st og outer j l r h k₁ p s)))) p (sym (c p (h .here))) h
 
       -- the right source is refused
       pub right-stop : length y₂ < v → Circuits widths names columns′ x lo hi tail y at v y₂
       right-stop i schema text tables g named room rest p h =
           left-went schema text tables g named room rest
-          (λ outer j l r h p s t. streamed-stop (ShortCircuit room schema (rest + (node-size p + join-size j)) r) t (λ q. short-circuit room schema rest (join outer j p q)) i) p h
+          (λ og outer j l r h p s t. streamed-stop (ShortCircuit room schema (rest + (node-size p + join-size j)) r) t (λ q. short-circuit room schema rest (join og outer j p q)) i) p h
 
       pub join-circuits : length y₂ ≡ length y₁ → v ≤ length y₂ → {w : ℕ} {y₃ : List ℕ} → length y₃ ≡ length y₂ → Finishes x m hi y₂ at v w y₃ → {n : ℕ} {y₄ : List ℕ}
           → length y₄ ≡ length y₃ → CircuitsNode widths names columns′ y₃ at w tail n y₄ → Circuits widths names columns′ x lo hi tail y at n y₄
       join-circuits k₂ i k₃ e k₄ f schema text tables g named room rest p h =
           left-went schema text tables g named room rest
-          (λ outer j l r h p s t. streamed-go (ShortCircuit room schema (rest + (node-size p + join-size j)) r) t (λ q. short-circuit room schema rest (join outer j p q)) i
-          (λ q t. written-next g (join outer j l r) (join outer j p q) (omega (arith, h .fits)) (k₃ ∙ k₂ ∙ k₁)
-          (join-done own st outer j l r h k₁ p s k₂ q t k₃ e) named k₄ (h .shares) f)) p h
+          (λ og outer j l r h p s t. streamed-go (ShortCircuit room schema (rest + (node-size p + join-size j)) r) t (λ q. short-circuit room schema rest (join og outer j p q)) i
+          (λ q t. written-next g (join og outer j l r) (join og outer j p q) (omega (arith, h .fits)) (k₃ ∙ k₂ ∙ k₁)
+          (join-done own st og outer j l r h k₁ p s k₂ q t k₃ e) named k₄ (h .shares) f)) p h
 
 -- ---- bounds
 
@@ -273,5 +273,5 @@ module _ {widths names columns′ x : List ℕ} {lo hi tail : ℕ} {y : List ℕ
   pub node-there : NodeAt x lo hi
   node-there = record { p = d .stream .p; here = d .stream .reading .here }
 
-  pub node-inside : (lo + 6 ≤ hi) × (hi ≤ length x)
+  pub node-inside : (lo + cell-words ≤ hi) × (hi ≤ length x)
   node-inside = node-in (d .stream .p) (d .stream .reading .here)

@@ -5,13 +5,14 @@ use mathlib.Core.Path.{_≡_}
 use mathlib.Core.List.{List, _++_}
 use lib.ListN.{length, take}
 use Rattle.sql.specs.Schema.{Schema}
-use Rattle.sql.specs.Plan.{nothing, Node, leaf, column-labels}
+use Rattle.sql.specs.Plan.{node-origin, nothing, Node, leaf, column-labels}
 use Rattle.sql.specs.Optimizer.{short-circuit}
 use Rattle.sql.specs.Room.{ShortCircuit}
 use Rattle.sound.specs.Sound.{Named}
 use Rattle.words.specs.Words.{node-words}
 use Rattle.words.specs.Place.{NodeHere}
 use Rattle.labels.specs.Names.{Names}
+use Rattle.column_labels.specs.ColumnLabels.{marked}
 use Rattle.chain.specs.Chain.{Bare}
 use Rattle.kept.specs.Kept.{Kept}
 use Rattle.stream.specs.Stream.{Reading, StreamAt, Streamed}
@@ -21,11 +22,11 @@ pub record Fitted (y : List ℕ) (at : ℕ) (w : List ℕ) (tail n : ℕ) (y′ 
   pub fits : at + length w + tail ≤ length y → (n ≡ at + length w) × (take n y′ ≡ take at y ++ w)
   pub full : length y < at + length w + tail → length y < n
 
--- The node from lo up to hi becomes a Nothing with its labels.
+-- The node from lo up to hi becomes a Nothing with its labels; these and the Nothing have the node's origin.
 abbrev pub Empties : (widths names columns y : List ℕ) (lo hi tail n : ℕ) → List ℕ → Type 0
 Empties widths names columns y lo hi tail n y′ =
     (schema : Schema) (p : Node) → Names schema widths names columns → NodeHere y lo hi p
-    → Fitted y lo (node-words (leaf (nothing (column-labels schema p)))) tail n y′
+    → Fitted y lo (node-words (leaf (node-origin p) (nothing (marked (node-origin p) (column-labels schema p))))) tail n y′
 
 -- short_circuit takes the node's place.
 abbrev pub CircuitsNode : (widths names columns y : List ℕ) (lo hi tail n : ℕ) → List ℕ → Type 0

@@ -8,7 +8,8 @@ ghost use Rattle.nodes.specs.Columns.{ColumnsAt};
 ghost use Rattle.labels.specs.Names.{NamesAt};
 ghost use Rattle.short_circuit.specs.ShortCircuit.{Empties, CircuitsNode, CircuitAt, Circuits, ClimbsAt, Climbs};
 
-// The node from lo to hi, which can't produce anything, becomes a Nothing that keeps its labels. Room for these is asked for before they are written.
+// The node from lo to hi, which can't produce anything, becomes a Nothing that keeps its labels; all have the node's origin. Room for these is asked for
+// before they are written.
 fn into_nothing(
     y: &mut [u32],
     lo: usize,
@@ -28,9 +29,11 @@ fn into_nothing(
     if y.len() - tail - lo < cells::CELL_WORDS * n + cells::CELL_WORDS {
         return cells::FULL;
     }
-    let end = column_labels::write_labels(y, lo, hi, z, 0, widths, names, columns);
+    let origin = cells::origin_at(y, hi);
+    let end = column_labels::write_labels(y, lo, hi, z, 0, widths, names, columns, origin);
     let at = cells::copy(z, 0, end, y, lo);
     let k = cells::Cell {
+        origin: origin,
         tag: tags::NOTHING,
         flag: 0,
         a: n as u32,

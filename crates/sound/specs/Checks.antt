@@ -9,7 +9,7 @@ use mathlib.Core.Option.{Option, none, some}
 use lib.Dec.{ltb, eqb}
 use lib.ListN.{length}
 use Rattle.sql.specs.Schema.{Schema}
-use Rattle.sql.specs.Expression.{Expression, constant, column, unary, binary, size}
+use Rattle.sql.specs.Expression.{Marked, Expression, constant, column, unary, binary, size}
 use Rattle.sql.specs.Plan.{by-key, by-index, Leaf, scan, lookup, nothing, values, limit, offset, order, projection, remap, aggregate, Over, filter, other, Join, nested-loop, hash, Node, leaf, over, join, values-columns, columns, sum, row-size, item-size, key-size, aggregate-size, node-size}
 use Rattle.sheet.specs.Content
 use Rattle.sheet.specs.Content.{Content}
@@ -36,10 +36,10 @@ none-in-each f cells Q r [] at q = refl
 none-in-each f cells Q r (x ∷ xs) at q = ap₂ first-of (r x at (q .0)) (none-in-each f cells Q r xs (at + cells x) (q .1))
 
 -- The place that counting starts from doesn't matter.
-repeated-anywhere : (ts : List (Option ℕ)) (before : List ℕ) (at to : ℕ) → repeated before at ts ≡ none → repeated before to ts ≡ none
+repeated-anywhere : (ts : List (Marked (Option ℕ))) (before : List ℕ) (at to : ℕ) → repeated before at ts ≡ none → repeated before to ts ≡ none
 repeated-anywhere [] before at to h = refl
-repeated-anywhere (none ∷ ts) before at to h = repeated-anywhere ts before (suc at) (suc to) h
-repeated-anywhere (some t ∷ ts) before at to h = go (member t before) h (repeated-anywhere ts (t ∷ before) (suc at) (suc to))
+repeated-anywhere ((none, og) ∷ ts) before at to h = repeated-anywhere ts before (suc at) (suc to) h
+repeated-anywhere ((some t, og) ∷ ts) before at to h = go (member t before) h (repeated-anywhere ts (t ∷ before) (suc at) (suc to))
   where
     go : (b : Bool) → _≡_ {A = Option ℕ} (elim b [ true ↦ some at | false ↦ repeated (t ∷ before) (suc at) ts ]) none
         → (repeated (t ∷ before) (suc at) ts ≡ none → repeated (t ∷ before) (suc to) ts ≡ none)
@@ -47,13 +47,16 @@ repeated-anywhere (some t ∷ ts) before at to h = go (member t before) h (repea
     go true k ih = absurd (let z : _≡_ {A = ℕ} 0 1 = cc in omega arith)
     go false k ih = ih k
 
-rows-long : (n : ℕ) (rs : List (List Expression)) → equally-long n rs ≡ true → All (λ r. length r ≡ n) rs
+rows-long : (n : ℕ) (rs : List (Marked (List Expression))) → equally-long n rs ≡ true → All (λ r. length (r .0) ≡ n) rs
 rows-long n [] h = tt
-rows-long n (r ∷ rs) h = (eqb-true (length r) n (and-left (eqb (length r) n) _ h), rows-long n rs (and-right (eqb (length r) n) _ h))
+rows-long n (r ∷ rs) h = (eqb-true (length (r .0)) n (and-left (eqb (length (r .0)) n) _ h), rows-long n rs (and-right (eqb (length (r .0)) n) _ h))
 
-long-rows : (n : ℕ) (rs : List (List Expression)) → All (λ r. length r ≡ n) rs → equally-long n rs ≡ true
+long-rows : (n : ℕ) (rs : List (Marked (List Expression))) → All (λ r. length (r .0) ≡ n) rs → equally-long n rs ≡ true
 long-rows n [] h = refl
-long-rows n (r ∷ rs) h = and-true (eqb (length r) n) _ (eq-eqb (length r) n (h .0)) (long-rows n rs (h .1))
+long-rows n (r ∷ rs) h = and-true (eqb (length (r .0)) n) _ (eq-eqb (length (r .0)) n (h .0)) (long-rows n rs (h .1))
+
+abbrev row-outside : ℕ → Marked (List Expression) → Option ℕ
+row-outside i row = expressions-outside 0 i (row .0)
 
 module _ (schema : Schema) (text : List ℕ) (tables : ℕ) where
   abbrev F : Content → Type 0
@@ -65,10 +68,10 @@ module _ (schema : Schema) (text : List ℕ) (tables : ℕ) where
   -- ---- a plan that passes the checks is sound
 
   expression-in : (n : ℕ) (e : Expression) (at : ℕ) → Each-expression F e → column-outside n at e ≡ none → W n e
-  expression-in n (constant v) at x h = x
-  expression-in n (column c) at x h = ltb-true c n (unless-none (ltb c n) at h)
-  expression-in n (unary o e) at x h = expression-in n e at (x .0) h
-  expression-in n (binary o l r) at x h =
+  expression-in n (constant og v) at x h = x
+  expression-in n (column og c) at x h = ltb-true c n (unless-none (ltb c n) at h)
+  expression-in n (unary og o e) at x h = expression-in n e at (x .0) h
+  expression-in n (binary og o l r) at x h =
       let p = first-of-none (column-outside n at l) (column-outside n (at + size l) r) h in
       (expression-in n l at (x .0) (p .0), expression-in n r (at + size l) (x .1 .0) (p .1))
 
@@ -86,9 +89,9 @@ module _ (schema : Schema) (text : List ℕ) (tables : ℕ) where
       (x .0, (x .1, ltb-true i (table-columns schema t) (unless-none (ltb i (table-columns schema t)) (at + length vs) h)))
   leaf-in (nothing ls) at x h = x .0
   leaf-in (values rs) at x h =
-      let p = first-of-none (in-each (expressions-outside 0) row-size at rs) _ h in
-      all-both (All (W 0)) (λ r. length r ≡ values-columns rs) rs
-      (in-each-all (expressions-outside 0) row-size (Each-row F) (All (W 0)) (λ r i y g. expressions-in 0 r i (y .0) g) rs at (x .0) (p .0))
+      let p = first-of-none (in-each row-outside row-size at rs) _ h in
+      all-both (λ r. All (W 0) (r .0)) (λ r. length (r .0) ≡ values-columns rs) rs
+      (in-each-all row-outside row-size (Each-row F) (λ r. All (W 0) (r .0)) (λ r i y g. expressions-in 0 (r .0) i (y .0) g) rs at (x .0) (p .0))
       (rows-long (values-columns rs) rs (unless-none (equally-long (values-columns rs) rs) (at + sum row-size rs) (p .1)))
 
   over-in : (n : ℕ) (o : Over) (at : ℕ) → Each-over F o → over-outside schema n at o ≡ none → over-repeated at o ≡ none → Sound-over schema text tables n o
@@ -116,12 +119,12 @@ module _ (schema : Schema) (text : List ℕ) (tables : ℕ) where
       (ltb-true i l (and-left (ltb i l) (ltb j r) t), ltb-true j r (and-right (ltb i l) (ltb j r) t))
 
   pub passes-sound : (n : Node) (at : ℕ) → Fits text tables n → outside schema at n ≡ none → target-repeated at n ≡ none → Sound schema text tables n
-  passes-sound (leaf l) at x h r = leaf-in l at x h
-  passes-sound (over o s) at x h r =
+  passes-sound (leaf og l) at x h r = leaf-in l at x h
+  passes-sound (over og o s) at x h r =
       let p = first-of-none (outside schema at s) _ h in
       let q = first-of-none (target-repeated at s) _ r in
       (passes-sound s at (x .0) (p .0) (q .0), over-in (columns schema s) o (at + node-size s) (x .1) (p .1) (q .1))
-  passes-sound (join outer j a b) at x h r =
+  passes-sound (join og outer j a b) at x h r =
       let p = first-of-none (outside schema at a) _ h in
       let p2 = first-of-none (outside schema (at + node-size a) b) _ (p .1) in
       let q = first-of-none (target-repeated at a) _ r in (
@@ -135,10 +138,10 @@ module _ (schema : Schema) (text : List ℕ) (tables : ℕ) where
   -- ---- a sound plan can be written
 
   expression-fits : (n : ℕ) (e : Expression) → W n e → Each-expression F e
-  expression-fits n (constant v) x = x
-  expression-fits n (column c) x = tt
-  expression-fits n (unary o e) x = (expression-fits n e x, tt)
-  expression-fits n (binary o l r) x = (expression-fits n l (x .0), (expression-fits n r (x .1), tt))
+  expression-fits n (constant og v) x = x
+  expression-fits n (column og c) x = tt
+  expression-fits n (unary og o e) x = (expression-fits n e x, tt)
+  expression-fits n (binary og o l r) x = (expression-fits n l (x .0), (expression-fits n r (x .1), tt))
 
   optional-fits : (n : ℕ) (p : Option Expression) → Optional (W n) p → Optional (Each-expression F) p
   optional-fits n none x = tt
@@ -152,7 +155,7 @@ module _ (schema : Schema) (text : List ℕ) (tables : ℕ) where
   leaf-fits (lookup by-key t al vs) x = (x .0, x .1 .0)
   leaf-fits (lookup (by-index i) t al vs) x = (x .0, x .1 .0)
   leaf-fits (nothing ls) x = (x, tt)
-  leaf-fits (values rs) x = (all-map (Row-of schema text tables (values-columns rs)) (Each-row F) (λ r y. (expressions-fit 0 r (y .0), tt)) rs x, tt)
+  leaf-fits (values rs) x = (all-map (Row-of schema text tables (values-columns rs)) (Each-row F) (λ r y. (expressions-fit 0 (r .0) (y .0), tt)) rs x, tt)
 
   over-fits : (n : ℕ) (o : Over) → Sound-over schema text tables n o → Each-over F o
   over-fits n (filter e) x = (expression-fits n e x, tt)
@@ -172,9 +175,9 @@ module _ (schema : Schema) (text : List ℕ) (tables : ℕ) where
   join-fits l r outer (hash i j) x = tt
 
   pub sound-fits : (n : Node) → Sound schema text tables n → Fits text tables n
-  sound-fits (leaf l) x = leaf-fits l x
-  sound-fits (over o s) x = (sound-fits s (x .0), over-fits (columns schema s) o (x .1))
-  sound-fits (join outer j a b) x =
+  sound-fits (leaf og l) x = leaf-fits l x
+  sound-fits (over og o s) x = (sound-fits s (x .0), over-fits (columns schema s) o (x .1))
+  sound-fits (join og outer j a b) x =
       (sound-fits a (x .0), (sound-fits b (x .1 .0), join-fits (columns schema a) (columns schema b) outer j (x .1 .1)))
 
   -- ---- nothing of a sound plan is out of scope
@@ -196,9 +199,9 @@ module _ (schema : Schema) (text : List ℕ) (tables : ℕ) where
   leaf-scope (nothing ls) at x = refl
   leaf-scope (values rs) at x =
       ap₂ first-of
-      (none-in-each (expressions-outside 0) row-size (Row-of schema text tables (values-columns rs)) (λ r i y. expressions-scope 0 r i (y .0)) rs at x)
+      (none-in-each row-outside row-size (Row-of schema text tables (values-columns rs)) (λ r i y. expressions-scope 0 (r .0) i (y .0)) rs at x)
       (ap (λ (b : Bool). unless b (at + sum row-size rs))
-      (long-rows (values-columns rs) rs (all-map (Row-of schema text tables (values-columns rs)) (λ r. length r ≡ values-columns rs) (λ r y. y .1) rs x)))
+      (long-rows (values-columns rs) rs (all-map (Row-of schema text tables (values-columns rs)) (λ r. length (r .0) ≡ values-columns rs) (λ r y. y .1) rs x)))
 
   over-scope : (n : ℕ) (o : Over) (at : ℕ) → Sound-over schema text tables n o → over-outside schema n at o ≡ none
   over-scope n (filter e) at x = expression-scope n e at x
@@ -217,9 +220,9 @@ module _ (schema : Schema) (text : List ℕ) (tables : ℕ) where
   join-scope l r (hash i j) at x = ap (λ (b : Bool). unless b at) (and-true (ltb i l) (ltb j r) (lt-ltb i l (x .0)) (lt-ltb j r (x .1)))
 
   pub sound-scope : (n : Node) (at : ℕ) → Sound schema text tables n → outside schema at n ≡ none
-  sound-scope (leaf l) at x = leaf-scope l at x
-  sound-scope (over o s) at x = ap₂ first-of (sound-scope s at (x .0)) (over-scope (columns schema s) o (at + node-size s) (x .1))
-  sound-scope (join outer j a b) at x =
+  sound-scope (leaf og l) at x = leaf-scope l at x
+  sound-scope (over og o s) at x = ap₂ first-of (sound-scope s at (x .0)) (over-scope (columns schema s) o (at + node-size s) (x .1))
+  sound-scope (join og outer j a b) at x =
       ap₂ first-of (sound-scope a at (x .0))
       (ap₂ first-of (sound-scope b (at + node-size a) (x .1 .0)) (join-scope (columns schema a) (columns schema b) j (at + node-size a + node-size b) (x .1 .1)))
 
@@ -235,6 +238,6 @@ module _ (schema : Schema) (text : List ℕ) (tables : ℕ) where
   over-targets n (other (aggregate es gs)) at x = refl
 
   pub sound-targets : (n : Node) (at : ℕ) → Sound schema text tables n → target-repeated at n ≡ none
-  sound-targets (leaf l) at x = refl
-  sound-targets (over o s) at x = ap₂ first-of (sound-targets s at (x .0)) (over-targets (columns schema s) o (at + node-size s) (x .1))
-  sound-targets (join outer j a b) at x = ap₂ first-of (sound-targets a at (x .0)) (sound-targets b (at + node-size a) (x .1 .0))
+  sound-targets (leaf og l) at x = refl
+  sound-targets (over og o s) at x = ap₂ first-of (sound-targets s at (x .0)) (over-targets (columns schema s) o (at + node-size s) (x .1))
+  sound-targets (join og outer j a b) at x = ap₂ first-of (sound-targets a at (x .0)) (sound-targets b (at + node-size a) (x .1 .0))

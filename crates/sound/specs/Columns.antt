@@ -19,17 +19,17 @@ Columns C e = Made-of (λ v. Unit {0}) C e
 
 -- Nothing is out of scope exactly if each column is below n.
 pub below : (n : ℕ) (e : Expression) (at : ℕ) → column-outside n at e ≡ none → Columns (λ c. c < n) e
-below n (constant v) at h = tt
-below n (column c) at h = ltb-true c n (unless-none (ltb c n) at h)
-below n (unary o x) at h = below n x at h
-below n (binary o l r) at h =
+below n (constant og v) at h = tt
+below n (column og c) at h = ltb-true c n (unless-none (ltb c n) at h)
+below n (unary og o x) at h = below n x at h
+below n (binary og o l r) at h =
     let p = first-of-none (column-outside n at l) (column-outside n (at + size l) r) h in (below n l at (p .0), below n r (at + size l) (p .1))
 
 pub none-outside : (P : Value → Type 0) (n : ℕ) (e : Expression) (at : ℕ) → Made-of P (λ c. c < n) e → column-outside n at e ≡ none
-none-outside P n (constant v) at m = refl
-none-outside P n (column c) at m = ap (λ (b : Bool). unless b at) (lt-ltb c n m)
-none-outside P n (unary o x) at m = none-outside P n x at m
-none-outside P n (binary o l r) at m = ap₂ first-of (none-outside P n l at (m .0)) (none-outside P n r (at + size l) (m .1))
+none-outside P n (constant og v) at m = refl
+none-outside P n (column og c) at m = ap (λ (b : Bool). unless b at) (lt-ltb c n m)
+none-outside P n (unary og o x) at m = none-outside P n x at m
+none-outside P n (binary og o l r) at m = ap₂ first-of (none-outside P n l at (m .0)) (none-outside P n r (at + size l) (m .1))
 
 -- ---- shifts, between the row of a right source with m columns and the joined row, where n columns of the left source stand before them
 
@@ -72,23 +72,23 @@ copied-scope n m from to e at into l t h =
 
 -- The two shifts undo each other.
 pub shift-down-up : (n : ℕ) (e : Expression) → shift-column-down n (shift-column-up n e) ≡ e
-shift-down-up n (constant v) = refl
-shift-down-up n (column c) = let k : n + c - n ≡ c = omega arith in ap column k
-shift-down-up n (unary o x) = ap (unary o) (shift-down-up n x)
-shift-down-up n (binary o l r) = ap₂ (binary o) (shift-down-up n l) (shift-down-up n r)
+shift-down-up n (constant og v) = refl
+shift-down-up n (column og c) = let k : n + c - n ≡ c = omega arith in ap (column og) k
+shift-down-up n (unary og o x) = ap (unary og o) (shift-down-up n x)
+shift-down-up n (binary og o l r) = ap₂ (binary og o) (shift-down-up n l) (shift-down-up n r)
 
 up-down : (n : ℕ) (e : Expression) → Columns (λ c. n ≤ c) e → shift-column-up n (shift-column-down n e) ≡ e
-up-down n (constant v) m = refl
-up-down n (column c) m = let k : n + (c - n) ≡ c = omega arith in ap column k
-up-down n (unary o x) m = ap (unary o) (up-down n x m)
-up-down n (binary o l r) m = ap₂ (binary o) (up-down n l (m .0)) (up-down n r (m .1))
+up-down n (constant og v) m = refl
+up-down n (column og c) m = let k : n + (c - n) ≡ c = omega arith in ap (column og) k
+up-down n (unary og o x) m = ap (unary og o) (up-down n x m)
+up-down n (binary og o l r) m = ap₂ (binary og o) (up-down n l (m .0)) (up-down n r (m .1))
 
 pub shift-up-down : (n : ℕ) (e : Expression) → ref-left n e ≡ false → shift-column-up n (shift-column-down n e) ≡ e
 shift-up-down n e l =
     up-down n e (without (λ v. Unit {0}) (λ c. ltb c n) (λ c. Unit {0}) (λ c. n ≤ c) (λ c x k. ltb-false c n k) e l (any e))
   where
     any : (x : Expression) → Columns (λ c. Unit {0}) x
-    any (constant v) = tt
-    any (column c) = tt
-    any (unary o x) = any x
-    any (binary o x y) = (any x, any y)
+    any (constant og v) = tt
+    any (column og c) = tt
+    any (unary og o x) = any x
+    any (binary og o x y) = (any x, any y)

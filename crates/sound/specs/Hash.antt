@@ -43,9 +43,9 @@ module _ (schema : Schema) (text : List ℕ) (tables : ℕ) where
     hash-within (hash i j) x = x
 
   pub hash-keeps : Keeps schema text tables (HashJoin schema)
-  hash-keeps (leaf l) x = (x, refl)
-  hash-keeps (over o s) x = over-keeps schema text tables o s (HashJoin schema s) (x .1) (hash-keeps s (x .0))
-  hash-keeps (join outer j a b) x =
+  hash-keeps (leaf og l) x = (x, refl)
+  hash-keeps (over og o s) x = over-keeps schema text tables og o s (HashJoin schema s) (x .1) (hash-keeps s (x .0))
+  hash-keeps (join og outer j a b) x =
       let n = columns schema a in
       let m = columns schema b in
-      join-keeps schema text tables outer (hash-join n j) n m (HashJoin schema a) (HashJoin schema b) (hash-within n m j (x .1 .1)) (hash-keeps a (x .0)) (hash-keeps b (x .1 .0))
+      join-keeps schema text tables og outer (hash-join n j) n m (HashJoin schema a) (HashJoin schema b) (hash-within n m j (x .1 .1)) (hash-keeps a (x .0)) (hash-keeps b (x .1 .0))

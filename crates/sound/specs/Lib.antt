@@ -13,6 +13,7 @@ pub mod Hash
 pub mod Circuit
 pub mod Passes
 pub mod Refusals
+pub mod Origins
 pub mod HandedOut
 pub mod Widest
 pub mod Numbers

@@ -65,31 +65,31 @@ module _ (schema : Schema) (text : List ℕ) (tables : ℕ) where
         go true = tt
         go false = h
 
-    filtered-keeps : (p : Option Expression) (n : Node) → Sound schema text tables n → Optional (W (columns schema n)) p → E (columns schema n) (filtered p n)
-    filtered-keeps none n x y = (x, refl)
-    filtered-keeps (some e) n x y = ((x, y), refl)
+    filtered-keeps : (og : ℕ) (p : Option Expression) (n : Node) → Sound schema text tables n → Optional (W (columns schema n)) p → E (columns schema n) (filtered og p n)
+    filtered-keeps og none n x y = (x, refl)
+    filtered-keeps og (some e) n x y = ((x, y), refl)
 
-    scan-keeps : (al : Option ℕ) (p : Expression) → W (table-columns schema t) p → Table-fits (length text) tables t al
-        → (o : Option Found) → Optional (Found-within (table-columns schema t)) o → E (table-columns schema t) (lookup-or-scan schema t al p o)
-    scan-keeps al p x y none k = ((x, y), refl)
-    scan-keeps al p x y (some f) k =
-        filtered-keeps (and-vec (f .remaining)) (leaf (lookup (access schema t (f .column-number)) t al (into-column-values (f .conjunct))))
+    scan-keeps : (og : ℕ) (al : Option ℕ) (p : Expression) → W (table-columns schema t) p → Table-fits (length text) tables t al
+        → (o : Option Found) → Optional (Found-within (table-columns schema t)) o → E (table-columns schema t) (lookup-or-scan schema t og al p o)
+    scan-keeps og al p x y none k = ((x, y), refl)
+    scan-keeps og al p x y (some f) k =
+        filtered-keeps og (and-vec og (f .remaining)) (leaf og (lookup (access schema t (f .column-number)) t al (into-column-values (f .conjunct))))
         (values-of F (λ c. c < table-columns schema t) tt (nan-fits text (length text)) (f .conjunct) (k .conjunct), (y, access-within (table-columns schema t) (f .column-number) (k .number)))
-        (and-vec-of F (λ c. c < table-columns schema t) (f .remaining) (k .remaining))
+        (and-vec-of F (λ c. c < table-columns schema t) og (f .remaining) (k .remaining))
 
-  pub leaf-keeps : (l : Leaf) → Sound-leaf schema text tables l → E (leaf-columns schema l) (index-lookup schema l)
+  pub leaf-keeps : (og : ℕ) (l : Leaf) → Sound-leaf schema text tables l → E (leaf-columns schema l) (index-lookup schema og l)
   unfolding index-lookup
-  leaf-keeps (scan t al none) x = (x, refl)
-  leaf-keeps (scan t al (some p)) x =
-      scan-keeps t al p (x .0) (x .1) (find-lookup schema t (into-cnf-vec p))
+  leaf-keeps og (scan t al none) x = (x, refl)
+  leaf-keeps og (scan t al (some p)) x =
+      scan-keeps t og al p (x .0) (x .1) (find-lookup schema t (into-cnf-vec p))
       (found-within t (table-columns schema t) (into-cnf-vec p) (cnf-of F (λ c. c < table-columns schema t) p (x .0)))
-  leaf-keeps (lookup a t al vs) x = (x, refl)
-  leaf-keeps (nothing ls) x = (x, refl)
-  leaf-keeps (values rs) x = (x, refl)
+  leaf-keeps og (lookup a t al vs) x = (x, refl)
+  leaf-keeps og (nothing ls) x = (x, refl)
+  leaf-keeps og (values rs) x = (x, refl)
 
   pub lookup-keeps : Keeps schema text tables (IndexLookup schema)
   unfolding IndexLookup
-  lookup-keeps (leaf l) x = leaf-keeps l x
-  lookup-keeps (over o s) x = over-keeps schema text tables o s (IndexLookup schema s) (x .1) (lookup-keeps s (x .0))
-  lookup-keeps (join outer j a b) x =
-      join-keeps schema text tables outer j (columns schema a) (columns schema b) (IndexLookup schema a) (IndexLookup schema b) (x .1 .1) (lookup-keeps a (x .0)) (lookup-keeps b (x .1 .0))
+  lookup-keeps (leaf og l) x = leaf-keeps og l x
+  lookup-keeps (over og o s) x = over-keeps schema text tables og o s (IndexLookup schema s) (x .1) (lookup-keeps s (x .0))
+  lookup-keeps (join og outer j a b) x =
+      join-keeps schema text tables og outer j (columns schema a) (columns schema b) (IndexLookup schema a) (IndexLookup schema b) (x .1 .1) (lookup-keeps a (x .0)) (lookup-keeps b (x .1 .0))

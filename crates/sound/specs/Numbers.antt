@@ -55,10 +55,10 @@ Sound-below =
 
 -- over a row of w columns, where w is at most n
 pub expression-below : (P : Value → Type 0) (w n : ℕ) → w ≤ n → (e : Expression) → Made-of P (λ c. c < w) e → Each-expression (Numbers-below n) e
-expression-below P w n h (constant v) m = tt
-expression-below P w n h (column c) m = omega arith
-expression-below P w n h (unary o x) m = (expression-below P w n h x m, tt)
-expression-below P w n h (binary o l r) m = (expression-below P w n h l (m .0), (expression-below P w n h r (m .1), tt))
+expression-below P w n h (constant og v) m = tt
+expression-below P w n h (column og c) m = omega arith
+expression-below P w n h (unary og o x) m = (expression-below P w n h x m, tt)
+expression-below P w n h (binary og o l r) m = (expression-below P w n h l (m .0), (expression-below P w n h r (m .1), tt))
 
 pub optional-below : (P : Value → Type 0) (w n : ℕ) → w ≤ n → (o : Option Expression) → Optional (Made-of P (λ c. c < w)) o → Optional (Each-expression (Numbers-below n)) o
 optional-below P w n h none m = tt
@@ -85,7 +85,7 @@ module _ (schema : Schema) (narrow : (t : ℕ) → length (table-of schema t .co
       (all-map (λ k. Within schema text tables w (k .0)) (Each-key B) (λ k y. (within w h (k .0) y, tt)) ks x, tt)
   over-below w h k (other (projection is)) x =
       (all-map (λ i. Within schema text tables w (i .0) × Label-fits (length text) (i .1)) (Each-item B) (λ i y. (within w h (i .0) (y .0), tt)) is x, tt)
-  over-below w h k (other (remap ts)) x = (all-map (Optional (λ t. t < 256)) (λ t. B (target-cell t)) wide ts (x .0), tt)
+  over-below w h k (other (remap ts)) x = (all-map (λ t. Optional (λ c. c < 256) (t .0)) (λ t. B (target-cell (t .0))) (λ t. wide (t .0)) ts (x .0), tt)
     where
       wide : (t : Option ℕ) → Optional (λ t. t < 256) t → Optional (λ i. i < n) t
       wide none y = tt
@@ -101,24 +101,24 @@ module _ (schema : Schema) (narrow : (t : ℕ) → length (table-of schema t .co
 
   leaf-below : 256 ≤ n → (l : Leaf) → Sound-leaf schema text tables l → Each-leaf B l
   leaf-below k (scan t al p) x = (optional-below (Fitting schema text tables) (length (table-of schema t .columns)) n (omega (arith, narrow t)) p (x .0), tt)
-  leaf-below k (lookup by-key t al vs) x = (all-map (Fitting schema text tables) (λ v. Unit {0}) (λ v y. tt) vs (x .0), tt)
-  leaf-below k (lookup (by-index i) t al vs) x = (all-map (Fitting schema text tables) (λ v. Unit {0}) (λ v y. tt) vs (x .0), omega (arith, narrow t, x .1 .1))
-  leaf-below k (nothing ls) x = (all-map (Label-fits (length text)) (λ l. Unit {0}) (λ l y. tt) ls x, tt)
+  leaf-below k (lookup by-key t al vs) x = (all-map (λ v. Fitting schema text tables (v .0)) (λ v. Unit {0}) (λ v y. tt) vs (x .0), tt)
+  leaf-below k (lookup (by-index i) t al vs) x = (all-map (λ v. Fitting schema text tables (v .0)) (λ v. Unit {0}) (λ v y. tt) vs (x .0), omega (arith, narrow t, x .1 .1))
+  leaf-below k (nothing ls) x = (all-map (λ l. Label-fits (length text) (l .0)) (λ l. Unit {0}) (λ l y. tt) ls x, tt)
   leaf-below k (values rs) x =
-      (all-map (Row-of schema text tables (values-columns rs)) (Each-row B) (λ es y. (each-within 0 (omega arith) es (y .0), tt)) rs x, tt)
+      (all-map (Row-of schema text tables (values-columns rs)) (Each-row B) (λ es y. (each-within 0 (omega arith) (es .0) (y .0), tt)) rs x, tt)
 
 pub sound-below : Sound-below
-sound-below schema narrow text tables cells (leaf l) x h = leaf-below schema narrow text tables (most-columns cells) (omega (arith, node-size-positive (leaf l))) l x
-sound-below schema narrow text tables cells (over o n) x h = (
+sound-below schema narrow text tables cells (leaf og l) x h = leaf-below schema narrow text tables (most-columns cells) (omega (arith, node-size-positive (leaf og l))) l x
+sound-below schema narrow text tables cells (over og o n) x h = (
   sound-below schema narrow text tables cells n (x .0) (omega arith),
   over-below schema narrow text tables (most-columns cells) (columns schema n) (omega (arith, sound-few schema narrow text tables n (x .0)))
       (omega (arith, node-size-positive n)) o (x .1),
 )
-sound-below schema narrow text tables cells (join outer j l r) x h = (
+sound-below schema narrow text tables cells (join og outer j l r) x h = (
   sound-below schema narrow text tables cells l (x .0) (omega arith),
   (
     sound-below schema narrow text tables cells r (x .1 .0) (omega arith),
     join-below schema narrow text tables (most-columns cells) outer (columns schema l) (columns schema r)
-        (omega (arith, sound-few schema narrow text tables (join outer j l r) x)) j (x .1 .1),
+        (omega (arith, sound-few schema narrow text tables (join og outer j l r) x)) j (x .1 .1),
   ),
 )

@@ -107,77 +107,77 @@ module _ (schema : Schema) (text : List ℕ) (tables : ℕ) where
   abbrev F : Value → Type 0
   F = Fitting schema text tables
 
-  and-with-of : (n : ℕ) (e : Expression) (p : Option Expression) → W n e → Optional (W n) p → W n (and-with e p)
-  and-with-of n e none x y = x
-  and-with-of n e (some p) x y = (x, y)
+  and-with-of : (new n : ℕ) (e : Expression) (p : Option Expression) → W n e → Optional (W n) p → W n (and-with new e p)
+  and-with-of new n e none x y = x
+  and-with-of new n e (some p) x y = (x, y)
 
-  pub into-keeps : (e : Expression) (n : Node) → Sound schema text tables n → W (columns schema n) e → Optional (E (columns schema n)) (push-into e n)
-  into-keeps e (leaf (scan t al p)) x y = ((and-with-of _ e p y (x .0), x .1), refl)
-  into-keeps e (leaf (lookup a t al vs)) x y = tt
-  into-keeps e (leaf (nothing ls)) x y = tt
-  into-keeps e (leaf (values rs)) x y = tt
-  into-keeps e (over (filter p) s) x y = ((x .0, (y, x .1)), refl)
-  into-keeps e (over (other o) s) x y = tt
-  into-keeps e (join outer (nested-loop p) a b) x y = ((x .0, (x .1 .0, and-with-of _ e p y (x .1 .1))), refl)
-  into-keeps e (join outer (hash i j) a b) x y = tt
+  pub into-keeps : (new : ℕ) (e : Expression) (n : Node) → Sound schema text tables n → W (columns schema n) e → Optional (E (columns schema n)) (push-into new e n)
+  into-keeps new e (leaf og (scan t al p)) x y = ((and-with-of new _ e p y (x .0), x .1), refl)
+  into-keeps new e (leaf og (lookup a t al vs)) x y = tt
+  into-keeps new e (leaf og (nothing ls)) x y = tt
+  into-keeps new e (leaf og (values rs)) x y = tt
+  into-keeps new e (over og (filter p) s) x y = ((x .0, (y, x .1)), refl)
+  into-keeps new e (over og (other o) s) x y = tt
+  into-keeps new e (join og outer (nested-loop p) a b) x y = ((x .0, (x .1 .0, and-with-of new _ e p y (x .1 .1))), refl)
+  into-keeps new e (join og outer (hash i j) a b) x y = tt
 
-  pub part-keeps : (o : Option Expression) (n : Node) → Sound schema text tables n → Optional (Within schema text tables (columns schema n)) o
-      → Emits schema text tables (columns schema n) (push-part o n .0) × All (Within schema text tables (columns schema n)) (push-part o n .1)
-  part-keeps none n x y = ((x, refl), tt)
-  part-keeps (some e) n x y = go (push-into e n) (into-keeps e n x y)
+  pub part-keeps : (new : ℕ) (o : Option Expression) (n : Node) → Sound schema text tables n → Optional (Within schema text tables (columns schema n)) o
+      → Emits schema text tables (columns schema n) (push-part new o n .0) × All (Within schema text tables (columns schema n)) (push-part new o n .1)
+  part-keeps new none n x y = ((x, refl), tt)
+  part-keeps new (some e) n x y = go (push-into new e n) (into-keeps new e n x y)
     where
       go : (q : Option Node) → Optional (E (columns schema n)) q → E (columns schema n) (pushed-or-back e n q .0) × All (W (columns schema n)) (pushed-or-back e n q .1)
       go none k = ((x, refl), (y, tt))
       go (some m) k = (k, tt)
 
-  pub split-keeps : (outer : Bool) (cnf : List Expression) (a b : Node) → Sound schema text tables a → Sound schema text tables b
-      → All (W (columns schema a + columns schema b)) cnf → E (columns schema a + columns schema b) (split (columns schema a) outer cnf a b)
-  split-keeps outer cnf a b x y z =
+  pub split-keeps : (og : ℕ) (outer : Bool) (cnf : List Expression) (a b : Node) → Sound schema text tables a → Sound schema text tables b
+      → All (W (columns schema a + columns schema b)) cnf → E (columns schema a + columns schema b) (split og (columns schema a) outer cnf a b)
+  split-keeps og outer cnf a b x y z =
       let n = columns schema a in
       let m = columns schema b in
-      let to-left = and-vec (push-left n cnf) in
-      let to-right = map-optional (shift-column-down n) (and-vec (push-right n cnf)) in
-      let l = part-keeps to-left a x (and-vec-of F (λ c. c < n) (push-left n cnf) (push-left-of F n m cnf z)) in
-      let r = part-keeps to-right b y
-      (optional-map (shift-column-down n) (Made-of F (Right n m)) (W m) (shifted-down F n m) (and-vec (push-right n cnf))
-      (and-vec-of F (Right n m) (push-right n cnf) (push-right-of F n m cnf z))) in
-      let left-back = push-part to-left a .1 in
-      let right-back = map (shift-column-up n) (push-part to-right b .1) in
+      let to-left = and-vec og (push-left n cnf) in
+      let to-right = map-optional (shift-column-down n) (and-vec og (push-right n cnf)) in
+      let l = part-keeps og to-left a x (and-vec-of F (λ c. c < n) og (push-left n cnf) (push-left-of F n m cnf z)) in
+      let r = part-keeps og to-right b y
+      (optional-map (shift-column-down n) (Made-of F (Right n m)) (W m) (shifted-down F n m) (and-vec og (push-right n cnf))
+      (and-vec-of F (Right n m) og (push-right n cnf) (push-right-of F n m cnf z))) in
+      let left-back = push-part og to-left a .1 in
+      let right-back = map (shift-column-up n) (push-part og to-right b .1) in
       let stay : All (W (n + m)) (for-both n cnf ++ (left-back ++ right-back)) =
       all-append (W (n + m)) (for-both n cnf) (left-back ++ right-back)
       (all-map (Across F n m) (W (n + m)) (λ e k. k .0) (for-both n cnf) (across-of F n m cnf z))
       (all-append (W (n + m)) left-back right-back
       (all-map (W n) (W (n + m)) (weaker F (λ c. c < n) (λ c. c < n + m) (λ c h. omega arith)) left-back (l .1))
-      (map-of (shift-column-up n) (W m) (W (n + m)) (shifted-up F n m) (push-part to-right b .1) (r .1))) in
-      join-keeps schema text tables outer (nested-loop (and-vec (for-both n cnf ++ (left-back ++ right-back)))) n m (push-part to-left a .0) (push-part to-right b .0)
-      (and-vec-of F (λ c. c < n + m) (for-both n cnf ++ (left-back ++ right-back)) stay) (l .0) (r .0)
+      (map-of (shift-column-up n) (W m) (W (n + m)) (shifted-up F n m) (push-part og to-right b .1) (r .1))) in
+      join-keeps schema text tables og outer (nested-loop (and-vec og (for-both n cnf ++ (left-back ++ right-back)))) n m (push-part og to-left a .0) (push-part og to-right b .0)
+      (and-vec-of F (λ c. c < n + m) og (for-both n cnf ++ (left-back ++ right-back)) stay) (l .0) (r .0)
 
   pub join-rule-keeps : Keeps schema text tables (maybe-push-join schema)
   unfolding maybe-push-join
-  join-rule-keeps (leaf l) x = (x, refl)
-  join-rule-keeps (over o s) x = (x, refl)
-  join-rule-keeps (join outer (nested-loop none) a b) x = (x, refl)
-  join-rule-keeps (join outer (nested-loop (some p)) a b) x =
-      split-keeps outer (into-cnf-vec p) a b (x .0) (x .1 .0) (cnf-of F (λ c. c < columns schema a + columns schema b) p (x .1 .1))
-  join-rule-keeps (join outer (hash i j) a b) x = (x, refl)
+  join-rule-keeps (leaf og l) x = (x, refl)
+  join-rule-keeps (over og o s) x = (x, refl)
+  join-rule-keeps (join og outer (nested-loop none) a b) x = (x, refl)
+  join-rule-keeps (join og outer (nested-loop (some p)) a b) x =
+      split-keeps og outer (into-cnf-vec p) a b (x .0) (x .1 .0) (cnf-of F (λ c. c < columns schema a + columns schema b) p (x .1 .1))
+  join-rule-keeps (join og outer (hash i j) a b) x = (x, refl)
 
   pub filter-rule-keeps : (k : ℕ) → Keeps schema text tables (maybe-push-filter schema k)
   unfolding maybe-push-filter
   filter-rule-keeps zero n x = (x, refl)
-  filter-rule-keeps (suc k) (leaf l) x = (x, refl)
-  filter-rule-keeps (suc k) (over (filter p) s) x = go (push-into p s) (into-keeps p s (x .0) (x .1)) (filter-rule-keeps k)
+  filter-rule-keeps (suc k) (leaf og l) x = (x, refl)
+  filter-rule-keeps (suc k) (over og (filter p) s) x = go (push-into og p s) (into-keeps og p s (x .0) (x .1)) (filter-rule-keeps k)
     where
       on : Node → Node
       on pushed = maybe-push-join schema (maybe-push-filter schema k pushed)
 
       go : (o : Option Node) → Optional (E (columns schema s)) o → Keeps schema text tables (maybe-push-filter schema k)
-          → E (columns schema s) (go-on on (over (filter p) s) o)
+          → E (columns schema s) (go-on on (over og (filter p) s) o)
       go none q ih = (x, refl)
       go (some m) q ih =
           keeps-next schema text tables (maybe-push-join schema) join-rule-keeps (maybe-push-filter schema k m)
           (keeps-next schema text tables (maybe-push-filter schema k) ih m q)
-  filter-rule-keeps (suc k) (over (other o) s) x = (x, refl)
-  filter-rule-keeps (suc k) (join outer j a b) x = (x, refl)
+  filter-rule-keeps (suc k) (over og (other o) s) x = (x, refl)
+  filter-rule-keeps (suc k) (join og outer j a b) x = (x, refl)
 
   pub push-keeps : (k : ℕ) → Keeps schema text tables (push-filters schema k)
   push-keeps k n x = keeps-next schema text tables (maybe-push-join schema) join-rule-keeps (maybe-push-filter schema k n) (filter-rule-keeps k n x)

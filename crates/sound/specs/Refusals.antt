@@ -8,7 +8,7 @@ use mathlib.Core.Option.{Option, none, some}
 use lib.Dec.{leb}
 use Rattle.value.specs.Value.{Error, overflow, division-by-zero, mismatch, number, Result, ok, err}
 use Rattle.sql.specs.Schema.{Schema}
-use Rattle.sql.specs.Expression.{Expression, constant, column, unary, binary, size, bind, evaluate, contains-column}
+use Rattle.sql.specs.Expression.{Marked, origin, Expression, constant, column, unary, binary, size, bind, evaluate, contains-column}
 use Rattle.sql.specs.Plan.{Leaf, scan, lookup, nothing, values, limit, offset, order, projection, remap, aggregate, Over, filter, other, Join, nested-loop, hash, Node, leaf, over, join, row-size, item-size, key-size, node-size, over-size, join-size}
 use Rattle.sql.specs.Answer.{Answer, done, refused, _>>=_, at-place}
 use Rattle.sql.specs.Optimizer.{fold-by, fold, fold-expression, fold-each, fold-optional, fold-row, fold-part, fold-leaf, fold-over, fold-join, ConstantFolding, push-into, Optimizer, in-turn}
@@ -112,17 +112,17 @@ fold-refused place e = go (contains-column (λ c. true) e)
   where
     go : (b : Bool) → Refused-by F (fold-by b place e)
     go true = tt
-    go false = placed place (bind (evaluate [] e) (λ v. ok (constant v)))
+    go false = placed place (bind (evaluate [] e) (λ v. ok (constant (origin e) v)))
 
 expression-refused : (first : ℕ) (e : Expression) → Refused-by F (fold-expression first e)
-expression-refused first (constant v) = fold-refused first (constant v)
-expression-refused first (column c) = fold-refused first (column c)
-expression-refused first (unary o x) =
-    refused-then F (fold-expression first x) (λ y. fold (first + size x) (unary o y)) (expression-refused first x) (λ y. fold-refused (first + size x) (unary o y))
-expression-refused first (binary o l r) =
+expression-refused first (constant og v) = fold-refused first (constant og v)
+expression-refused first (column og c) = fold-refused first (column og c)
+expression-refused first (unary og o x) =
+    refused-then F (fold-expression first x) (λ y. fold (first + size x) (unary og o y)) (expression-refused first x) (λ y. fold-refused (first + size x) (unary og o y))
+expression-refused first (binary og o l r) =
     let place = first + (size l + size r) in
-    refused-then F (fold-expression first l) (λ x. fold-expression (first + size l) r >>= λ y. fold place (binary o x y)) (expression-refused first l)
-    (λ x. refused-then F (fold-expression (first + size l) r) (λ y. fold place (binary o x y)) (expression-refused (first + size l) r) (λ y. fold-refused place (binary o x y)))
+    refused-then F (fold-expression first l) (λ x. fold-expression (first + size l) r >>= λ y. fold place (binary og o x y)) (expression-refused first l)
+    (λ x. refused-then F (fold-expression (first + size l) r) (λ y. fold place (binary og o x y)) (expression-refused (first + size l) r) (λ y. fold-refused place (binary og o x y)))
 
 each-refused : {A : Type 0} (f : ℕ → A → Answer A) (cells : A → ℕ) → ((first : ℕ) (x : A) → Refused-by F (f first x))
     → (first : ℕ) (xs : List A) → Refused-by F (fold-each f cells first xs)
@@ -135,15 +135,19 @@ optional-refused : (first : ℕ) (p : Option Expression) → Refused-by F (fold-
 optional-refused first none = tt
 optional-refused first (some e) = refused-then F (fold-expression first e) (λ x. done (some x)) (expression-refused first e) (λ x. tt)
 
-part-refused : {A : Type 0} (first : ℕ) (p : Expression × A) → Refused-by F (fold-part first p)
-part-refused first p = refused-then F (fold-expression first (p .0)) (λ x. done (x, p .1)) (expression-refused first (p .0)) (λ x. tt)
+part-refused : {A : Type 0} (first : ℕ) (p : Expression × A × ℕ) → Refused-by F (fold-part first p)
+part-refused first p = refused-then F (fold-expression first (p .0)) (λ x. done (x, p .1, p .2)) (expression-refused first (p .0)) (λ x. tt)
+
+row-refused : (first : ℕ) (row : Marked (List Expression)) → Refused-by F (fold-row first row)
+row-refused first row =
+    refused-then F (fold-each fold-expression size first (row .0)) (λ es. done (es, row .1)) (each-refused fold-expression size expression-refused first (row .0)) (λ es. tt)
 
 leaf-refused : (first : ℕ) (l : Leaf) → Refused-by F (fold-leaf first l)
 leaf-refused first (scan t al p) = refused-then F (fold-optional first p) (λ q. done (scan t al q)) (optional-refused first p) (λ q. tt)
 leaf-refused first (lookup a t al vs) = tt
 leaf-refused first (nothing ls) = tt
 leaf-refused first (values rs) =
-    refused-then F (fold-each fold-row row-size first rs) (λ q. done (values q)) (each-refused fold-row row-size (each-refused fold-expression size expression-refused) first rs) (λ q. tt)
+    refused-then F (fold-each fold-row row-size first rs) (λ q. done (values q)) (each-refused fold-row row-size row-refused first rs) (λ q. tt)
 
 over-refused : (first : ℕ) (o : Over) → Refused-by F (fold-over first o)
 over-refused first (filter e) = refused-then F (fold-expression first e) (λ p. done (filter p)) (expression-refused first e) (λ p. tt)
@@ -160,15 +164,15 @@ join-refused first (nested-loop p) = refused-then F (fold-optional first p) (λ 
 join-refused first (hash i j) = tt
 
 pub folding-refused : (first : ℕ) (n : Node) → Refused-by (From-to 11 13) (ConstantFolding first n)
-folding-refused first (leaf l) = refused-then F (fold-leaf first l) (λ m. done (leaf m)) (leaf-refused first l) (λ m. tt)
-folding-refused first (over o s) =
-    refused-then F (fold-over (first + node-size s) o) (λ p. ConstantFolding first s >>= λ t. done (over p t)) (over-refused (first + node-size s) o)
-    (λ p. refused-then F (ConstantFolding first s) (λ t. done (over p t)) (folding-refused first s) (λ t. tt))
-folding-refused first (join outer j a b) =
+folding-refused first (leaf og l) = refused-then F (fold-leaf first l) (λ m. done (leaf og m)) (leaf-refused first l) (λ m. tt)
+folding-refused first (over og o s) =
+    refused-then F (fold-over (first + node-size s) o) (λ p. ConstantFolding first s >>= λ t. done (over og p t)) (over-refused (first + node-size s) o)
+    (λ p. refused-then F (ConstantFolding first s) (λ t. done (over og p t)) (folding-refused first s) (λ t. tt))
+folding-refused first (join og outer j a b) =
     refused-then F (fold-join (first + (node-size a + node-size b)) j)
-    (λ k. ConstantFolding first a >>= λ l. ConstantFolding (first + node-size a) b >>= λ r. done (join outer k l r)) (join-refused (first + (node-size a + node-size b)) j)
-    (λ k. refused-then F (ConstantFolding first a) (λ l. ConstantFolding (first + node-size a) b >>= λ r. done (join outer k l r)) (folding-refused first a)
-    (λ l. refused-then F (ConstantFolding (first + node-size a) b) (λ r. done (join outer k l r)) (folding-refused (first + node-size a) b) (λ r. tt)))
+    (λ k. ConstantFolding first a >>= λ l. ConstantFolding (first + node-size a) b >>= λ r. done (join og outer k l r)) (join-refused (first + (node-size a + node-size b)) j)
+    (λ k. refused-then F (ConstantFolding first a) (λ l. ConstantFolding (first + node-size a) b >>= λ r. done (join og outer k l r)) (folding-refused first a)
+    (λ l. refused-then F (ConstantFolding (first + node-size a) b) (λ r. done (join og outer k l r)) (folding-refused (first + node-size a) b) (λ r. tt)))
 
 -- ---- room
 
@@ -193,38 +197,38 @@ module _ (room : ℕ) (schema : Schema) where
   filter-refused : (k rest : ℕ) (n : Node) → Refused-by R (Room.maybe-push-filter room schema k rest n)
   unfolding Room.maybe-push-filter
   filter-refused zero rest n = tt
-  filter-refused (suc k) rest (leaf l) = tt
-  filter-refused (suc k) rest (over (filter p) s) = go (push-into p s) (filter-refused k rest)
+  filter-refused (suc k) rest (leaf og l) = tt
+  filter-refused (suc k) rest (over og (filter p) s) = go (push-into og p s) (filter-refused k rest)
     where
       on : Node → Answer Node
       on pushed = Room.step room schema rest pushed >>= Room.maybe-push-filter room schema k rest >>= Room.maybe-push-join room schema rest
 
-      go : (o : Option Node) → ((m : Node) → Refused-by R (Room.maybe-push-filter room schema k rest m)) → Refused-by R (go-on on (over (filter p) s) o)
+      go : (o : Option Node) → ((m : Node) → Refused-by R (Room.maybe-push-filter room schema k rest m)) → Refused-by R (go-on on (over og (filter p) s) o)
       go none ih = tt
       go (some m) ih =
           refused-then R (Room.step room schema rest m >>= Room.maybe-push-filter room schema k rest) (Room.maybe-push-join room schema rest)
           (refused-then R (Room.step room schema rest m) (Room.maybe-push-filter room schema k rest) (step-refused rest m) ih) (rule-refused rest)
-  filter-refused (suc k) rest (over (other o) s) = tt
-  filter-refused (suc k) rest (join outer j a b) = tt
+  filter-refused (suc k) rest (over og (other o) s) = tt
+  filter-refused (suc k) rest (join og outer j a b) = tt
 
   -- a node over a source, and a join, whose sources are visited in turn
   module _ (f : ℕ → Node → Answer Node) where
     abbrev Source : Node → Type 0
     Source s = (rest : ℕ) → Refused-by R (f rest s)
 
-    visited : (rest : ℕ) (o : Over) (s : Node) → Source s → Refused-by R (f (rest + over-size o) s >>= λ t. done (over o t))
-    visited rest o s h = refused-then R (f (rest + over-size o) s) (λ t. done (over o t)) (h (rest + over-size o)) (λ t. tt)
+    visited : (og rest : ℕ) (o : Over) (s : Node) → Source s → Refused-by R (f (rest + over-size o) s >>= λ t. done (over og o t))
+    visited og rest o s h = refused-then R (f (rest + over-size o) s) (λ t. done (over og o t)) (h (rest + over-size o)) (λ t. tt)
 
-    both-visited : (rest : ℕ) (outer : Bool) (j : Join) (a b : Node) → Source a → Source b
-        → Refused-by R (f (rest + (node-size b + join-size j)) a >>= λ l. f (rest + (node-size l + join-size j)) b >>= λ r. done (join outer j l r))
-    both-visited rest outer j a b h k =
-        refused-then R (f (rest + (node-size b + join-size j)) a) (λ l. f (rest + (node-size l + join-size j)) b >>= λ r. done (join outer j l r)) (h (rest + (node-size b + join-size j)))
-        (λ l. refused-then R (f (rest + (node-size l + join-size j)) b) (λ r. done (join outer j l r)) (k (rest + (node-size l + join-size j))) (λ r. tt))
+    both-visited : (og rest : ℕ) (outer : Bool) (j : Join) (a b : Node) → Source a → Source b
+        → Refused-by R (f (rest + (node-size b + join-size j)) a >>= λ l. f (rest + (node-size l + join-size j)) b >>= λ r. done (join og outer j l r))
+    both-visited og rest outer j a b h k =
+        refused-then R (f (rest + (node-size b + join-size j)) a) (λ l. f (rest + (node-size l + join-size j)) b >>= λ r. done (join og outer j l r)) (h (rest + (node-size b + join-size j)))
+        (λ l. refused-then R (f (rest + (node-size l + join-size j)) b) (λ r. done (join og outer j l r)) (k (rest + (node-size l + join-size j))) (λ r. tt))
 
     sources-refused : ((rest : ℕ) (n : Node) → Refused-by R (f rest n)) → (rest : ℕ) (n : Node) → Refused-by R (Room.each-source room schema f rest n)
-    sources-refused h rest (leaf l) = tt
-    sources-refused h rest (over o s) = visited rest o s (λ r. h r s)
-    sources-refused h rest (join outer j a b) = both-visited rest outer j a b (λ r. h r a) (λ r. h r b)
+    sources-refused h rest (leaf og l) = tt
+    sources-refused h rest (over og o s) = visited og rest o s (λ r. h r s)
+    sources-refused h rest (join og outer j a b) = both-visited og rest outer j a b (λ r. h r a) (λ r. h r b)
 
   from-refused : (k rest : ℕ) (n : Node) → Refused-by R (Room.push-filters-from room schema k rest n)
   unfolding Room.push-filters-from
@@ -238,18 +242,18 @@ module _ (room : ℕ) (schema : Schema) where
   unfolding Room.FilterPushdown
   pushdown-refused rest n = from-refused (node-size n) rest n
 
-  scan-refused : (rest : ℕ) (l : Leaf) → Refused-by R (Room.index-lookup room schema rest l)
+  scan-refused : (og rest : ℕ) (l : Leaf) → Refused-by R (Room.index-lookup room schema og rest l)
   unfolding Room.index-lookup
-  scan-refused rest l =
+  scan-refused og rest l =
       let fits = Room.normal-forms-fit room schema (scan-filter l) in
-      refused-then R (if-room fits (leaf l)) (λ k. Room.step room schema rest (Optimizer.index-lookup schema l)) (room-refused fits (leaf l))
-      (λ k. step-refused rest (Optimizer.index-lookup schema l))
+      refused-then R (if-room fits (leaf og l)) (λ k. Room.step room schema rest (Optimizer.index-lookup schema og l)) (room-refused fits (leaf og l))
+      (λ k. step-refused rest (Optimizer.index-lookup schema og l))
 
   pub lookup-refused : (rest : ℕ) (n : Node) → Refused-by (λ k. k ≡ 14) (Room.IndexLookup room schema rest n)
   unfolding Room.IndexLookup
-  lookup-refused rest (leaf l) = scan-refused rest l
-  lookup-refused rest (over o s) = visited (Room.IndexLookup room schema) rest o s (λ r. lookup-refused r s)
-  lookup-refused rest (join outer j a b) = both-visited (Room.IndexLookup room schema) rest outer j a b (λ r. lookup-refused r a) (λ r. lookup-refused r b)
+  lookup-refused rest (leaf og l) = scan-refused og rest l
+  lookup-refused rest (over og o s) = visited (Room.IndexLookup room schema) og rest o s (λ r. lookup-refused r s)
+  lookup-refused rest (join og outer j a b) = both-visited (Room.IndexLookup room schema) og rest outer j a b (λ r. lookup-refused r a) (λ r. lookup-refused r b)
 
   short-refused : (rest : ℕ) (n : Node) → Refused-by R (Room.short-circuit room schema rest n)
   unfolding Room.short-circuit
@@ -257,16 +261,16 @@ module _ (room : ℕ) (schema : Schema) where
 
   pub circuit-refused : (rest : ℕ) (n : Node) → Refused-by (λ k. k ≡ 14) (Room.ShortCircuit room schema rest n)
   unfolding Room.ShortCircuit
-  circuit-refused rest (leaf l) = short-refused rest (leaf l)
-  circuit-refused rest (over o s) =
-      refused-then R (Room.ShortCircuit room schema (rest + over-size o) s) (λ t. Room.short-circuit room schema rest (over o t)) (circuit-refused (rest + over-size o) s)
-      (λ t. short-refused rest (over o t))
-  circuit-refused rest (join outer j a b) =
+  circuit-refused rest (leaf og l) = short-refused rest (leaf og l)
+  circuit-refused rest (over og o s) =
+      refused-then R (Room.ShortCircuit room schema (rest + over-size o) s) (λ t. Room.short-circuit room schema rest (over og o t)) (circuit-refused (rest + over-size o) s)
+      (λ t. short-refused rest (over og o t))
+  circuit-refused rest (join og outer j a b) =
       let on-left = rest + (node-size b + join-size j) in
       refused-then R (Room.ShortCircuit room schema on-left a)
-      (λ l. Room.ShortCircuit room schema (rest + (node-size l + join-size j)) b >>= λ r. Room.short-circuit room schema rest (join outer j l r)) (circuit-refused on-left a)
-      (λ l. refused-then R (Room.ShortCircuit room schema (rest + (node-size l + join-size j)) b) (λ r. Room.short-circuit room schema rest (join outer j l r))
-      (circuit-refused (rest + (node-size l + join-size j)) b) (λ r. short-refused rest (join outer j l r)))
+      (λ l. Room.ShortCircuit room schema (rest + (node-size l + join-size j)) b >>= λ r. Room.short-circuit room schema rest (join og outer j l r)) (circuit-refused on-left a)
+      (λ l. refused-then R (Room.ShortCircuit room schema (rest + (node-size l + join-size j)) b) (λ r. Room.short-circuit room schema rest (join og outer j l r))
+      (circuit-refused (rest + (node-size l + join-size j)) b) (λ r. short-refused rest (join og outer j l r)))
 
   -- ---- one pass, and all five
 

@@ -7,7 +7,7 @@ use mathlib.Core.Option.{none}
 use lib.ListN.{length}
 use Rattle.value.specs.Value.{Value}
 use Rattle.sql.specs.Schema.{Schema, table-of, column-of}
-use Rattle.sql.specs.Expression.{Expression}
+use Rattle.sql.specs.Expression.{Marked, Expression}
 use Rattle.sql.specs.Plan.{Access, by-key, by-index, Leaf, scan, lookup, nothing, values, limit, offset, order, projection, remap, aggregate, Over, filter, other, Join, nested-loop, hash, Node, leaf, over, join, values-columns, columns}
 use Rattle.sheet.specs.Scope.{table-columns, repeated}
 use Rattle.sheet_laws.specs.Fits.{All, Optional, Reference, Value-fits, Label-fits, Table-fits}
@@ -24,8 +24,8 @@ module _ (schema : Schema) (text : List ℕ) (tables : ℕ) where
   Within n e = Made-of Fitting (λ c. c < n) e
 
   -- a row of a Values with n columns
-  abbrev pub Row-of : ℕ → List Expression → Type 0
-  Row-of n es = All (Within 0) es × (length es ≡ n)
+  abbrev pub Row-of : ℕ → Marked (List Expression) → Type 0
+  Row-of n row = All (Within 0) (row .0) × (length (row .0) ≡ n)
 
   abbrev pub Access-within : ℕ → Access → Type 0
   Access-within n by-key = Unit {0}
@@ -34,8 +34,8 @@ module _ (schema : Schema) (text : List ℕ) (tables : ℕ) where
   abbrev pub Sound-leaf : Leaf → Type 0
   Sound-leaf (scan table alias predicate) = Optional (Within (table-columns schema table)) predicate × Table-fits (length text) tables table alias
   Sound-leaf (lookup access table alias constants) =
-      All Fitting constants × (Table-fits (length text) tables table alias × Access-within (table-columns schema table) access)
-  Sound-leaf (nothing labels) = All (Label-fits (length text)) labels
+      All (λ v. Fitting (v .0)) constants × (Table-fits (length text) tables table alias × Access-within (table-columns schema table) access)
+  Sound-leaf (nothing labels) = All (λ l. Label-fits (length text) (l .0)) labels
   Sound-leaf (values rows) = All (Row-of (values-columns rows)) rows
 
   -- of a node over a source with n columns
@@ -45,7 +45,7 @@ module _ (schema : Schema) (text : List ℕ) (tables : ℕ) where
   Sound-over n (other (offset amount)) = amount < 2 ^ 64
   Sound-over n (other (order key)) = All (λ k. Within n (k .0)) key
   Sound-over n (other (projection items)) = All (λ i. Within n (i .0) × Label-fits (length text) (i .1)) items
-  Sound-over n (other (remap targets)) = All (Optional (λ t. t < 256)) targets × ((length targets ≡ n) × (repeated [] 0 targets ≡ none))
+  Sound-over n (other (remap targets)) = All (λ t. Optional (λ c. c < 256) (t .0)) targets × ((length targets ≡ n) × (repeated [] 0 targets ≡ none))
   Sound-over n (other (aggregate group-by aggregates)) = All (Within n) group-by × All (λ g. Within n (g .1) × (g .0 < 5)) aggregates
 
   -- of a join of sources with so many columns
@@ -54,9 +54,9 @@ module _ (schema : Schema) (text : List ℕ) (tables : ℕ) where
   Sound-join left right (hash i j) = (i < left) × (j < right)
 
   abbrev pub Sound : Node → Type 0
-  Sound (leaf l) = Sound-leaf l
-  Sound (over o source) = Sound source × Sound-over (columns schema source) o
-  Sound (join outer j left right) = Sound left × (Sound right × Sound-join (columns schema left) (columns schema right) j)
+  Sound (leaf og l) = Sound-leaf l
+  Sound (over og o source) = Sound source × Sound-over (columns schema source) o
+  Sound (join og outer j left right) = Sound left × (Sound right × Sound-join (columns schema left) (columns schema right) j)
 
   -- A plan that is sound and has n columns.
   abbrev pub Emits : ℕ → Node → Type 0

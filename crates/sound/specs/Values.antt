@@ -161,9 +161,9 @@ module _ (text : List ℕ) (bytes : ℕ) where
 
   -- A column outside the row counts as Null.
   pub evaluate-fits : (C : ℕ → Type 0) (e : Expression) → Made-of (Value-fits text bytes) C e → Valued (Value-fits text bytes) (evaluate [] e)
-  evaluate-fits C (constant v) m = m
-  evaluate-fits C (column c) m = tt
-  evaluate-fits C (unary o x) m = valued-bind P P (evaluate [] x) (evaluate-unary o) (evaluate-fits C x m) (unary-fits o)
-  evaluate-fits C (binary o l r) m =
+  evaluate-fits C (constant og v) m = m
+  evaluate-fits C (column og c) m = tt
+  evaluate-fits C (unary og o x) m = valued-bind P P (evaluate [] x) (evaluate-unary o) (evaluate-fits C x m) (unary-fits o)
+  evaluate-fits C (binary og o l r) m =
       valued-bind P P (evaluate [] l) (λ v. Expression.bind (evaluate [] r) (evaluate-binary o v)) (evaluate-fits C l (m .0))
       (λ v p. valued-bind P P (evaluate [] r) (evaluate-binary o v) (evaluate-fits C r (m .1)) (λ w q. binary-fits o v w))

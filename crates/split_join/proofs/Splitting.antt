@@ -13,7 +13,7 @@ use Rattle.sql.specs.Room.{join-predicate}
 use Rattle.literal.specs.Shift.{up-down}
 use Rattle.sheet.specs.Cells.{present}
 use Rattle.cells.specs.declared.Cell.{Cell}
-use Rattle.cells.specs.Cells.{sized, cell-at}
+use Rattle.cells.specs.Cells.{cell-words, sized, cell-at}
 use Rattle.cells.specs.Room.{Wrote, Seals}
 use Rattle.cells.proofs.Laws.{then, wrote-up, no-more}
 use Rattle.words.specs.Words.{cell, optional-words, join-cell}
@@ -33,12 +33,12 @@ use Rattle.split_join.specs.Split.{stays, new-left, new-right, joined, P
 
 -- ---- a join with a predicate
 
-pub by-split : (P : Node → Type 0) → ((outer : Bool) (e : Expression) (l r : Node) → P (join outer (nested-loop (some e)) l r)) → (p : Node) → present (join-predicate p) ≡ true → P p
-by-split P f (leaf l) h = no-true h
-by-split P f (over o n) h = no-true h
-by-split P f (join outer (nested-loop none) l r) h = no-true h
-by-split P f (join outer (nested-loop (some e)) l r) h = f outer e l r
-by-split P f (join outer (hash i j) l r) h = no-true h
+pub by-split : (P : Node → Type 0) → ((og : ℕ) (outer : Bool) (e : Expression) (l r : Node) → P (join og outer (nested-loop (some e)) l r)) → (p : Node) → present (join-predicate p) ≡ true → P p
+by-split P f (leaf og l) h = no-true h
+by-split P f (over og o n) h = no-true h
+by-split P f (join og outer (nested-loop none) l r) h = no-true h
+by-split P f (join og outer (nested-loop (some e)) l r) h = f og outer e l r
+by-split P f (join og outer (hash i j) l r) h = no-true h
 
 pub is-known : {s : List ℕ} {lo hi : ℕ} {b : Bool} → HasPredicate s lo hi b → b ≡ true → HasPredicate s lo hi true
 is-known f h p u = sym h ∙ f p u
@@ -46,56 +46,56 @@ is-known f h p u = sym h ∙ f p u
 -- ---- where its predicate stands
 
 module _ {s : List ℕ} {lo hi m : ℕ} (own : OwnStart s lo hi m) where
-  pub predicate-here : (outer : Bool) (e : Expression) (l r : Node) → NodeHere s lo hi (join outer (nested-loop (some e)) l r) → ExpressionHere s m (hi - 6) e
-  predicate-here outer e l r u =
-      record { part = own-part (join outer (nested-loop (some e)) l r) u (own (join outer (nested-loop (some e)) l r) u) }
+  pub predicate-here : (og : ℕ) (outer : Bool) (e : Expression) (l r : Node) → NodeHere s lo hi (join og outer (nested-loop (some e)) l r) → ExpressionHere s m (hi - cell-words) e
+  predicate-here og outer e l r u =
+      record { part = own-part (join og outer (nested-loop (some e)) l r) u (own (join og outer (nested-loop (some e)) l r) u) }
 
-  pub predicate-at : HasPredicate s lo hi true → NodeAt s lo hi → ExpressionAt s m (hi - 6)
+  pub predicate-at : HasPredicate s lo hi true → NodeAt s lo hi → ExpressionAt s m (hi - cell-words)
   predicate-at f t =
-      by-split (λ p. NodeHere s lo hi p → ExpressionAt s m (hi - 6)) (λ outer e l r u. record { e = e; here = predicate-here outer e l r u }) (t .p) (sym (f (t .p) (t .here)))
+      by-split (λ p. NodeHere s lo hi p → ExpressionAt s m (hi - cell-words)) (λ og outer e l r u. record { e = e; here = predicate-here og outer e l r u }) (t .p) (sym (f (t .p) (t .here)))
       (t .here)
 
 -- ---- the new predicate
 
 -- the conjuncts that stay and what comes back from the left source, as the right one's call asks for them
-pub back-gathered : (n : ℕ) {s : List ℕ} {lo mid : ℕ} {cnf : List ℕ} {end : ℕ} {d : List ℕ} {from at j : ℕ} {d₁ : List ℕ} → GatheredAt d from at → length d₁ ≡ length d
-    → NodeAt s lo mid → ExpressionAt cnf 0 end → ComesBack Left n s lo mid cnf end d from at j d₁ → GatheredAt d₁ from j
-back-gathered n g k t x f = gathered-more g k (push-part (part-for Left n 0 (ands (x .e))) (t .p) .1) (f (t .p) (t .here) (x .e) (x .here))
+pub back-gathered : (new n : ℕ) {s : List ℕ} {lo mid : ℕ} {cnf : List ℕ} {end : ℕ} {d : List ℕ} {from at j : ℕ} {d₁ : List ℕ} → GatheredAt d from at → length d₁ ≡ length d
+    → NodeAt s lo mid → ExpressionAt cnf 0 end → ComesBack new Left n s lo mid cnf end d from at j d₁ → GatheredAt d₁ from j
+back-gathered new n g k t x f = gathered-more g k new (push-part new (part-for new Left n 0 (ands (x .e))) (t .p) .1) (f (t .p) (t .here) (x .e) (x .here))
 
-pub stays-wrote : (n : ℕ) {s : List ℕ} {lo mid m : ℕ} {cnf : List ℕ} {end : ℕ} {d : List ℕ} {at i j q : ℕ} {d₁ d₂ d₃ : List ℕ} → length d₁ ≡ length d → length d₂ ≡ length d₁
-    → AppendsEach (λ e. for-both n (ands e)) cnf 0 end d at at i d₁ → ComesBack Left n s lo mid cnf end d₁ at i j d₂ → ComesBack Right n s mid m cnf end d₂ at j q d₃
-    → Stays n s lo mid m cnf end d at q d₃
-stays-wrote n k₁ k₂ f g h l r x y e u =
-    let back-left = push-part (part-for Left n 0 (ands e)) l .1 in
-    let back-right = push-part (part-for Right n 0 (ands e)) r .1 in
-    appends-vec (for-both n (ands e) ++ (back-left ++ back-right))
-    (appends-then k₁ (for-both n (ands e)) (back-left ++ back-right) (f e u) (appends-then k₂ back-left back-right (g l x e u) (h r y e u)))
+pub stays-wrote : (new n : ℕ) {s : List ℕ} {lo mid m : ℕ} {cnf : List ℕ} {end : ℕ} {d : List ℕ} {at i j q : ℕ} {d₁ d₂ d₃ : List ℕ} → length d₁ ≡ length d → length d₂ ≡ length d₁
+    → AppendsEach new (λ e. for-both n (ands e)) cnf 0 end d at at i d₁ → ComesBack new Left n s lo mid cnf end d₁ at i j d₂ → ComesBack new Right n s mid m cnf end d₂ at j q d₃
+    → Stays new n s lo mid m cnf end d at q d₃
+stays-wrote new n k₁ k₂ f g h l r x y e u =
+    let back-left = push-part new (part-for new Left n 0 (ands e)) l .1 in
+    let back-right = push-part new (part-for new Right n 0 (ands e)) r .1 in
+    appends-vec new (for-both n (ands e) ++ (back-left ++ back-right))
+    (appends-then k₁ new (for-both n (ands e)) (back-left ++ back-right) (f e u) (appends-then k₂ new back-left back-right (g l x e u) (h r y e u)))
 
 -- ---- the join's cell over it
 
 -- the cell of a join that has lost its predicate
 abbrev pub cleared : Cell → Cell
-cleared c = record { tag = c .tag; flag = c .flag - 1; a = c .a; b = c .b; c = c .c }
+cleared c = record { origin = c .origin; tag = c .tag; flag = c .flag - 1; a = c .a; b = c .b; c = c .c }
 
-cleared-is : (outer : Bool) (e : Expression) → cleared (cell (join-cell outer (nested-loop (some e)))) ≡ cell (join-cell outer (nested-loop none))
+cleared-is : (og : ℕ) (outer : Bool) (e : Expression) → cleared (cell og (join-cell outer (nested-loop (some e)))) ≡ cell og (join-cell outer (nested-loop none))
 unfolding cell
-cleared-is false e = refl
-cleared-is true e = refl
+cleared-is og false e = refl
+cleared-is og true e = refl
 
-pub cell-there : {s : List ℕ} {lo hi : ℕ} → PredicateAt s lo hi → (6 ≤ hi) × (hi ≤ length s)
-cell-there g = let (i, j) = node-in (join (g .outer) (nested-loop (some (g .p))) (g .l) (g .r)) (g .here) in (omega arith, j)
+pub cell-there : {s : List ℕ} {lo hi : ℕ} → PredicateAt s lo hi → (cell-words ≤ hi) × (hi ≤ length s)
+cell-there g = let (i, j) = node-in (join (g .og) (g .outer) (nested-loop (some (g .p))) (g .l) (g .r)) (g .here) in (omega arith, j)
 
 pub flag-least : {s : List ℕ} {lo hi : ℕ} {c : Cell} → c ≡ cell-at s hi → PredicateAt s lo hi → 1 ≤ c .flag
-flag-least q g = omega (arith, flag-here q (join (g .outer) (nested-loop (some (g .p))) (g .l) (g .r)) (g .here))
+flag-least q g = omega (arith, flag-here q (join (g .og) (g .outer) (nested-loop (some (g .p))) (g .l) (g .r)) (g .here))
 
 module _ {s : List ℕ} {lo hi : ℕ} {d : List ℕ} {mid at : ℕ} where
   pub rejoin-full : length d < at → Rejoins s lo hi d mid at at d
   rejoin-full z =
       record {
         long = λ h. absurd (omega arith);
-        writes = λ outer e l r u o d₀ d₁ b k₁ k v w.
+        writes = λ og outer e l r u o d₀ d₁ b k₁ k v w.
             let f = then k₁ v w in
-            let i = sized-long (b ++ optional-words o) (cell (join-cell outer (nested-loop o))) in
+            let i = sized-long (b ++ optional-words o) (cell og (join-cell outer (nested-loop o))) in
             no-more (omega arith) (omega arith) f;
       }
 
@@ -103,49 +103,49 @@ module _ {s : List ℕ} {lo hi : ℕ} {d : List ℕ} {mid at : ℕ} where
     pub rejoin-none : at ≡ mid → Seals d 0 at (cleared c) n d′ → Rejoins s lo hi d mid at n d′
     rejoin-none i f = record { long = put-long (cleared c) f; writes = writes }
       where
-        writes : (outer : Bool) (p : Expression) (l r : Node) → NodeHere s lo hi (join outer (nested-loop (some p)) l r)
+        writes : (og : ℕ) (outer : Bool) (p : Expression) (l r : Node) → NodeHere s lo hi (join og outer (nested-loop (some p)) l r)
             → (o : Option Expression) (d₀ d₁ b : List ℕ) → length d₁ ≡ length d₀ → length d ≡ length d₁ → Wrote d₀ 0 b mid d₁ → Wrote d₁ mid (optional-words o) at d
-            → Wrote d₀ 0 (joined b outer o) n d′
-        writes outer e l r u none d₀ d₁ b k₁ k v w =
-            subst (λ (a : Cell). Wrote d₀ 0 (sized (b ++ []) a) n d′) (ap cleared (q ∙ node-cell-is (join outer (nested-loop (some e)) l r) u) ∙ cleared-is outer e)
+            → Wrote d₀ 0 (joined b og outer o) n d′
+        writes og outer e l r u none d₀ d₁ b k₁ k v w =
+            subst (λ (a : Cell). Wrote d₀ 0 (sized (b ++ []) a) n d′) (ap cleared (q ∙ node-cell-is (join og outer (nested-loop (some e)) l r) u) ∙ cleared-is og outer e)
             (f d₀ (b ++ []) (k ∙ k₁) (then k₁ v w))
-        writes outer e l r u (some x) d₀ d₁ b k₁ k v w = absurd (omega (arith, wrote-up w (omega arith), words-long x))
+        writes og outer e l r u (some x) d₀ d₁ b k₁ k v w = absurd (omega (arith, wrote-up w (omega arith), words-long x))
 
     pub rejoin-some : (at ≡ mid → ⊥) → Seals d 0 at c n d′ → Rejoins s lo hi d mid at n d′
     rejoin-some i f = record { long = put-long c f; writes = writes }
       where
-        writes : (outer : Bool) (p : Expression) (l r : Node) → NodeHere s lo hi (join outer (nested-loop (some p)) l r)
+        writes : (og : ℕ) (outer : Bool) (p : Expression) (l r : Node) → NodeHere s lo hi (join og outer (nested-loop (some p)) l r)
             → (o : Option Expression) (d₀ d₁ b : List ℕ) → length d₁ ≡ length d₀ → length d ≡ length d₁ → Wrote d₀ 0 b mid d₁ → Wrote d₁ mid (optional-words o) at d
-            → Wrote d₀ 0 (joined b outer o) n d′
-        writes outer e l r u none d₀ d₁ b k₁ k v w = absurd (i (omega (arith, wrote-up w (omega arith))))
-        writes outer e l r u (some x) d₀ d₁ b k₁ k v w =
-            subst (λ (a : Cell). Wrote d₀ 0 (sized (b ++ optional-words (some x)) a) n d′) (q ∙ node-cell-is (join outer (nested-loop (some e)) l r) u)
+            → Wrote d₀ 0 (joined b og outer o) n d′
+        writes og outer e l r u none d₀ d₁ b k₁ k v w = absurd (i (omega (arith, wrote-up w (omega arith))))
+        writes og outer e l r u (some x) d₀ d₁ b k₁ k v w =
+            subst (λ (a : Cell). Wrote d₀ 0 (sized (b ++ optional-words (some x)) a) n d′) (q ∙ node-cell-is (join og outer (nested-loop (some e)) l r) u)
             (f d₀ (b ++ optional-words (some x)) (k ∙ k₁) (then k₁ v w))
 
 -- ---- the split
 
 -- A node gives back what it doesn't take; which nodes take a predicate doesn't depend on the predicate.
-returned : (f : Expression → Expression) (x y : Expression) → x ≡ f y → (p : Node) → push-part (some x) p .1 ≡ map f (push-part (some y) p .1)
-returned f x y h (leaf (scan t al q)) = refl
-returned f x y h (leaf (lookup a t al vs)) = ap (λ (e : Expression). e ∷ []) h
-returned f x y h (leaf (nothing ls)) = ap (λ (e : Expression). e ∷ []) h
-returned f x y h (leaf (values rs)) = ap (λ (e : Expression). e ∷ []) h
-returned f x y h (over (filter q) n) = refl
-returned f x y h (over (other o) n) = ap (λ (e : Expression). e ∷ []) h
-returned f x y h (join outer (nested-loop q) l r) = refl
-returned f x y h (join outer (hash i j) l r) = ap (λ (e : Expression). e ∷ []) h
+returned : (new : ℕ) (f : Expression → Expression) (x y : Expression) → x ≡ f y → (p : Node) → push-part new (some x) p .1 ≡ map f (push-part new (some y) p .1)
+returned new f x y h (leaf og (scan t al q)) = refl
+returned new f x y h (leaf og (lookup a t al vs)) = ap (λ (e : Expression). e ∷ []) h
+returned new f x y h (leaf og (nothing ls)) = ap (λ (e : Expression). e ∷ []) h
+returned new f x y h (leaf og (values rs)) = ap (λ (e : Expression). e ∷ []) h
+returned new f x y h (over og (filter q) n) = refl
+returned new f x y h (over og (other o) n) = ap (λ (e : Expression). e ∷ []) h
+returned new f x y h (join og outer (nested-loop q) l r) = refl
+returned new f x y h (join og outer (hash i j) l r) = ap (λ (e : Expression). e ∷ []) h
 
 -- What comes back from the right source, moved down and up again, is what it was: it has no column of the left source.
-back-again : (n : ℕ) (es : List Expression) (p : Node) → push-part (part-for Right n 0 es) p .1 ≡ map (shift-column-up n) (push-part (part-for Right n n es) p .1)
-back-again n es p = go (and-vec (push-right n es)) (right-refers n es)
+back-again : (new n : ℕ) (es : List Expression) (p : Node) → push-part new (part-for new Right n 0 es) p .1 ≡ map (shift-column-up n) (push-part new (part-for new Right n n es) p .1)
+back-again new n es p = go (and-vec new (push-right n es)) (right-refers n new es)
   where
     go : (o : Option Expression) → ((x : Expression) → o ≡ some x → ref-left n x ≡ false)
-        → push-part (map-optional (shift-column-down 0) o) p .1 ≡ map (shift-column-up n) (push-part (map-optional (shift-column-down n) o) p .1)
+        → push-part new (map-optional (shift-column-down 0) o) p .1 ≡ map (shift-column-up n) (push-part new (map-optional (shift-column-down n) o) p .1)
     go none h = refl
-    go (some x) h = returned (shift-column-up n) (shift-column-down 0 x) (shift-column-down n x) (shift-none x ∙ sym (up-down n x (h x refl))) p
+    go (some x) h = returned new (shift-column-up n) (shift-column-down 0 x) (shift-column-down n x) (shift-none x ∙ sym (up-down n x (h x refl))) p
 
-pub split-is : (n : ℕ) (outer : Bool) (es : List Expression) (l r : Node)
-    → join outer (nested-loop (stays n es l r)) (new-left n es l) (new-right n es r) ≡ split n outer es l r
-split-is n outer es l r =
-    ap (λ (xs : List Expression). join outer (nested-loop (and-vec (for-both n es ++ (push-part (part-for Left n 0 es) l .1 ++ xs)))) (new-left n es l) (new-right n es r))
-    (back-again n es r)
+pub split-is : (og n : ℕ) (outer : Bool) (es : List Expression) (l r : Node)
+    → join og outer (nested-loop (stays og n es l r)) (new-left og n es l) (new-right og n es r) ≡ split og n outer es l r
+split-is og n outer es l r =
+    ap (λ (xs : List Expression). join og outer (nested-loop (and-vec og (for-both n es ++ (push-part og (part-for og Left n 0 es) l .1 ++ xs)))) (new-left og n es l) (new-right og n es r))
+    (back-again og n es r)

@@ -1,7 +1,7 @@
 // optimizer.rs, maybe_push_join: a join after one split of its predicate. The conjuncts of the predicate are pushed into the join's sources, as far as these take
 // them. The plan is edited in place (crate edit): it stands in the first t words of x, the join from lo up to t - tail. What stands before the first word that
 // changes stays where it is; what comes behind that word, up to the join's end, is written to the scratch y and takes its place at once. So where the join
-// is as long as before, which it often is, the words behind it stay where they are too.
+// is as long as before, which it often is, the words behind it stay where they are too. `origin` is the join's; each And that is put together has it.
 use copied_lookups::Source;
 ghost use mathlib.Core.Path.{_≡_};
 ghost use Prim.Native.Nat.{_-_, _≤_};
@@ -23,16 +23,17 @@ fn joined_predicate(
     d: &mut [u32],
     at: usize,
     n: usize,
+    origin: u32,
 ) -> usize
     requires { ⌜ NodeAt (now s) lo mid ⌝ }
     requires { ⌜ NodeAt (now s) mid m ⌝ }
     requires { ⌜ ExpressionAt (now cnf) 0 end ⌝ }
     requires { ⌜ length (now g) ≡ length (now cnf) ⌝ }
-    ensures { λ r. ⌜ Stays n (now (s .entry)) lo mid m (now (cnf .entry)) end (now (d .entry)) at r (now (d .exit)) ⌝ }
+    ensures { λ r. ⌜ Stays origin n (now (s .entry)) lo mid m (now (cnf .entry)) end (now (d .entry)) at r (now (d .exit)) ⌝ }
 {
-    let i = conjuncts::for_both(cnf, 0, end, d, at, at, n);
-    let j = push_part::come_back(s, lo, mid, cnf, end, g, d, at, i, Source::Left, n);
-    push_part::come_back(s, mid, m, cnf, end, g, d, at, j, Source::Right, n)
+    let i = conjuncts::for_both(cnf, 0, end, d, at, at, n, origin);
+    let j = push_part::come_back(s, lo, mid, cnf, end, g, d, at, i, Source::Left, n, origin);
+    push_part::come_back(s, mid, m, cnf, end, g, d, at, j, Source::Right, n, origin)
 }
 
 // The cell of the join from lo to hi, which has a predicate, over the first `at` words of d: from mid on they are the new predicate, or nothing.
@@ -50,6 +51,7 @@ fn rejoin(s: &[u32], lo: usize, hi: usize, d: &mut [u32], mid: usize, at: usize)
             0,
             at,
             cells::Cell {
+                origin: c.origin,
                 tag: c.tag,
                 flag: c.flag - 1,
                 a: c.a,
@@ -78,15 +80,16 @@ fn replace_end(
     n: usize,
     from: usize,
     at: usize,
+    origin: u32,
 ) -> usize
-    requires { ⌜ JoinAt (now x) t lo mid m tail ⌝ }
+    requires { ⌜ JoinAt (now x) t lo mid m tail origin ⌝ }
     requires { ⌜ (lo ≤ from) × (from ≤ m) ⌝ }
     requires { ⌜ length (now y) ≡ length (now x) ⌝ }
     requires { ⌜ ExpressionAt (now cnf) 0 end ⌝ }
     requires { ⌜ length (now g) ≡ length (now cnf) ⌝ }
-    ensures { λ r. ⌜ ReplacesEnd n (now (x .entry)) (now (y .entry)) t lo mid m tail (now (cnf .entry)) end from at r (now (x .exit)) ⌝ }
+    ensures { λ r. ⌜ ReplacesEnd origin n (now (x .entry)) (now (y .entry)) t lo mid m tail (now (cnf .entry)) end from at r (now (x .exit)) ⌝ }
 {
-    let b = joined_predicate(x, lo, mid, m, cnf, end, g, y, at, n);
+    let b = joined_predicate(x, lo, mid, m, cnf, end, g, y, at, n, origin);
     let c = rejoin(x, lo, t - tail, y, at, b);
     edit::replace_own(x, y, c, t, lo, from, tail)
 }
@@ -104,19 +107,20 @@ fn split_right(
     m: usize,
     tail: usize,
     n: usize,
+    origin: u32,
 ) -> usize
-    requires { ⌜ JoinAt (now x) t lo mid m tail ⌝ }
+    requires { ⌜ JoinAt (now x) t lo mid m tail origin ⌝ }
     requires { ⌜ length (now y) ≡ length (now x) ⌝ }
     requires { ⌜ ExpressionAt (now cnf) 0 end ⌝ }
     requires { ⌜ length (now g) ≡ length (now cnf) ⌝ }
-    ensures { λ r. ⌜ SplitsRight n (now (x .entry)) t lo mid m tail (now (cnf .entry)) end r (now (x .exit)) ⌝ }
+    ensures { λ r. ⌜ SplitsRight origin n (now (x .entry)) t lo mid m tail (now (cnf .entry)) end r (now (x .exit)) ⌝ }
 {
-    let k = push_part::own_part(x, mid, m, cnf, end, g, y, Source::Right, n, n);
+    let k = push_part::own_part(x, mid, m, cnf, end, g, y, Source::Right, n, n, origin);
     if k == 0 {
-        return replace_end(x, y, cnf, end, g, t, lo, mid, m, tail, n, m, 0);
+        return replace_end(x, y, cnf, end, g, t, lo, mid, m, tail, n, m, 0, origin);
     }
     let own = nodes::own_start(x, mid, m);
-    let u = replace_end(x, y, cnf, end, g, t, lo, mid, m, tail, n, own, k);
+    let u = replace_end(x, y, cnf, end, g, t, lo, mid, m, tail, n, own, k, origin);
     if x.len() < u {
         return u;
     }
@@ -136,20 +140,21 @@ fn split_both(
     m: usize,
     tail: usize,
     n: usize,
+    origin: u32,
 ) -> usize
-    requires { ⌜ JoinAt (now x) t lo mid m tail ⌝ }
+    requires { ⌜ JoinAt (now x) t lo mid m tail origin ⌝ }
     requires { ⌜ length (now y) ≡ length (now x) ⌝ }
     requires { ⌜ ExpressionAt (now cnf) 0 end ⌝ }
     requires { ⌜ length (now g) ≡ length (now cnf) ⌝ }
-    ensures { λ r. ⌜ SplitsBoth n (now (x .entry)) t lo mid m tail (now (cnf .entry)) end r (now (x .exit)) ⌝ }
+    ensures { λ r. ⌜ SplitsBoth origin n (now (x .entry)) t lo mid m tail (now (cnf .entry)) end r (now (x .exit)) ⌝ }
 {
-    let k = push_part::own_part(x, lo, mid, cnf, end, g, y, Source::Left, n, 0);
+    let k = push_part::own_part(x, lo, mid, cnf, end, g, y, Source::Left, n, 0, origin);
     if k == 0 {
-        return split_right(x, y, cnf, end, g, t, lo, mid, m, tail, n);
+        return split_right(x, y, cnf, end, g, t, lo, mid, m, tail, n, origin);
     }
     let own = nodes::own_start(x, lo, mid);
-    let b = push_part::push_part(x, mid, m, cnf, end, g, y, k, Source::Right, n, n);
-    let u = replace_end(x, y, cnf, end, g, t, lo, mid, m, tail, n, own, b);
+    let b = push_part::push_part(x, mid, m, cnf, end, g, y, k, Source::Right, n, n, origin);
+    let u = replace_end(x, y, cnf, end, g, t, lo, mid, m, tail, n, own, b, origin);
     if x.len() < u {
         return u;
     }
@@ -178,5 +183,6 @@ pub fn split(
 {
     let mid = cells::start(x, m);
     let n = nodes::columns(x, lo, mid, widths);
-    split_both(x, y, cnf, end, g, t, lo, mid, m, tail, n)
+    let origin = cells::origin_at(x, t - tail);
+    split_both(x, y, cnf, end, g, t, lo, mid, m, tail, n, origin)
 }

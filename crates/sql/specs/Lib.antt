@@ -7,3 +7,4 @@ pub mod Optimizer
 pub mod Room
 pub mod Samples
 pub mod Further
+pub mod Numbered

@@ -8,15 +8,15 @@ use lib.Dec.{eqb, ltb, leb}
 use lib.ListN.{length, getD}
 use Rattle.value.specs.Value.{Truth, False, Unknown, True, Value, truth, datum, Result, ok}
 use Rattle.sql.specs.Schema.{Table, Schema, table-of, column-of}
-use Rattle.sql.specs.Expression.{Logical, And, Or, Unary, Binary, logical, Equal, function, Expression, constant, column, unary, binary, and, size, bind, evaluate, contains-column, replace-column, shift-column-down, shift-column-up, into-cnf-vec, and-vec, is-column, is-column-lookup, into-column-values}
-use Rattle.sql.specs.Plan.{Label, unlabelled, unqualified, qualified, Access, by-key, by-index, Leaf, scan, lookup, nothing, values, Other, limit, offset, order, projection, remap, aggregate, Over, filter, other, Join, nested-loop, hash, Node, leaf, over, join, columns, column-labels, row-size, item-size, key-size, node-size}
+use Rattle.sql.specs.Expression.{Marked, Logical, And, Or, Unary, Binary, logical, Equal, function, Expression, constant, column, unary, binary, and, origin, size, bind, evaluate, contains-column, replace-column, shift-column-down, shift-column-up, into-cnf-vec, and-vec, is-column, is-column-lookup, into-column-values}
+use Rattle.sql.specs.Plan.{Label, unlabelled, unqualified, qualified, Access, by-key, by-index, Leaf, scan, lookup, nothing, values, Other, limit, offset, order, projection, remap, aggregate, Over, filter, other, Join, nested-loop, hash, Node, leaf, over, join, node-origin, columns, column-labels, row-size, item-size, key-size, node-size}
 use Rattle.sql.specs.Answer.{Answer, done, refused, _>>=_, at-place}
 
 -- A transform is applied to the sources of a node.
 abbrev pub map-sources : (Node → Node) → Node → Node
-map-sources f (leaf l) = leaf l
-map-sources f (over o source) = over o (f source)
-map-sources f (join outer j left right) = join outer j (f left) (f right)
+map-sources f (leaf og l) = leaf og l
+map-sources f (over og o source) = over og o (f source)
+map-sources f (join og outer j left right) = join og outer j (f left) (f right)
 
 -- ======== ConstantFolding
 
@@ -33,36 +33,36 @@ truth-operand Or Unknown = undetermined
 truth-operand Or True = deciding
 
 abbrev pub operand : Logical → Expression → Operand
-operand o (constant (truth t)) = truth-operand o t
-operand o (constant (datum d)) = undetermined
-operand o (column c) = undetermined
-operand o (unary p x) = undetermined
-operand o (binary p x y) = undetermined
+operand o (constant og (truth t)) = truth-operand o t
+operand o (constant og (datum d)) = undetermined
+operand o (column og c) = undetermined
+operand o (unary og p x) = undetermined
+operand o (binary og p x y) = undetermined
 
 abbrev pub decided : Logical → Truth
 decided And = False
 decided Or = True
 
-abbrev pub simplify-logical : Logical → Operand → Operand → Expression → Expression → Expression
-simplify-logical o deciding b l r = constant (truth (decided o))
-simplify-logical o neutral deciding l r = constant (truth (decided o))
-simplify-logical o neutral neutral l r = r
-simplify-logical o neutral undetermined l r = r
-simplify-logical o undetermined deciding l r = constant (truth (decided o))
-simplify-logical o undetermined neutral l r = l
-simplify-logical o undetermined undetermined l r = binary (logical o) l r
+abbrev pub simplify-logical : ℕ → Logical → Operand → Operand → Expression → Expression → Expression
+simplify-logical og o deciding b l r = constant og (truth (decided o))
+simplify-logical og o neutral deciding l r = constant og (truth (decided o))
+simplify-logical og o neutral neutral l r = r
+simplify-logical og o neutral undetermined l r = r
+simplify-logical og o undetermined deciding l r = constant og (truth (decided o))
+simplify-logical og o undetermined neutral l r = l
+simplify-logical og o undetermined undetermined l r = binary og (logical o) l r
 
 abbrev pub simplify : Expression → Expression
-simplify (constant v) = constant v
-simplify (column c) = column c
-simplify (unary o x) = unary o x
-simplify (binary (logical o) l r) = simplify-logical o (operand o l) (operand o r) l r
-simplify (binary Equal l r) = binary Equal l r
-simplify (binary (function f) l r) = binary (function f) l r
+simplify (constant og v) = constant og v
+simplify (column og c) = column og c
+simplify (unary og o x) = unary og o x
+simplify (binary og (logical o) l r) = simplify-logical og o (operand o l) (operand o r) l r
+simplify (binary og Equal l r) = binary og Equal l r
+simplify (binary og (function f) l r) = binary og (function f) l r
 
 abbrev pub fold-by : Bool → ℕ → Expression → Answer Expression
 fold-by true place e = done (simplify e)
-fold-by false place e = at-place place (bind (evaluate [] e) (λ v. ok (constant v)))
+fold-by false place e = at-place place (bind (evaluate [] e) (λ v. ok (constant (origin e) v)))
 
 -- An expression without a Column becomes its value, or the refusal for the value's error, at the expression's own cell. Only if a Column is left,
 -- And and Or are simplified.
@@ -72,15 +72,15 @@ fold place e = fold-by (contains-column (λ c. true) e) place e
 -- All of an expression, operands first. Places are cells of the given sheet, so each function of folding takes the number of the first cell of what it
 -- folds: operands stand before their operator, in order, and sources before a node's own expressions.
 abbrev pub fold-expression : ℕ → Expression → Answer Expression
-fold-expression first (constant v) = fold first (constant v)
-fold-expression first (column c) = fold first (column c)
-fold-expression first (unary o x) = do
+fold-expression first (constant og v) = fold first (constant og v)
+fold-expression first (column og c) = fold first (column og c)
+fold-expression first (unary og o x) = do
   y ← fold-expression first x
-  fold (first + size x) (unary o y)
-fold-expression first (binary o l r) = do
+  fold (first + size x) (unary og o y)
+fold-expression first (binary og o l r) = do
   x ← fold-expression first l
   y ← fold-expression (first + size l) r
-  fold (first + (size l + size r)) (binary o x y)
+  fold (first + (size l + size r)) (binary og o x y)
 
 -- parts that stand one behind the other
 abbrev pub fold-each : {A : Type 0} → (ℕ → A → Answer A) → (A → ℕ) → ℕ → List A → Answer (List A)
@@ -96,14 +96,16 @@ fold-optional first (some e) = do
   x ← fold-expression first e
   done (some x)
 
-abbrev pub fold-row : ℕ → List Expression → Answer (List Expression)
-fold-row first es = fold-each fold-expression size first es
+abbrev pub fold-row : ℕ → Marked (List Expression) → Answer (Marked (List Expression))
+fold-row first row = do
+  es ← fold-each fold-expression size first (row .0)
+  done (es, row .1)
 
 -- a Key or an Item: its expression, and its direction or label
-abbrev pub fold-part : {A : Type 0} → ℕ → Expression × A → Answer (Expression × A)
+abbrev pub fold-part : {A : Type 0} → ℕ → Expression × A × ℕ → Answer (Expression × A × ℕ)
 fold-part first part = do
   x ← fold-expression first (part .0)
-  done (x, part .1)
+  done (x, part .1, part .2)
 
 abbrev pub fold-leaf : ℕ → Leaf → Answer Leaf
 fold-leaf first (scan table alias predicate) = do
@@ -139,44 +141,44 @@ fold-join first (hash left-column right-column) = done (hash left-column right-c
 
 -- A node's own expressions are folded before its sources, the left source before the right.
 abbrev pub ConstantFolding : ℕ → Node → Answer Node
-ConstantFolding first (leaf l) = do
+ConstantFolding first (leaf og l) = do
   m ← fold-leaf first l
-  done (leaf m)
-ConstantFolding first (over o source) = do
+  done (leaf og m)
+ConstantFolding first (over og o source) = do
   p ← fold-over (first + node-size source) o
   s ← ConstantFolding first source
-  done (over p s)
-ConstantFolding first (join outer j left right) = do
+  done (over og p s)
+ConstantFolding first (join og outer j left right) = do
   k ← fold-join (first + (node-size left + node-size right)) j
   l ← ConstantFolding first left
   r ← ConstantFolding (first + node-size left) right
-  done (join outer k l r)
+  done (join og outer k l r)
 
 -- ======== FilterPushdown
 
-abbrev pub and-with : Expression → Option Expression → Expression
-and-with e none = e
-and-with e (some p) = and e p
+abbrev pub and-with : ℕ → Expression → Option Expression → Expression
+and-with new e none = e
+and-with new e (some p) = and new e p
 
 -- The node with the expression in its predicate, or none if it can't take one.
-abbrev pub push-into : Expression → Node → Option Node
-push-into e (leaf (scan table alias predicate)) = some (leaf (scan table alias (some (and-with e predicate))))
-push-into e (leaf (lookup access table alias constants)) = none
-push-into e (leaf (nothing labels)) = none
-push-into e (leaf (values rows)) = none
-push-into e (over (filter predicate) source) = some (over (filter (and e predicate)) source)
-push-into e (over (other o) source) = none
-push-into e (join outer (nested-loop predicate) left right) = some (join outer (nested-loop (some (and-with e predicate))) left right)
-push-into e (join outer (hash left-column right-column) left right) = none
+abbrev pub push-into : ℕ → Expression → Node → Option Node
+push-into new e (leaf og (scan table alias predicate)) = some (leaf og (scan table alias (some (and-with new e predicate))))
+push-into new e (leaf og (lookup access table alias constants)) = none
+push-into new e (leaf og (nothing labels)) = none
+push-into new e (leaf og (values rows)) = none
+push-into new e (over og (filter predicate) source) = some (over og (filter (and new e predicate)) source)
+push-into new e (over og (other o) source) = none
+push-into new e (join og outer (nested-loop predicate) left right) = some (join og outer (nested-loop (some (and-with new e predicate))) left right)
+push-into new e (join og outer (hash left-column right-column) left right) = none
 
 -- What becomes of a join's source that a part of the predicate is for, and what of that part comes back.
 abbrev pub pushed-or-back : Expression → Node → Option Node → Node × List Expression
 pushed-or-back e source none = (source, e ∷ [])
 pushed-or-back e source (some pushed) = (pushed, [])
 
-abbrev pub push-part : Option Expression → Node → Node × List Expression
-push-part none source = (source, [])
-push-part (some e) source = pushed-or-back e source (push-into e source)
+abbrev pub push-part : ℕ → Option Expression → Node → Node × List Expression
+push-part new none source = (source, [])
+push-part new (some e) source = pushed-or-back e source (push-into new e source)
 
 -- ref_left and ref_right: whether an expression refers to a column of the left source, which has n columns, or to one of the right
 abbrev pub ref-left : ℕ → Expression → Bool
@@ -211,12 +213,12 @@ ordered (some c) (some d) = some (cond (ltb d c) (d, c) (c, d))
 
 -- The two columns of an Equal of two columns, the lower one first.
 abbrev pub equijoin : Expression → Option (ℕ × ℕ)
-equijoin (constant v) = none
-equijoin (column c) = none
-equijoin (unary o x) = none
-equijoin (binary (logical o) l r) = none
-equijoin (binary Equal l r) = ordered (is-column l) (is-column r)
-equijoin (binary (function f) l r) = none
+equijoin (constant og v) = none
+equijoin (column og c) = none
+equijoin (unary og o x) = none
+equijoin (binary og (logical o) l r) = none
+equijoin (binary og Equal l r) = ordered (is-column l) (is-column r)
+equijoin (binary og (function f) l r) = none
 
 abbrev pub is-number : ℕ → Option ℕ → Bool
 is-number c none = false
@@ -264,11 +266,11 @@ map-optional f (some a) = some (f a)
 
 -- The join whose left source has n columns, after one split of its predicate, whose conjuncts are `cnf`. What a source doesn't take comes back behind
 -- the conjuncts that stay.
-abbrev pub split : ℕ → Bool → List Expression → Node → Node → Node
-split n outer cnf left right =
-    let l = push-part (and-vec (push-left n cnf)) left in
-    let r = push-part (map-optional (shift-column-down n) (and-vec (push-right n cnf))) right in
-    join outer (nested-loop (and-vec (for-both n cnf ++ (l .1 ++ map (shift-column-up n) (r .1))))) (l .0) (r .0)
+abbrev pub split : ℕ → ℕ → Bool → List Expression → Node → Node → Node
+split og n outer cnf left right =
+    let l = push-part og (and-vec og (push-left n cnf)) left in
+    let r = push-part og (map-optional (shift-column-down n) (and-vec og (push-right n cnf))) right in
+    join og outer (nested-loop (and-vec og (for-both n cnf ++ (l .1 ++ map (shift-column-up n) (r .1))))) (l .0) (r .0)
 
 abbrev pub go-on : (Node → Node) → Node → Option Node → Node
 go-on f node none = node
@@ -276,21 +278,21 @@ go-on f node (some pushed) = f pushed
 
 module _ (schema : Schema) where
   unfoldable pub maybe-push-join : Node → Node
-  maybe-push-join (leaf l) = leaf l
-  maybe-push-join (over o source) = over o source
-  maybe-push-join (join outer (nested-loop none) left right) = join outer (nested-loop none) left right
-  maybe-push-join (join outer (nested-loop (some predicate)) left right) = split (columns schema left) outer (into-cnf-vec predicate) left right
-  maybe-push-join (join outer (hash left-column right-column) left right) = join outer (hash left-column right-column) left right
+  maybe-push-join (leaf og l) = leaf og l
+  maybe-push-join (over og o source) = over og o source
+  maybe-push-join (join og outer (nested-loop none) left right) = join og outer (nested-loop none) left right
+  maybe-push-join (join og outer (nested-loop (some predicate)) left right) = split og (columns schema left) outer (into-cnf-vec predicate) left right
+  maybe-push-join (join og outer (hash left-column right-column) left right) = join og outer (hash left-column right-column) left right
 
   -- A Filter that its source takes is gone, and push_filters goes on with the source: maybe_push_filter, then the join rule. The number bounds the
   -- nodes of the plan, which are one fewer after each merge.
   unfoldable pub maybe-push-filter : ℕ → Node → Node
   maybe-push-filter zero node = node
-  maybe-push-filter (suc n) (leaf l) = leaf l
-  maybe-push-filter (suc n) (over (filter predicate) source) =
-      go-on (λ pushed. maybe-push-join (maybe-push-filter n pushed)) (over (filter predicate) source) (push-into predicate source)
-  maybe-push-filter (suc n) (over (other o) source) = over (other o) source
-  maybe-push-filter (suc n) (join outer j left right) = join outer j left right
+  maybe-push-filter (suc n) (leaf og l) = leaf og l
+  maybe-push-filter (suc n) (over og (filter predicate) source) =
+      go-on (λ pushed. maybe-push-join (maybe-push-filter n pushed)) (over og (filter predicate) source) (push-into og predicate source)
+  maybe-push-filter (suc n) (over og (other o) source) = over og (other o) source
+  maybe-push-filter (suc n) (join og outer j left right) = join og outer j left right
 
   abbrev pub push-filters : ℕ → Node → Node
   push-filters n node = maybe-push-join (maybe-push-filter n node)
@@ -312,9 +314,9 @@ pub record Found : Type 0 where
   pub conjunct : Expression
   pub remaining : List Expression
 
-abbrev pub filtered : Option Expression → Node → Node
-filtered none node = node
-filtered (some predicate) node = over (filter predicate) node
+abbrev pub filtered : ℕ → Option Expression → Node → Node
+filtered og none node = node
+filtered og (some predicate) node = over og (filter predicate) node
 
 module _ (schema : Schema) (table : ℕ) where
   -- whether a lookup can go by this column: it is the primary key or has an index
@@ -339,24 +341,24 @@ module _ (schema : Schema) (table : ℕ) where
   access c = cond (eqb c (table-of schema table .primary-key)) by-key (by-index c)
 
   -- Where no lookup is found, the ORIGINAL filter stays.
-  abbrev pub lookup-or-scan : Option ℕ → Expression → Option Found → Node
-  lookup-or-scan alias predicate none = leaf (scan table alias (some predicate))
-  lookup-or-scan alias predicate (some f) =
-      filtered (and-vec (f .remaining)) (leaf (lookup (access (f .column-number)) table alias (into-column-values (f .conjunct))))
+  abbrev pub lookup-or-scan : ℕ → Option ℕ → Expression → Option Found → Node
+  lookup-or-scan og alias predicate none = leaf og (scan table alias (some predicate))
+  lookup-or-scan og alias predicate (some f) =
+      filtered og (and-vec og (f .remaining)) (leaf og (lookup (access (f .column-number)) table alias (into-column-values (f .conjunct))))
 
 module _ (schema : Schema) where
-  unfoldable pub index-lookup : Leaf → Node
-  index-lookup (scan table alias none) = leaf (scan table alias none)
-  index-lookup (scan table alias (some predicate)) = lookup-or-scan schema table alias predicate (find-lookup schema table (into-cnf-vec predicate))
-  index-lookup (lookup access table alias constants) = leaf (lookup access table alias constants)
-  index-lookup (nothing labels) = leaf (nothing labels)
-  index-lookup (values rows) = leaf (values rows)
+  unfoldable pub index-lookup : ℕ → Leaf → Node
+  index-lookup og (scan table alias none) = leaf og (scan table alias none)
+  index-lookup og (scan table alias (some predicate)) = lookup-or-scan schema table og alias predicate (find-lookup schema table (into-cnf-vec predicate))
+  index-lookup og (lookup access table alias constants) = leaf og (lookup access table alias constants)
+  index-lookup og (nothing labels) = leaf og (nothing labels)
+  index-lookup og (values rows) = leaf og (values rows)
 
   -- Only a leaf is rewritten, and what it becomes holds no scan.
   unfoldable pub IndexLookup : Node → Node
-  IndexLookup (leaf l) = index-lookup l
-  IndexLookup (over o source) = over o (IndexLookup source)
-  IndexLookup (join outer j left right) = join outer j (IndexLookup left) (IndexLookup right)
+  IndexLookup (leaf og l) = index-lookup og l
+  IndexLookup (over og o source) = over og o (IndexLookup source)
+  IndexLookup (join og outer j left right) = join og outer j (IndexLookup left) (IndexLookup right)
 
 -- ======== HashJoin
 
@@ -372,9 +374,9 @@ hash-join n (nested-loop (some predicate)) = hash-pair n predicate (equijoin pre
 hash-join n (hash left-column right-column) = hash left-column right-column
 
 abbrev pub HashJoin : Schema → Node → Node
-HashJoin schema (leaf l) = leaf l
-HashJoin schema (over o source) = over o (HashJoin schema source)
-HashJoin schema (join outer j left right) = join outer (hash-join (columns schema left) j) (HashJoin schema left) (HashJoin schema right)
+HashJoin schema (leaf og l) = leaf og l
+HashJoin schema (over og o source) = over og o (HashJoin schema source)
+HashJoin schema (join og outer j left right) = join og outer (hash-join (columns schema left) j) (HashJoin schema left) (HashJoin schema right)
 
 -- ======== ShortCircuit
 
@@ -383,13 +385,13 @@ pub data Verdict : Type 0 where
   always never unknown : Verdict
 
 abbrev pub verdict : Expression → Verdict
-verdict (constant (truth True)) = always
-verdict (constant (truth Unknown)) = never
-verdict (constant (truth False)) = never
-verdict (constant (datum d)) = unknown
-verdict (column c) = unknown
-verdict (unary o x) = unknown
-verdict (binary o l r) = unknown
+verdict (constant og (truth True)) = always
+verdict (constant og (truth Unknown)) = never
+verdict (constant og (truth False)) = never
+verdict (constant og (datum d)) = unknown
+verdict (column og c) = unknown
+verdict (unary og o x) = unknown
+verdict (binary og o l r) = unknown
 
 abbrev pub optional-verdict : Option Expression → Verdict
 optional-verdict none = unknown
@@ -415,13 +417,13 @@ is-unlabelled (unqualified name) = false
 is-unlabelled (qualified table name) = false
 
 abbrev pub is-column-number : ℕ → Expression → Bool
-is-column-number i (constant v) = false
-is-column-number i (column c) = eqb c i
-is-column-number i (unary o x) = false
-is-column-number i (binary o l r) = false
+is-column-number i (constant og v) = false
+is-column-number i (column og c) = eqb c i
+is-column-number i (unary og o x) = false
+is-column-number i (binary og o l r) = false
 
 -- columns i, i + 1, .., without an alias
-abbrev pub pass-through : ℕ → List (Expression × Label) → Bool
+abbrev pub pass-through : ℕ → List (Expression × Label × ℕ) → Bool
 pass-through i [] = true
 pass-through i (item ∷ items) = (is-column-number i (item .0) && is-unlabelled (item .1)) && pass-through (suc i) items
 
@@ -430,12 +432,12 @@ is-empty-list [] = true
 is-empty-list (x ∷ xs) = false
 
 abbrev pub is-nothing : Node → Bool
-is-nothing (leaf (scan table alias predicate)) = false
-is-nothing (leaf (lookup access table alias constants)) = false
-is-nothing (leaf (nothing labels)) = true
-is-nothing (leaf (values rows)) = false
-is-nothing (over o source) = false
-is-nothing (join outer j left right) = false
+is-nothing (leaf og (scan table alias predicate)) = false
+is-nothing (leaf og (lookup access table alias constants)) = false
+is-nothing (leaf og (nothing labels)) = true
+is-nothing (leaf og (values rows)) = false
+is-nothing (over og o source) = false
+is-nothing (join og outer j left right) = false
 
 -- of a node over a source that is a Nothing or not: a Limit above 0, a Remap and an Aggregate over a Nothing stay
 abbrev pub is-empty-other : Other → Bool → Bool
@@ -453,38 +455,38 @@ is-empty-join (hash left-column right-column) = false
 
 -- is_empty: the node can't produce anything
 abbrev pub is-empty : Node → Bool
-is-empty (leaf (scan table alias predicate)) = is-never (optional-verdict predicate)
-is-empty (leaf (lookup access table alias constants)) = is-empty-list constants
-is-empty (leaf (nothing labels)) = false
-is-empty (leaf (values rows)) = is-empty-list rows
-is-empty (over (filter predicate) source) = is-never (verdict predicate) || is-nothing source
-is-empty (over (other o) source) = is-empty-other o (is-nothing source)
-is-empty (join outer j left right) = is-empty-join j || (is-nothing left || is-nothing right)
+is-empty (leaf og (scan table alias predicate)) = is-never (optional-verdict predicate)
+is-empty (leaf og (lookup access table alias constants)) = is-empty-list constants
+is-empty (leaf og (nothing labels)) = false
+is-empty (leaf og (values rows)) = is-empty-list rows
+is-empty (over og (filter predicate) source) = is-never (verdict predicate) || is-nothing source
+is-empty (over og (other o) source) = is-empty-other o (is-nothing source)
+is-empty (join og outer j left right) = is-empty-join j || (is-nothing left || is-nothing right)
 
 module _ (schema : Schema) where
   -- a Projection that passes its source's columns through
-  abbrev pub is-noop : List (Expression × Label) → Node → Bool
+  abbrev pub is-noop : List (Expression × Label × ℕ) → Node → Bool
   is-noop items source = eqb (columns schema source) (length items) && pass-through 0 items
 
   -- the first part of short_circuit: what is always true, or changes nothing, is removed
   abbrev pub remove-useless : Node → Node
-  remove-useless (leaf (scan table alias predicate)) = leaf (scan table alias (remove-true predicate))
-  remove-useless (leaf (lookup access table alias constants)) = leaf (lookup access table alias constants)
-  remove-useless (leaf (nothing labels)) = leaf (nothing labels)
-  remove-useless (leaf (values rows)) = leaf (values rows)
-  remove-useless (over (filter predicate) source) = cond (is-always (verdict predicate)) source (over (filter predicate) source)
-  remove-useless (over (other (limit amount)) source) = over (other (limit amount)) source
-  remove-useless (over (other (offset amount)) source) = over (other (offset amount)) source
-  remove-useless (over (other (order key)) source) = over (other (order key)) source
-  remove-useless (over (other (projection items)) source) = cond (is-noop items source) source (over (other (projection items)) source)
-  remove-useless (over (other (remap targets)) source) = over (other (remap targets)) source
-  remove-useless (over (other (aggregate group-by aggregates)) source) = over (other (aggregate group-by aggregates)) source
-  remove-useless (join outer (nested-loop predicate) left right) = join outer (nested-loop (remove-true predicate)) left right
-  remove-useless (join outer (hash left-column right-column) left right) = join outer (hash left-column right-column) left right
+  remove-useless (leaf og (scan table alias predicate)) = leaf og (scan table alias (remove-true predicate))
+  remove-useless (leaf og (lookup access table alias constants)) = leaf og (lookup access table alias constants)
+  remove-useless (leaf og (nothing labels)) = leaf og (nothing labels)
+  remove-useless (leaf og (values rows)) = leaf og (values rows)
+  remove-useless (over og (filter predicate) source) = cond (is-always (verdict predicate)) source (over og (filter predicate) source)
+  remove-useless (over og (other (limit amount)) source) = over og (other (limit amount)) source
+  remove-useless (over og (other (offset amount)) source) = over og (other (offset amount)) source
+  remove-useless (over og (other (order key)) source) = over og (other (order key)) source
+  remove-useless (over og (other (projection items)) source) = cond (is-noop items source) source (over og (other (projection items)) source)
+  remove-useless (over og (other (remap targets)) source) = over og (other (remap targets)) source
+  remove-useless (over og (other (aggregate group-by aggregates)) source) = over og (other (aggregate group-by aggregates)) source
+  remove-useless (join og outer (nested-loop predicate) left right) = join og outer (nested-loop (remove-true predicate)) left right
+  remove-useless (join og outer (hash left-column right-column) left right) = join og outer (hash left-column right-column) left right
 
   -- An emptied node becomes a Nothing that keeps its labels.
   abbrev pub empty-or-node : Bool → Node → Node
-  empty-or-node true node = leaf (nothing (column-labels schema node))
+  empty-or-node true node = leaf (node-origin node) (nothing (map (λ (l : Label). (l, node-origin node)) (column-labels schema node)))
   empty-or-node false node = node
 
   abbrev pub short-circuit : Node → Node
@@ -492,9 +494,9 @@ module _ (schema : Schema) where
 
   -- sources before the node
   abbrev pub ShortCircuit : Node → Node
-  ShortCircuit (leaf l) = short-circuit (leaf l)
-  ShortCircuit (over o source) = short-circuit (over o (ShortCircuit source))
-  ShortCircuit (join outer j left right) = short-circuit (join outer j (ShortCircuit left) (ShortCircuit right))
+  ShortCircuit (leaf og l) = short-circuit (leaf og l)
+  ShortCircuit (over og o source) = short-circuit (over og o (ShortCircuit source))
+  ShortCircuit (join og outer j left right) = short-circuit (join og outer j (ShortCircuit left) (ShortCircuit right))
 
 -- ======== OPTIMIZERS
 

@@ -7,7 +7,7 @@ use lib.Dec.{eqb, ltb}
 use lib.ListN.{length, getD}
 use Rattle.value.specs.Value.{Value}
 use Rattle.sql.specs.Schema.{Column, Table, Schema, table-of, column-of}
-use Rattle.sql.specs.Expression.{Expression, constant, column, unary, binary, size}
+use Rattle.sql.specs.Expression.{Marked, Expression, constant, column, unary, binary, size}
 
 -- of a column, in results and plans
 pub data Label : Type 0 where
@@ -22,19 +22,19 @@ pub data Access : Type 0 where
 
 pub data Leaf : Type 0 where
   scan : (table : ℕ) (alias : Option ℕ) (filter : Option Expression) → Leaf
-  lookup : (access : Access) (table : ℕ) (alias : Option ℕ) (values : List Value) → Leaf
-  nothing : (columns : List Label) → Leaf
-  values : (rows : List (List Expression)) → Leaf
+  lookup : (access : Access) (table : ℕ) (alias : Option ℕ) (values : List (Marked Value)) → Leaf
+  nothing : (columns : List (Marked Label)) → Leaf
+  values : (rows : List (Marked (List Expression))) → Leaf
 
 -- Order's keys say by true that they are descending. A Remap's targets (a sheet's Targets) say for each source column which column it becomes, or by
 -- none that it is dropped. An aggregate is the number of its function, in the Rust's order, and what it is over.
 pub data Other : Type 0 where
   limit : ℕ → Other
   offset : ℕ → Other
-  order : (key : List (Expression × Bool)) → Other
-  projection : (items : List (Expression × Label)) → Other
-  remap : (targets : List (Option ℕ)) → Other
-  aggregate : (group-by : List Expression) (aggregates : List (ℕ × Expression)) → Other
+  order : (key : List (Expression × Bool × ℕ)) → Other
+  projection : (items : List (Expression × Label × ℕ)) → Other
+  remap : (targets : List (Marked (Option ℕ))) → Other
+  aggregate : (group-by : List Expression) (aggregates : List (ℕ × Expression × ℕ)) → Other
 
 pub data Over : Type 0 where
   filter : Expression → Over
@@ -45,22 +45,28 @@ pub data Join : Type 0 where
   hash : (left-column right-column : ℕ) → Join
 
 pub data Node : Type 0 where
-  leaf : Leaf → Node
-  over : Over → Node → Node
-  join : (outer : Bool) → Join → Node → Node → Node
+  leaf : ℕ → Leaf → Node
+  over : ℕ → Over → Node → Node
+  join : ℕ → (outer : Bool) → Join → Node → Node → Node
+
+-- of the node's own cell
+abbrev pub node-origin : Node → ℕ
+node-origin (leaf og l) = og
+node-origin (over og o source) = og
+node-origin (join og outer j left right) = og
 
 -- ---- columns
 
 -- one past the highest target
-abbrev pub remap-columns : List (Option ℕ) → ℕ
+abbrev pub remap-columns : List (Marked (Option ℕ)) → ℕ
 remap-columns [] = 0
-remap-columns (none ∷ targets) = remap-columns targets
-remap-columns (some target ∷ targets) = max (suc target) (remap-columns targets)
+remap-columns ((none, og) ∷ targets) = remap-columns targets
+remap-columns ((some target, og) ∷ targets) = max (suc target) (remap-columns targets)
 
 -- A Values node is as wide as its first row.
-abbrev pub values-columns : List (List Expression) → ℕ
+abbrev pub values-columns : List (Marked (List Expression)) → ℕ
 values-columns [] = 0
-values-columns (row ∷ rows) = length row
+values-columns (row ∷ rows) = length (row .0)
 
 -- of a node over a source with n columns
 abbrev pub other-columns : Other → ℕ → ℕ
@@ -80,19 +86,19 @@ module _ (schema : Schema) where
 
   -- The number of columns that a node emits.
   abbrev pub columns : Node → ℕ
-  columns (leaf l) = leaf-columns l
-  columns (over (filter predicate) source) = columns source
-  columns (over (other o) source) = other-columns o (columns source)
-  columns (join outer j left right) = columns left + columns right
+  columns (leaf og l) = leaf-columns l
+  columns (over og (filter predicate) source) = columns source
+  columns (over og (other o) source) = other-columns o (columns source)
+  columns (join og outer j left right) = columns left + columns right
 
 -- ---- column_label
 
 -- the label of the column that an expression is, if it is one
 abbrev pub routed : (ℕ → Label) → Expression → Label
-routed source (constant v) = unlabelled
-routed source (column c) = source c
-routed source (unary o x) = unlabelled
-routed source (binary o l r) = unlabelled
+routed source (constant og v) = unlabelled
+routed source (column og c) = source c
+routed source (unary og o x) = unlabelled
+routed source (binary og o l r) = unlabelled
 
 abbrev pub group-label : (ℕ → Label) → List Expression → ℕ → Label
 group-label source [] i = unlabelled
@@ -100,22 +106,22 @@ group-label source (e ∷ es) zero = routed source e
 group-label source (e ∷ es) (suc i) = group-label source es i
 
 -- Aliased columns use the alias.
-abbrev pub item-label : (ℕ → Label) → Expression × Label → Label
-item-label source (e, unlabelled) = routed source e
-item-label source (e, unqualified name) = unqualified name
-item-label source (e, qualified table name) = qualified table name
+abbrev pub item-label : (ℕ → Label) → Expression × Label × ℕ → Label
+item-label source (e, unlabelled, og) = routed source e
+item-label source (e, unqualified name, og) = unqualified name
+item-label source (e, qualified table name, og) = qualified table name
 
-abbrev pub items-label : (ℕ → Label) → List (Expression × Label) → ℕ → Label
+abbrev pub items-label : (ℕ → Label) → List (Expression × Label × ℕ) → ℕ → Label
 items-label source [] i = unlabelled
 items-label source (item ∷ items) zero = item-label source item
 items-label source (item ∷ items) (suc i) = items-label source items i
 
 -- The source column that goes to a target column, if one does: `position` in the Rust, and a place of `invert_remap`. `from` is the number of the
 -- source column that stands first in the list. (No two targets of a Remap in scope are equal.)
-abbrev pub remap-source : ℕ → List (Option ℕ) → ℕ → Option ℕ
+abbrev pub remap-source : ℕ → List (Marked (Option ℕ)) → ℕ → Option ℕ
 remap-source from [] to = none
-remap-source from (none ∷ targets) to = remap-source (suc from) targets to
-remap-source from (some target ∷ targets) to = elim (eqb target to) [ true ↦ some from | false ↦ remap-source (suc from) targets to ]
+remap-source from ((none, og) ∷ targets) to = remap-source (suc from) targets to
+remap-source from ((some target, og) ∷ targets) to = elim (eqb target to) [ true ↦ some from | false ↦ remap-source (suc from) targets to ]
 
 abbrev pub optional-label : (ℕ → Label) → Option ℕ → Label
 optional-label source none = unlabelled
@@ -146,15 +152,15 @@ module _ (schema : Schema) where
   abbrev pub leaf-label : Leaf → ℕ → Label
   leaf-label (scan table alias predicate) i = table-label table alias i
   leaf-label (lookup access table alias constants) i = table-label table alias i
-  leaf-label (nothing labels) i = getD labels i unlabelled
+  leaf-label (nothing labels) i = getD labels i (unlabelled, 0) .0
   leaf-label (values rows) i = unlabelled
 
   -- The label of a column, traced through the plan.
   abbrev pub column-label : Node → ℕ → Label
-  column-label (leaf l) i = leaf-label l i
-  column-label (over (filter predicate) source) i = column-label source i
-  column-label (over (other o) source) i = other-label o (column-label source) i
-  column-label (join outer j left right) i =
+  column-label (leaf og l) i = leaf-label l i
+  column-label (over og (filter predicate) source) i = column-label source i
+  column-label (over og (other o) source) i = other-label o (column-label source) i
+  column-label (join og outer j left right) i =
       elim (ltb i (columns schema left)) [ true ↦ column-label left i | false ↦ column-label right (i - columns schema left) ]
 
   abbrev pub column-labels : Node → List Label
@@ -170,16 +176,16 @@ abbrev pub optional-size : Option Expression → ℕ
 optional-size none = 0
 optional-size (some e) = size e
 
-abbrev pub row-size : List Expression → ℕ
-row-size es = suc (sum size es)
+abbrev pub row-size : Marked (List Expression) → ℕ
+row-size row = suc (sum size (row .0))
 
-abbrev pub item-size : Expression × Label → ℕ
+abbrev pub item-size : Expression × Label × ℕ → ℕ
 item-size item = suc (size (item .0))
 
-abbrev pub key-size : Expression × Bool → ℕ
+abbrev pub key-size : Expression × Bool × ℕ → ℕ
 key-size key = suc (size (key .0))
 
-abbrev pub aggregate-size : ℕ × Expression → ℕ
+abbrev pub aggregate-size : ℕ × Expression × ℕ → ℕ
 aggregate-size agg = suc (size (agg .1))
 
 abbrev pub leaf-size : Leaf → ℕ
@@ -204,6 +210,6 @@ join-size (nested-loop predicate) = suc (optional-size predicate)
 join-size (hash left-column right-column) = 1
 
 abbrev pub node-size : Node → ℕ
-node-size (leaf l) = leaf-size l
-node-size (over o source) = node-size source + over-size o
-node-size (join outer j left right) = node-size left + node-size right + join-size j
+node-size (leaf og l) = leaf-size l
+node-size (over og o source) = node-size source + over-size o
+node-size (join og outer j left right) = node-size left + node-size right + join-size j

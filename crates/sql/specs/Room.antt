@@ -25,10 +25,10 @@ if-room true node = done node
 if-room false node = refused 14 0
 
 abbrev pub join-predicate : Node → Option Expression
-join-predicate (leaf l) = none
-join-predicate (over o source) = none
-join-predicate (join outer (nested-loop predicate) left right) = predicate
-join-predicate (join outer (hash left-column right-column) left right) = none
+join-predicate (leaf og l) = none
+join-predicate (over og o source) = none
+join-predicate (join og outer (nested-loop predicate) left right) = predicate
+join-predicate (join og outer (hash left-column right-column) left right) = none
 
 abbrev pub scan-filter : Leaf → Option Expression
 scan-filter (scan table alias predicate) = predicate
@@ -59,25 +59,25 @@ module _ (room : ℕ) (schema : Schema) where
 
   unfoldable pub maybe-push-filter : ℕ → ℕ → Node → Answer Node
   maybe-push-filter zero rest node = done node
-  maybe-push-filter (suc n) rest (leaf l) = done (leaf l)
-  maybe-push-filter (suc n) rest (over (filter predicate) source) =
-      go-on (λ pushed. step rest pushed >>= maybe-push-filter n rest >>= maybe-push-join rest) (over (filter predicate) source) (push-into predicate source)
-  maybe-push-filter (suc n) rest (over (other o) source) = done (over (other o) source)
-  maybe-push-filter (suc n) rest (join outer j left right) = done (join outer j left right)
+  maybe-push-filter (suc n) rest (leaf og l) = done (leaf og l)
+  maybe-push-filter (suc n) rest (over og (filter predicate) source) =
+      go-on (λ pushed. step rest pushed >>= maybe-push-filter n rest >>= maybe-push-join rest) (over og (filter predicate) source) (push-into og predicate source)
+  maybe-push-filter (suc n) rest (over og (other o) source) = done (over og (other o) source)
+  maybe-push-filter (suc n) rest (join og outer j left right) = done (join og outer j left right)
 
   abbrev pub push-filters : ℕ → ℕ → Node → Answer Node
   push-filters n rest node = maybe-push-filter n rest node >>= maybe-push-join rest
 
   -- the sources of a node, left before right
   abbrev pub each-source : (ℕ → Node → Answer Node) → ℕ → Node → Answer Node
-  each-source f rest (leaf l) = done (leaf l)
-  each-source f rest (over o source) = do
+  each-source f rest (leaf og l) = done (leaf og l)
+  each-source f rest (over og o source) = do
     s ← f (rest + over-size o) source
-    done (over o s)
-  each-source f rest (join outer j left right) = do
+    done (over og o s)
+  each-source f rest (join og outer j left right) = do
     l ← f (rest + (node-size right + join-size j)) left
     r ← f (rest + (node-size l + join-size j)) right
-    done (join outer j l r)
+    done (join og outer j l r)
 
   unfoldable pub push-filters-from : ℕ → ℕ → Node → Answer Node
   push-filters-from zero rest node = done node
@@ -88,18 +88,18 @@ module _ (room : ℕ) (schema : Schema) where
 
   -- ======== IndexLookup. A scan's normal form counts for room also where nothing is found and the original filter stays.
 
-  unfoldable pub index-lookup : ℕ → Leaf → Answer Node
-  index-lookup rest l = if-room (normal-forms-fit (scan-filter l)) (leaf l) >>= λ n. step rest (Optimizer.index-lookup schema l)
+  unfoldable pub index-lookup : ℕ → ℕ → Leaf → Answer Node
+  index-lookup og rest l = if-room (normal-forms-fit (scan-filter l)) (leaf og l) >>= λ n. step rest (Optimizer.index-lookup schema og l)
 
   unfoldable pub IndexLookup : ℕ → Node → Answer Node
-  IndexLookup rest (leaf l) = index-lookup rest l
-  IndexLookup rest (over o source) = do
+  IndexLookup rest (leaf og l) = index-lookup og rest l
+  IndexLookup rest (over og o source) = do
     s ← IndexLookup (rest + over-size o) source
-    done (over o s)
-  IndexLookup rest (join outer j left right) = do
+    done (over og o s)
+  IndexLookup rest (join og outer j left right) = do
     l ← IndexLookup (rest + (node-size right + join-size j)) left
     r ← IndexLookup (rest + (node-size l + join-size j)) right
-    done (join outer j l r)
+    done (join og outer j l r)
 
   -- ======== ShortCircuit: sources before the node
 
@@ -107,12 +107,12 @@ module _ (room : ℕ) (schema : Schema) where
   short-circuit rest node = step rest (Optimizer.short-circuit schema node)
 
   unfoldable pub ShortCircuit : ℕ → Node → Answer Node
-  ShortCircuit rest (leaf l) = short-circuit rest (leaf l)
-  ShortCircuit rest (over o source) = ShortCircuit (rest + over-size o) source >>= λ s. short-circuit rest (over o s)
-  ShortCircuit rest (join outer j left right) = do
+  ShortCircuit rest (leaf og l) = short-circuit rest (leaf og l)
+  ShortCircuit rest (over og o source) = ShortCircuit (rest + over-size o) source >>= λ s. short-circuit rest (over og o s)
+  ShortCircuit rest (join og outer j left right) = do
     l ← ShortCircuit (rest + (node-size right + join-size j)) left
     r ← ShortCircuit (rest + (node-size l + join-size j)) right
-    short-circuit rest (join outer j l r)
+    short-circuit rest (join og outer j l r)
 
   -- ======== one optimizer by its number, and the five in turn
 

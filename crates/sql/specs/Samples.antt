@@ -14,34 +14,34 @@ abbrev pub keyed : Schema
 keyed = record { name = 7; primary-key = 0; columns = record { name = 8; kind = Integer; index = false } ∷ [] } ∷ []
 
 abbrev pub scanned : Node
-scanned = leaf (scan 0 none none)
+scanned = leaf 0 (scan 0 none none)
 
 abbrev pub one-row : List Expression → Node
-one-row row = leaf (values (row ∷ []))
+one-row row = leaf 0 (values ((row, 0) ∷ []))
 
 abbrev pub number : ℕ → Expression
-number n = constant (datum (integer (pos n)))
+number n = constant 0 (datum (integer (pos n)))
 
 abbrev pub double : ℕ → Expression
-double bits = constant (datum (float bits))
+double bits = constant 0 (datum (float bits))
 
 abbrev pub equals : Expression → Expression → Expression
-equals = binary Equal
+equals = binary 0 Equal
 
 abbrev pub plus : Expression → Expression → Expression
-plus = binary (function Add)
+plus = binary 0 (function Add)
 
 abbrev pub divided-by : Expression → Expression → Expression
-divided-by = binary (function Divide)
+divided-by = binary 0 (function Divide)
 
 abbrev pub A : Expression
-A = column 0
+A = column 0 0
 
 abbrev pub B : Expression
-B = column 1
+B = column 0 1
 
 abbrev pub C : Expression
-C = column 2
+C = column 0 2
 
 abbrev pub D : Expression
-D = column 3
+D = column 0 3

@@ -9,11 +9,11 @@ use lib.Seq.{take-take, take-at, length-take-le}
 use lib.Dec.{leb}
 use borrow.Author.Tests.{le-leb, lt-leb}
 use Rattle.sql.specs.Schema.{Schema}
-use Rattle.sql.specs.Plan.{Node, node-size}
+use Rattle.sql.specs.Plan.{node-origin, Node, node-size}
 use Rattle.sql.specs.Answer.{Answer, done, refused, _>>=_}
 use Rattle.sql.specs.Room.{if-room}
 use Rattle.cells.specs.declared.Cell.{Cell}
-use Rattle.cells.specs.Cells.{words, sized, cell-at, Part}
+use Rattle.cells.specs.Cells.{cell-words, words, sized, cell-at, Part}
 use Rattle.cells.specs.Room.{most-words, Short, Wrote, Puts, Copies}
 use Rattle.cells.proofs.Laws as cells
 use Rattle.cells.proofs.Laws.{then, fits, full, lt-or-ge}
@@ -35,7 +35,7 @@ module _ {Lent : Schema → Type 0} {x : List ℕ} {lo hi tail : ℕ} {y : List 
   pub stream-node : NodeAt x lo hi
   stream-node = record { p = g .p; here = g .reading .here }
 
-  pub stream-in : (lo + 6 ≤ hi) × (hi ≤ length x)
+  pub stream-in : (lo + cell-words ≤ hi) × (hi ≤ length x)
   stream-in = node-in (g .p) (g .reading .here)
 
   pub stream-fits : at + (hi - lo) + tail ≤ length y
@@ -167,19 +167,19 @@ past {y} {end = end} c s z =
     let l = length-replicate {A = ℕ} end 0 in
     full (s .0 y (replicate end 0) refl (cells.no-room (omega arith) z)) (omega (arith, sized-long (replicate end 0) c))
 
-pub finished : {x : List ℕ} {m hi : ℕ} {y : List ℕ} {at u end n : ℕ} {y₁ y₂ : List ℕ} {c : Cell} → length y₁ ≡ length y → Copies x m (hi - 6) y u end y₁
+pub finished : {x : List ℕ} {m hi : ℕ} {y : List ℕ} {at u end n : ℕ} {y₁ y₂ : List ℕ} {c : Cell} → length y₁ ≡ length y → Copies x m (hi - cell-words) y u end y₁
     → c ≡ cell-at x hi → Puts y₁ at end c n y₂ → Finishes x m hi y at u n y₂
 finished {x} {m} {hi} {y} {at} {u} {end} {n} {y₁} {y₂} {c} k a q s = record {
   writes = λ own p h. ⊎-elim
       (λ (z : length y₁ < end).
-      let j = length-append own (words (cell-at x hi) (u + length own - at + 6)) in
+      let j = length-append own (words (cell-at x hi) (u + length own - at + cell-words)) in
       record { is = λ r. absurd (let d = past c s z in omega arith); room = λ r o. absurd (let d = a own p .room (omega arith) (omega arith) in omega arith) })
       (λ (z : end ≤ length y₁). there own p h z) (lt-or-ge (length y₁) end);
   before = λ own p h. ⊎-elim (λ (z : length y₁ < end). let d = past c s z in omega arith)
       (λ (z : end ≤ length y₁). let e = cells.wrote-up (a own p) (omega arith) in let d = s .1 (omega arith) in omega arith) (lt-or-ge (length y₁) end);
 }
   where
-    there : (own : List ℕ) → Part x m (hi - 6) own → at ≤ u + length own → end ≤ length y₁ → Wrote y u (own ++ words (cell-at x hi) (u + length own - at + 6)) n y₂
+    there : (own : List ℕ) → Part x m (hi - cell-words) own → at ≤ u + length own → end ≤ length y₁ → Wrote y u (own ++ words (cell-at x hi) (u + length own - at + cell-words)) n y₂
     there own p h z =
         let (e, t) = a own p .is (omega arith) in
         let b = drop at (take end y₁) in
@@ -187,15 +187,15 @@ finished {x} {m} {hi} {y} {at} {u} {end} {n} {y₁} {y₂} {c} k a q s = record 
         let (f, i) = v .is z in
         let g = s .0 y₁ b refl v in
         let l = sized-long b c in
-        let j = length-append own (words (cell-at x hi) (u + length own - at + 6)) in
-        let size : length b + 6 ≡ u + length own - at + 6 = omega arith in
+        let j = length-append own (words (cell-at x hi) (u + length own - at + cell-words)) in
+        let size : length b + cell-words ≡ u + length own - at + cell-words = omega arith in
         record {
           is = λ r. let (e₁, t₁) = g .is (omega arith) in (
             omega arith,
             t₁
-                ∙ sym (append-assoc (take at y₁) b (words c (length b + 6)))
-                ∙ ap (λ (w : List ℕ). w ++ words c (length b + 6)) (sym i ∙ t)
-                ∙ append-assoc (take u y) own (words c (length b + 6))
+                ∙ sym (append-assoc (take at y₁) b (words c (length b + cell-words)))
+                ∙ ap (λ (w : List ℕ). w ++ words c (length b + cell-words)) (sym i ∙ t)
+                ∙ append-assoc (take u y) own (words c (length b + cell-words))
                 ∙ ap₂ (λ (d : Cell) (o : ℕ). take u y ++ (own ++ words d o)) q size,
           );
           room = λ r o. let d = g .room (omega arith) (omega arith) in omega arith;
@@ -203,28 +203,28 @@ finished {x} {m} {hi} {y} {at} {u} {end} {n} {y₁} {y₂} {c} k a q s = record 
 
 -- of the node whose own words they are, behind whatever was written from `at` on
 pub finishes-node : {x : List ℕ} {m hi : ℕ} {y : List ℕ} {at u n : ℕ} {y₁ : List ℕ} → Finishes x m hi y at u n y₁ → (lo : ℕ) (p : Node) → NodeHere x lo hi p → OwnStart x lo hi m
-    → (y₀ b : List ℕ) → length y ≡ length y₀ → Wrote y₀ at b u y → Wrote y₀ at (sized (b ++ own-words p) (cell (node-cell p))) n y₁
+    → (y₀ b : List ℕ) → length y ≡ length y₀ → Wrote y₀ at b u y → Wrote y₀ at (sized (b ++ own-words p) (cell (node-origin p) (node-cell p))) n y₁
 finishes-node {x} {m} {hi} {y} {at} {u} {n} {y₁} f lo p h own y₀ b k w =
     ⊎-elim full-there fits-there (lt-or-ge (length y) u)
   where
-    part : Part x m (hi - 6) (own-words p)
+    part : Part x m (hi - cell-words) (own-words p)
     part = own-part p h (own p h)
 
-    full-there : length y < u → Wrote y₀ at (sized (b ++ own-words p) (cell (node-cell p))) n y₁
+    full-there : length y < u → Wrote y₀ at (sized (b ++ own-words p) (cell (node-origin p) (node-cell p))) n y₁
     full-there z =
-        let l = sized-long (b ++ own-words p) (cell (node-cell p)) in
+        let l = sized-long (b ++ own-words p) (cell (node-origin p) (node-cell p)) in
         let j = length-append b (own-words p) in
         let past : length y < n =
         ⊎-elim (λ (i : u + length (own-words p) < at). f .before (own-words p) part i)
         (λ (i : at ≤ u + length (own-words p)). full (f .writes (own-words p) part i) (omega arith)) (lt-or-ge (u + length (own-words p)) at) in
         record { is = λ r. absurd (omega arith); room = λ r o. absurd (let d = w .room (omega arith) (omega arith) in omega arith) }
 
-    fits-there : u ≤ length y → Wrote y₀ at (sized (b ++ own-words p) (cell (node-cell p))) n y₁
+    fits-there : u ≤ length y → Wrote y₀ at (sized (b ++ own-words p) (cell (node-origin p) (node-cell p))) n y₁
     fits-there z =
         let e = cells.wrote-up w (omega arith) in
         let j = length-append b (own-words p) in
-        let size = u + length (own-words p) - at + 6 in
-        let i : size ≡ length (b ++ own-words p) + 6 = omega arith in
+        let size = u + length (own-words p) - at + cell-words in
+        let i : size ≡ length (b ++ own-words p) + cell-words = omega arith in
         subst (λ (d : Cell). Wrote y₀ at (sized (b ++ own-words p) d) n y₁) (node-cell-is p h)
         (subst (λ (o : ℕ). Wrote y₀ at ((b ++ own-words p) ++ words (cell-at x hi) o) n y₁) i
         (subst (λ (l : List ℕ). Wrote y₀ at l n y₁) (sym (append-assoc b (own-words p) (words (cell-at x hi) size)))
@@ -248,7 +248,7 @@ module _ (x : List ℕ) (t : ℕ) (p : Node) (e : take t x ≡ node-words p) (h 
             };
       }
 
-  module _ (schema : Schema) (text : List ℕ) (tables : ℕ) (fit : Kept schema text tables p p) (y : List ℕ) (room : ℕ) (a : length y ≡ 6 * room) (short : Short y) (f : t ≤ length y) where
+  module _ (schema : Schema) (text : List ℕ) (tables : ℕ) (fit : Kept schema text tables p p) (y : List ℕ) (room : ℕ) (a : length y ≡ cell-words * room) (short : Short y) (f : t ≤ length y) where
     pub top-reading : Reading schema text tables x 0 t 0 y 0 room 0 p
     top-reading = record { fit = fit; here = top-here; shares = record { all = a; short = short; outside = refl }; fits = omega arith }
 

@@ -33,7 +33,7 @@ use Rattle.structure.proofs.Stack.{stacked-length, reduced-length}
 
 -- A cell that breaks no layout has a content.
 pub cell-known : (s : List ℕ) → Sheet.bad-cell s ≡ none → (i : ℕ) → i < cell-count s → Known (text s) (Sheet.cell s i)
-cell-known s e i h = content-known (text s) (tables-at s) (table-count s) (Sheet.cell s i) (cells-pass s e i h)
+cell-known s e i h = content-known (text s) (Sheet.origins s) (tables-at s) (table-count s) (Sheet.cell s i) (cells-pass s e i h)
 
 -- ---- the reading
 
@@ -60,9 +60,9 @@ after-sorts : (t : List ℕ) (x : Sheet.Cell) (trees : Stack) → Known t x
     → sorted (after t x trees) ≡ reduced (sort-of (content-of t x)) (children-of (content-of t x)) (sorts trees)
 after-sorts t x trees k = go (content-of t x) (k .content) (k .is)
   where
-    go : (o : Option Content) (c : Content) → o ≡ some c → sorted (bind o (λ c. reduce c trees)) ≡ reduced (sort-of o) (children-of o) (sorts trees)
+    go : (o : Option Content) (c : Content) → o ≡ some c → sorted (bind o (λ c. reduce (x .origin) c trees)) ≡ reduced (sort-of o) (children-of o) (sorts trees)
     go none c e = let z : _≡_ {A = ℕ} 0 1 = cc in absurd (omega arith)
-    go (some c′) c e = reduce-sorts c′ trees
+    go (some c′) c e = reduce-sorts (x .origin) c′ trees
 
 module _ {s a : List ℕ} {height i : ℕ} (g : Going s a height i) {p : Parts} (l : Laid s p) where
   -- The code has read cell i.
@@ -137,10 +137,10 @@ module _ {s a : List ℕ} {height i : ℕ} (g : Going s a height i) {p : Parts} 
     ends-one p q = sole (g .trees) (g .stand ∙ rw (p, q)) ∙ all-read
       where
         expression-low : (x : Expression) → expression-sort x < 3
-        expression-low (constant v) = omega arith
-        expression-low (column c) = omega arith
-        expression-low (unary o x) = omega arith
-        expression-low (binary o l r) = omega arith
+        expression-low (constant og v) = omega arith
+        expression-low (column og c) = omega arith
+        expression-low (unary og o x) = omega arith
+        expression-low (binary og o l r) = omega arith
 
         sole : (st : Stack) → sorts st ≡ Sort.node ∷ [] → none ≡ place (sole-node (cell-count s) st)
         sole [] e = let z : _≡_ {A = ℕ} 0 1 = cc in absurd (omega arith)

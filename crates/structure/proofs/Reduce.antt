@@ -29,10 +29,10 @@ there (some a) = true
 all-serve : (t : Tree)
     → there (a-constant t) ∷ there (an-expression t) ∷ there (a-label t) ∷ there (an-item t) ∷ there (a-key t) ∷ there (a-target t) ∷ there (an-agg t) ∷ there (a-row t) ∷ there (a-node t) ∷ []
     ≡ map (serves (tree-sort t)) (1 ∷ 2 ∷ 3 ∷ 4 ∷ 5 ∷ 6 ∷ 7 ∷ 8 ∷ 9 ∷ [])
-all-serve (expression-tree (constant v)) = refl
-all-serve (expression-tree (column i)) = refl
-all-serve (expression-tree (unary o x)) = refl
-all-serve (expression-tree (binary o l r)) = refl
+all-serve (expression-tree (constant og v)) = refl
+all-serve (expression-tree (column og i)) = refl
+all-serve (expression-tree (unary og o x)) = refl
+all-serve (expression-tree (binary og o l r)) = refl
 all-serve (label-tree x) = refl
 all-serve (item-tree x) = refl
 all-serve (key-tree x) = refl
@@ -152,38 +152,38 @@ if-any-leaves h true st = child-leaves expressions (record { is = λ e rest. h .
 -- ---- the law
 
 -- A cell on a stack of trees, and on the stack of their sorts.
-pub reduce-sorts : (k : Content) (st : Stack) → sorted (reduce k st) ≡ reduced (Arity.sort k) (Arity.children k) (sorts st)
+pub reduce-sorts : (og : ℕ) (k : Content) (st : Stack) → sorted (reduce og k st) ≡ reduced (Arity.sort k) (Arity.children k) (sorts st)
 unfolding reduce taken
-reduce-sorts (constant-cell v) st = refl
-reduce-sorts (column-cell i) st = refl
-reduce-sorts (unary-cell o) st = child-leaves expressions (record { is = λ x rest. refl }) st
-reduce-sorts (binary-cell o) st = two-leave expressions (λ r. record { is = λ l rest. refl }) st
-reduce-sorts (label-cell l) st = refl
-reduce-sorts (item-cell l) st = child-leaves expressions (record { is = λ e rest. refl }) st
-reduce-sorts (key-cell d) st = child-leaves expressions (record { is = λ e rest. refl }) st
-reduce-sorts (target-cell t) st = refl
-reduce-sorts (agg-cell f) st = child-leaves expressions (record { is = λ e rest. refl }) st
-reduce-sorts (row-cell n) st = children-leaves expressions (record { is = λ es rest. refl }) n st
-reduce-sorts (aggregate-cell n m) st =
+reduce-sorts og (constant-cell v) st = refl
+reduce-sorts og (column-cell i) st = refl
+reduce-sorts og (unary-cell o) st = child-leaves expressions (record { is = λ x rest. refl }) st
+reduce-sorts og (binary-cell o) st = two-leave expressions (λ r. record { is = λ l rest. refl }) st
+reduce-sorts og (label-cell l) st = refl
+reduce-sorts og (item-cell l) st = child-leaves expressions (record { is = λ e rest. refl }) st
+reduce-sorts og (key-cell d) st = child-leaves expressions (record { is = λ e rest. refl }) st
+reduce-sorts og (target-cell t) st = refl
+reduce-sorts og (agg-cell f) st = child-leaves expressions (record { is = λ e rest. refl }) st
+reduce-sorts og (row-cell n) st = children-leaves expressions (record { is = λ es rest. refl }) n st
+reduce-sorts og (aggregate-cell n m) st =
     children-leaves aggs
     (record {
       is = λ gs below. children-leaves expressions (record { is = λ es low. child-leaves nodes (record { is = λ s rest. refl }) low }) n below;
     })
     m st
-reduce-sorts filter-cell st = child-leaves expressions (record { is = λ e below. child-leaves nodes (record { is = λ s rest. refl }) below }) st
-reduce-sorts (hash-join-cell o i j) st = two-leave nodes (λ r. record { is = λ l rest. refl }) st
-reduce-sorts (index-lookup-cell t al i n) st = children-leaves constants (record { is = λ vs rest. refl }) n st
-reduce-sorts (key-lookup-cell t al n) st = children-leaves constants (record { is = λ vs rest. refl }) n st
-reduce-sorts (limit-cell n) st = child-leaves nodes (record { is = λ s rest. refl }) st
-reduce-sorts (offset-cell n) st = child-leaves nodes (record { is = λ s rest. refl }) st
-reduce-sorts (nested-loop-join-cell p o) st =
+reduce-sorts og filter-cell st = child-leaves expressions (record { is = λ e below. child-leaves nodes (record { is = λ s rest. refl }) below }) st
+reduce-sorts og (hash-join-cell o i j) st = two-leave nodes (λ r. record { is = λ l rest. refl }) st
+reduce-sorts og (index-lookup-cell t al i n) st = children-leaves constants (record { is = λ vs rest. refl }) n st
+reduce-sorts og (key-lookup-cell t al n) st = children-leaves constants (record { is = λ vs rest. refl }) n st
+reduce-sorts og (limit-cell n) st = child-leaves nodes (record { is = λ s rest. refl }) st
+reduce-sorts og (offset-cell n) st = child-leaves nodes (record { is = λ s rest. refl }) st
+reduce-sorts og (nested-loop-join-cell p o) st =
     if-any-leaves (record { is = λ e below. two-leave nodes (λ r. record { is = λ l rest. refl }) below }) p st
-reduce-sorts (nothing-cell n) st = children-leaves labels (record { is = λ ls rest. refl }) n st
-reduce-sorts (order-cell n) st =
+reduce-sorts og (nothing-cell n) st = children-leaves labels (record { is = λ ls rest. refl }) n st
+reduce-sorts og (order-cell n) st =
     children-leaves keys (record { is = λ ps below. child-leaves nodes (record { is = λ s rest. refl }) below }) n st
-reduce-sorts (projection-cell n) st =
+reduce-sorts og (projection-cell n) st =
     children-leaves items (record { is = λ ps below. child-leaves nodes (record { is = λ s rest. refl }) below }) n st
-reduce-sorts (remap-cell n) st =
+reduce-sorts og (remap-cell n) st =
     children-leaves targets (record { is = λ ps below. child-leaves nodes (record { is = λ s rest. refl }) below }) n st
-reduce-sorts (scan-cell f t al) st = if-any-leaves (record { is = λ e rest. refl }) f st
-reduce-sorts (values-cell n) st = children-leaves rows (record { is = λ rs rest. refl }) n st
+reduce-sorts og (scan-cell f t al) st = if-any-leaves (record { is = λ e rest. refl }) f st
+reduce-sorts og (values-cell n) st = children-leaves rows (record { is = λ rs rest. refl }) n st

@@ -160,7 +160,7 @@ module _ (k : Cell) {asked : Children} (is : Asked (k .tag) (k .flag) (k .a) (k 
   of-content : {sort : ℕ} (text st : List ℕ) → sort ≡ sort-of (content-of text (as-cell k))
       → reduced sort asked st ≡ reduced (sort-of (content-of text (as-cell k))) (children-of (content-of text (as-cell k))) st
   of-content text st p =
-      let q : asked ≡ children-of (content-of text (as-cell k)) = is .is text (k .zeros) in
+      let q : asked ≡ children-of (content-of text (as-cell k)) = is .is text (k .origin) in
       rw (p, q)
 
   module _ {a : List ℕ} {height : ℕ} {aggs : Found} (t : Takes a height Sort.agg (asked .aggs) aggs) where
@@ -203,7 +203,7 @@ pub leaf-reduces : (k : Cell) {a : List ℕ} {height sort : ℕ} → k .tag < 10
     → Reduces a height k (At (height + 1)) (set a height sort)
 unfolding taken
 leaf-reduces k {a} {height} {sort} h l s =
-    let asked = asked-by {tag = k .tag} {flag = k .flag} {a = k .a} {b = k .b} {c = k .c} childless 0 10 (λ text zeros. refl) (omega arith) (omega arith) (omega arith) refl in
+    let asked = asked-by {tag = k .tag} {flag = k .flag} {a = k .a} {b = k .b} {c = k .c} childless 0 10 (λ text origin. refl) (omega arith) (omega arith) (omega arith) refl in
     record {
       is = λ text. ap some (stacked-push a height sort l) ∙ of-content k asked text (stacked a height) (s .is text (as-cell k) refl);
     }
@@ -212,7 +212,7 @@ leaf-reduces k {a} {height} {sort} h l s =
 pub binary-reduces : (k : Cell) {a : List ℕ} {height : ℕ} {r : Found} {after : List ℕ} → 10 ≤ k .tag → k .tag < 17 → Operates a height r after
     → Reduces a height k r after
 binary-reduces k {a} {height} h i o =
-    let asked = asked-by {tag = k .tag} {flag = k .flag} {a = k .a} {b = k .b} {c = k .c} (parts-only Sort.expression 2) 10 7 (λ text zeros. refl) h (omega arith) (omega arith) refl in
+    let asked = asked-by {tag = k .tag} {flag = k .flag} {a = k .a} {b = k .b} {c = k .c} (parts-only Sort.expression 2) 10 7 (λ text origin. refl) h (omega arith) (omega arith) refl in
     let sort = sorted-by {tag = k .tag} (λ t. Sort.expression) 10 7 (λ text x. refl) h (omega arith) (omega arith) in
     record { is = λ text. o .is ∙ of-content k asked text (stacked a height) (sort .is text (as-cell k) refl) }
 

@@ -10,10 +10,10 @@ use Rattle.arity.specs.Sort
 use Rattle.arity.specs.declared.Children.{Children}
 
 abbrev pub expression-sort : Expression → ℕ
-expression-sort (constant v) = Sort.constant
-expression-sort (column i) = Sort.expression
-expression-sort (unary o x) = Sort.expression
-expression-sort (binary o l r) = Sort.expression
+expression-sort (constant og v) = Sort.constant
+expression-sort (column og i) = Sort.expression
+expression-sort (unary og o x) = Sort.expression
+expression-sort (binary og o l r) = Sort.expression
 
 abbrev pub tree-sort : Tree → ℕ
 tree-sort (expression-tree e) = expression-sort e

@@ -10,6 +10,7 @@ use lib.Dec.{leb, ltb, eqb}
 use lib.ListN.{length, getD, set, replicate, length-set, getD-replicate}
 use lib.Seq.{getD-set-same, getD-set-other}
 use borrow.Author.Tests.{le-leb, lt-leb, lt-ltb, le-ltb, ne-eqb, eqb-true, eqb-false}
+use Rattle.sql.specs.Expression.{Marked}
 use Rattle.sql.specs.Plan.{Over, filter, other, limit, offset, order, projection, remap, aggregate, Node, leaf, over, join}
 use Rattle.sheet.specs.Parts.{tables-at, table-count, cell-count}
 use Rattle.sheet.specs.Cell.{Cell, cell}
@@ -175,10 +176,10 @@ module _ (s : List ℕ) where
 -- ---- what reading a sheet's cells gives
 
 module _ (text : List ℕ) (bytes tables : ℕ) where
-  below : (ts : List (Option ℕ)) → All (λ t. Exact-cell text bytes tables (target-cell t)) ts → Below ts
+  below : (ts : List (Marked (Option ℕ))) → All (λ t. Exact-cell text bytes tables (target-cell (t .0))) ts → Below ts
   below [] e = tt
-  below (none ∷ ts) e = below ts (e .1)
-  below (some t ∷ ts) e = (e .0 .0, below ts (e .1))
+  below ((none, og) ∷ ts) e = below ts (e .1)
+  below ((some t, og) ∷ ts) e = (e .0 .0, below ts (e .1))
 
   below-over : (o : Over) → Each-over (Exact-cell text bytes tables) o → Below-over o
   below-over (filter x) e = tt
@@ -190,9 +191,9 @@ module _ (text : List ℕ) (bytes tables : ℕ) where
   below-over (other (aggregate es gs)) e = tt
 
   below-node : (n : Node) → Each (Exact-cell text bytes tables) n → Below-node n
-  below-node (leaf l) e = tt
-  below-node (over o n) e = (below-node n (e .0), below-over o (e .1))
-  below-node (join outer j l r) e = (below-node l (e .0), below-node r (e .1 .0))
+  below-node (leaf og l) e = tt
+  below-node (over og o n) e = (below-node n (e .0), below-over o (e .1))
+  below-node (join og outer j l r) e = (below-node l (e .0), below-node r (e .1 .0))
 
 -- An answer of the walk over a sheet's cells is the one asked for.
 pub repeats : (s : List ℕ) (r : Found) → Bytes s → found r ≡ walk 0 [] (cells-of s) → Repeats s r

@@ -10,7 +10,7 @@ use lib.Dec.{leb, eqb}
 use lib.ListN.{length}
 use borrow.Author.Tests.{lt-leb}
 use Rattle.sql.specs.Schema.{Schema}
-use Rattle.sql.specs.Expression.{Expression}
+use Rattle.sql.specs.Expression.{Marked, Expression}
 use Rattle.sql.specs.Plan.{Leaf, scan, lookup, nothing, values, Over, filter, other, limit, offset, order, projection, remap, aggregate, Join, nested-loop, hash, Node, leaf, over, join, over-size, node-size}
 use Rattle.sheet.specs.Cell.{Cell}
 use Rattle.sheet.specs.Cells.{all-cells, row-cells, target-cells, over-cells, join-cells, cells}
@@ -38,8 +38,8 @@ record Calm (k : Cell) : Type 0 where
 calm : {ks : List Cell} → Each Inner ks → Each Calm ks
 calm e = each-map (λ k i. record { node = i .node; target = i .target }) e
 
-row-calm : (es : List Expression) → Each Calm (row-cells es)
-row-calm es = each-append (calm (expressions-inner es)) (next (record { node = refl; target = refl }) end)
+row-calm : (es : Marked (List Expression)) → Each Calm (row-cells es)
+row-calm es = each-append (calm (expressions-inner (es .0))) (next (record { node = refl; target = refl }) end)
 
 leaf-calm : (l : Leaf) → Each Calm (leaf-own l)
 leaf-calm (scan t al f) = calm (optional-inner f)
@@ -68,22 +68,22 @@ walk-told at before ks {own = own} t c =
 -- ---- Targets
 
 -- Targets are below 256.
-abbrev pub Below : List (Option ℕ) → Type 0
+abbrev pub Below : List (Marked (Option ℕ)) → Type 0
 Below [] = Unit
-Below (none ∷ ts) = Below ts
-Below (some t ∷ ts) = (t < 256) × Below ts
+Below ((none, og) ∷ ts) = Below ts
+Below ((some t, og) ∷ ts) = (t < 256) × Below ts
 
 met-or : (m : Bool) (at : ℕ) {x : Option ℕ} (y z : Option ℕ) → x ≡ first-of y z → cond m (some at) x ≡ first-of (elim m [ true ↦ some at | false ↦ y ]) z
 met-or true at y z e = refl
 met-or false at y z e = e
 
-walk-targets : (at : ℕ) (before : List ℕ) (ts : List (Option ℕ)) → Below ts → (k : Cell) (ks : List Cell) → is-node (k .tag) ≡ true
+walk-targets : (at : ℕ) (before : List ℕ) (ts : List (Marked (Option ℕ))) → Below ts → (k : Cell) (ks : List Cell) → is-node (k .tag) ≡ true
     → walk at before (all-cells target-cells ts ++ (k ∷ ks)) ≡ first-of (repeated before at ts) (walk (at + length ts + 1) [] ks)
 walk-targets at before [] b k ks e = rw e (ap (λ (i : ℕ). walk i [] ks) (omega arith))
-walk-targets at before (none ∷ ts) b k ks e =
+walk-targets at before ((none, og) ∷ ts) b k ks e =
     walk-targets (suc at) before ts b k ks e
     ∙ ap (λ (i : ℕ). first-of (repeated before (suc at) ts) (walk i [] ks)) (omega arith)
-walk-targets at before (some t ∷ ts) b k ks e =
+walk-targets at before ((some t, og) ∷ ts) b k ks e =
     rw (lt-leb 256 t (b .0))
     (met-or (member t before) at (repeated (t ∷ before) (suc at) ts) (walk (at + suc (length ts) + 1) [] ks)
     (walk-targets (suc at) (t ∷ before) ts (b .1) k ks e
@@ -99,37 +99,37 @@ Below-over (other (remap ts)) = Below ts
 Below-over (other (aggregate es gs)) = Unit
 
 abbrev pub Below-node : Node → Type 0
-Below-node (leaf l) = Unit
-Below-node (over o n) = Below-node n × Below-over o
-Below-node (join outer j l r) = Below-node l × Below-node r
+Below-node (leaf og l) = Unit
+Below-node (over og o n) = Below-node n × Below-over o
+Below-node (join og outer j l r) = Below-node l × Below-node r
 
-walk-over : (at : ℕ) (o : Over) → Below-over o → (ks : List Cell) → walk at [] (over-cells o ++ ks) ≡ first-of (over-repeated at o) (walk (at + over-size o) [] ks)
-walk-over at (filter e) b ks = walk-told at [] ks (over-told [] 0 0 (filter e)) (calm (expression-inner e))
-walk-over at (other (limit m)) b ks = walk-told at [] ks (over-told [] 0 0 (other (limit m))) end
-walk-over at (other (offset m)) b ks = walk-told at [] ks (over-told [] 0 0 (other (offset m))) end
-walk-over at (other (order xs)) b ks = walk-told at [] ks (over-told [] 0 0 (other (order xs))) (calm (keys-inner xs))
-walk-over at (other (projection xs)) b ks = walk-told at [] ks (over-told [] 0 0 (other (projection xs))) (calm (items-inner xs))
-walk-over at (other (remap ts)) b ks =
-    let t = over-told [] 0 0 (other (remap ts)) in
+walk-over : (at og : ℕ) (o : Over) → Below-over o → (ks : List Cell) → walk at [] (over-cells og o ++ ks) ≡ first-of (over-repeated at o) (walk (at + over-size o) [] ks)
+walk-over at og (filter e) b ks = walk-told at [] ks (over-told [] 0 0 og (filter e)) (calm (expression-inner e))
+walk-over at og (other (limit m)) b ks = walk-told at [] ks (over-told [] 0 0 og (other (limit m))) end
+walk-over at og (other (offset m)) b ks = walk-told at [] ks (over-told [] 0 0 og (other (offset m))) end
+walk-over at og (other (order xs)) b ks = walk-told at [] ks (over-told [] 0 0 og (other (order xs))) (calm (keys-inner xs))
+walk-over at og (other (projection xs)) b ks = walk-told at [] ks (over-told [] 0 0 og (other (projection xs))) (calm (items-inner xs))
+walk-over at og (other (remap ts)) b ks =
+    let t = over-told [] 0 0 og (other (remap ts)) in
     rw (t .cells-are, append-assoc)
     (walk-targets at [] ts b (t .last) ks (t .node) ∙ ap (λ (i : ℕ). first-of (repeated [] at ts) (walk i [] ks)) (omega arith))
-walk-over at (other (aggregate es gs)) b ks = walk-told at [] ks (over-told [] 0 0 (other (aggregate es gs))) (each-append (calm (expressions-inner es)) (calm (aggs-inner gs)))
+walk-over at og (other (aggregate es gs)) b ks = walk-told at [] ks (over-told [] 0 0 og (other (aggregate es gs))) (each-append (calm (expressions-inner es)) (calm (aggs-inner gs)))
 
 pub walk-cells : (at : ℕ) (n : Node) → Indexes n → Below-node n → (ks : List Cell) → walk at [] (cells n ++ ks) ≡ first-of (target-repeated at n) (walk (at + node-size n) [] ks)
 unfolding cells
-walk-cells at (leaf l) h b ks = walk-told at [] ks (leaf-told [] at l h) (leaf-calm l)
-walk-cells at (over o n) h b ks =
+walk-cells at (leaf og l) h b ks = walk-told at [] ks (leaf-told [] at og l h) (leaf-calm l)
+walk-cells at (over og o n) h b ks =
     rw append-assoc
-    (walk-cells at n h (b .0) (over-cells o ++ ks)
-    ∙ ap (first-of (target-repeated at n)) (walk-over (at + node-size n) o (b .1) ks)
+    (walk-cells at n h (b .0) (over-cells og o ++ ks)
+    ∙ ap (first-of (target-repeated at n)) (walk-over (at + node-size n) og o (b .1) ks)
     ∙ simp (first-of-assoc, add-assoc))
-walk-cells at (join outer j l r) h b ks =
+walk-cells at (join og outer j l r) h b ks =
     simp append-assoc
-    (walk-cells at l (h .0) (b .0) (cells r ++ (join-cells outer j ++ ks))
+    (walk-cells at l (h .0) (b .0) (cells r ++ (join-cells og outer j ++ ks))
     ∙ ap (first-of (target-repeated at l))
-    (walk-cells (at + node-size l) r (h .1) (b .1) (join-cells outer j ++ ks)
+    (walk-cells (at + node-size l) r (h .1) (b .1) (join-cells og outer j ++ ks)
     ∙ ap (first-of (target-repeated (at + node-size l) r))
-    (walk-told (at + node-size l + node-size r) [] ks (join-told [] 0 0 0 outer j) (join-calm j)))
+    (walk-told (at + node-size l + node-size r) [] ks (join-told [] 0 0 0 og outer j) (join-calm j)))
     ∙ simp (first-of-assoc, add-assoc))
 
 -- The walk over all cells of a plan.

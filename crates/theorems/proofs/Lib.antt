@@ -6,3 +6,4 @@ pub mod ShutOut
 pub mod Floats
 pub mod FloatExamples
 pub mod Instance
+pub mod Origins

@@ -9,12 +9,12 @@ use lib.Dec.{ltb, eqb}
 use lib.ListN.{length}
 use Rattle.value.specs.Value.{overflow, division-by-zero, mismatch, Result, ok, err}
 use Rattle.sql.specs.Schema.{Schema}
-use Rattle.sql.specs.Expression.{Expression, constant, column, unary, binary, size, bind, evaluate, contains-column}
+use Rattle.sql.specs.Expression.{Marked, origin, Expression, constant, column, unary, binary, size, bind, evaluate, contains-column}
 use Rattle.sql.specs.Plan.{by-key, by-index, Leaf, scan, lookup, nothing, values, limit, offset, order, projection, remap, aggregate, Over, filter, other, Join, nested-loop, hash, Node, leaf, over, join, columns, values-columns, sum, optional-size, row-size, item-size, key-size, aggregate-size, leaf-size, over-size, join-size, node-size}
 use Rattle.sql.specs.Answer.{Answer, done, refused, _>>=_, at-place}
 use Rattle.sql.specs.Optimizer.{fold-by, fold, fold-expression, fold-each, fold-optional, fold-row, fold-part, fold-leaf, fold-over, fold-join, ConstantFolding}
 use Rattle.sheet.specs.Parts.{tables-at, table-count, column-count, cell-count, length-ok, edition-ok, parts-ok, record-ok, first-failing, bad-record}
-use Rattle.sheet.specs.Cell.{Cell, Tag, unknown, not-carried, carried, tag-of, cell, cell-ok, bad-number, bad-cell}
+use Rattle.sheet.specs.Cell.{Cell, Tag, unknown, not-carried, carried, tag-of, cell, cell-ok, origins, bad-number, bad-cell}
 use Rattle.sheet.specs.Tree.{expression-tree, label-tree, item-tree, key-tree, target-tree, agg-tree, row-tree, node-tree, Stack, Read, lacking, stack, after, read}
 use Rattle.sheet.specs.Scope.{first-of, unless, in-each, column-outside, optional-outside, expressions-outside, equally-long, table-columns, leaf-outside, over-outside, join-outside, outside, member, repeated, over-repeated, target-repeated}
 use Rattle.sheet.specs.Check.{text, schema, cells-of, test, unfound, cells-checked, one-plan, in-scope, plan}
@@ -63,10 +63,10 @@ below-failing test i (suc k) = go (test i) (below-failing test (suc i) k)
 -- ---- refusals 9 and 10: what is found in a plan whose cells start at `at` is one of its cells
 
 column-below : (n at : ℕ) (e : Expression) → Below (at + size e) (column-outside n at e)
-column-below n at (constant v) = tt
-column-below n at (column i) = below-unless (at + 1) (ltb i n) at (omega arith)
-column-below n at (unary o x) = below-more (at + size x) (at + suc (size x)) (column-outside n at x) (omega arith) (column-below n at x)
-column-below n at (binary o l r) =
+column-below n at (constant og v) = tt
+column-below n at (column og i) = below-unless (at + 1) (ltb i n) at (omega arith)
+column-below n at (unary og o x) = below-more (at + size x) (at + suc (size x)) (column-outside n at x) (omega arith) (column-below n at x)
+column-below n at (binary og o l r) =
     below-first (at + suc (size l + size r)) (column-outside n at l) (column-outside n (at + size l) r)
     (below-more (at + size l) (at + suc (size l + size r)) (column-outside n at l) (omega arith) (column-below n at l))
     (below-more (at + size l + size r) (at + suc (size l + size r)) (column-outside n (at + size l) r) (omega arith) (column-below n (at + size l) r))
@@ -82,8 +82,12 @@ expressions-below n = below-each (column-outside n) size (column-below n)
 closed-below : (n at : ℕ) (e : Expression) → Below (at + suc (size e)) (column-outside n at e)
 closed-below n at e = below-more (at + size e) (at + suc (size e)) (column-outside n at e) (omega arith) (column-below n at e)
 
-row-below : (at : ℕ) (es : List Expression) → Below (at + row-size es) (expressions-outside 0 at es)
-row-below at es = below-more (at + sum size es) (at + row-size es) (expressions-outside 0 at es) (omega arith) (expressions-below 0 at es)
+row-below : (at : ℕ) (row : Marked (List Expression)) → Below (at + row-size row) (expressions-outside 0 at (row .0))
+row-below at row =
+    below-more (at + sum size (row .0)) (at + row-size row) (expressions-outside 0 at (row .0)) (omega arith) (expressions-below 0 at (row .0))
+
+abbrev row-outside : ℕ → Marked (List Expression) → Option ℕ
+row-outside i row = expressions-outside 0 i (row .0)
 
 module _ (tables : Schema) where
   leaf-below : (at : ℕ) (l : Leaf) → Below (at + leaf-size l) (leaf-outside tables at l)
@@ -95,10 +99,10 @@ module _ (tables : Schema) where
   leaf-below at (nothing labels) = tt
   leaf-below at (values rows) =
       let most = at + suc (sum row-size rows) in
-      let each = in-each (expressions-outside 0) row-size at rows in
+      let each = in-each row-outside row-size at rows in
       let long = equally-long (values-columns rows) rows in
       below-first most each (unless long (at + sum row-size rows))
-      (below-more (at + sum row-size rows) most each (omega arith) (below-each (expressions-outside 0) row-size row-below at rows))
+      (below-more (at + sum row-size rows) most each (omega arith) (below-each row-outside row-size row-below at rows))
       (below-unless most long (at + sum row-size rows) (omega arith))
 
   -- the parts of a node, which stand before its own cell
@@ -130,14 +134,14 @@ module _ (tables : Schema) where
   join-below left right at (hash i j) = below-unless (at + 1) (ltb i left && ltb j right) at (omega arith)
 
   outside-below : (at : ℕ) (n : Node) → Below (at + node-size n) (outside tables at n)
-  outside-below at (leaf l) = leaf-below at l
-  outside-below at (over o source) =
+  outside-below at (leaf og l) = leaf-below at l
+  outside-below at (over og o source) =
       let from = at + node-size source in
       let most = at + (node-size source + over-size o) in
       below-first most (outside tables at source) (over-outside tables (columns tables source) from o)
       (below-more from most (outside tables at source) (omega arith) (outside-below at source))
       (below-more (from + over-size o) most (over-outside tables (columns tables source) from o) (omega arith) (over-below (columns tables source) from o))
-  outside-below at (join outer j left right) =
+  outside-below at (join og outer j left right) =
       let most = at + (node-size left + node-size right + join-size j) in
       let from = at + node-size left in
       let own = join-outside tables (columns tables left) (columns tables right) (from + node-size right) j in
@@ -147,11 +151,11 @@ module _ (tables : Schema) where
       (below-more (from + node-size right) most (outside tables from right) (omega arith) (outside-below from right))
       (below-more (from + node-size right + join-size j) most own (omega arith) (join-below (columns tables left) (columns tables right) (from + node-size right) j)))
 
-repeated-below : (before : List ℕ) (at : ℕ) (ts : List (Option ℕ)) → Below (at + length ts) (repeated before at ts)
+repeated-below : (before : List ℕ) (at : ℕ) (ts : List (Marked (Option ℕ))) → Below (at + length ts) (repeated before at ts)
 repeated-below before at [] = tt
-repeated-below before at (none ∷ ts) =
+repeated-below before at ((none, og) ∷ ts) =
     below-more (suc at + length ts) (at + suc (length ts)) (repeated before (suc at) ts) (omega arith) (repeated-below before (suc at) ts)
-repeated-below before at (some t ∷ ts) = go (member t before) (repeated-below (t ∷ before) (suc at) ts)
+repeated-below before at ((some t, og) ∷ ts) = go (member t before) (repeated-below (t ∷ before) (suc at) ts)
   where
     go : (b : Bool) → Below (suc at + length ts) (repeated (t ∷ before) (suc at) ts)
         → Below (at + suc (length ts)) (elim b [ true ↦ some at | false ↦ repeated (t ∷ before) (suc at) ts ])
@@ -169,14 +173,14 @@ over-repeated-below at (other (remap targets)) =
 over-repeated-below at (other (aggregate es gs)) = tt
 
 target-below : (at : ℕ) (n : Node) → Below (at + node-size n) (target-repeated at n)
-target-below at (leaf l) = tt
-target-below at (over o source) =
+target-below at (leaf og l) = tt
+target-below at (over og o source) =
     let from = at + node-size source in
     let most = at + (node-size source + over-size o) in
     below-first most (target-repeated at source) (over-repeated from o)
     (below-more from most (target-repeated at source) (omega arith) (target-below at source))
     (below-more (from + over-size o) most (over-repeated from o) (omega arith) (over-repeated-below from o))
-target-below at (join outer j left right) =
+target-below at (join og outer j left right) =
     let from = at + node-size left in
     let most = at + (node-size left + node-size right + join-size j) in
     below-first most (target-repeated at left) (target-repeated from right)
@@ -256,7 +260,7 @@ module _ (s : List ℕ) where
       let in-records = below-more (0 + records) records (bad-record s) (omega arith) (below-failing (record-ok s) 0 records) in
       let in-cells =
       below-more (0 + cell-count s) (cell-count s) (bad-cell s) (omega arith)
-      (below-failing (λ i. cell-ok (tables-at s) (table-count s) (cell s i)) 0 (cell-count s)) in
+      (below-failing (λ i. cell-ok (origins s) (tables-at s) (table-count s) (cell s i)) 0 (cell-count s)) in
       tested (length-ok s) _ 2 (omega arith) (omega arith) (omega arith)
       (tested (edition-ok s) _ 3 (omega arith) (omega arith) (omega arith)
       (tested (parts-ok s) _ 4 (omega arith) (omega arith) (omega arith)
@@ -288,24 +292,24 @@ fold-fails most place e h = go (contains-column (λ c. true) e)
   where
     go : (b : Bool) → Fails most (fold-by b place e)
     go true = tt
-    go false = placed most place (bind (evaluate [] e) (λ v. ok (constant v))) h
+    go false = placed most place (bind (evaluate [] e) (λ v. ok (constant (origin e) v))) h
 
 expression-fails : (first : ℕ) (e : Expression) → Fails (first + size e) (fold-expression first e)
-expression-fails first (constant v) = fold-fails (first + 1) first (constant v) (omega arith)
-expression-fails first (column c) = fold-fails (first + 1) first (column c) (omega arith)
-expression-fails first (unary o x) =
+expression-fails first (constant og v) = fold-fails (first + 1) first (constant og v) (omega arith)
+expression-fails first (column og c) = fold-fails (first + 1) first (column og c) (omega arith)
+expression-fails first (unary og o x) =
     let most = first + suc (size x) in
-    fails-then most (fold-expression first x) (λ y. fold (first + size x) (unary o y))
+    fails-then most (fold-expression first x) (λ y. fold (first + size x) (unary og o y))
     (fails-more (first + size x) most (fold-expression first x) (omega arith) (expression-fails first x))
-    (λ y. fold-fails most (first + size x) (unary o y) (omega arith))
-expression-fails first (binary o l r) =
+    (λ y. fold-fails most (first + size x) (unary og o y) (omega arith))
+expression-fails first (binary og o l r) =
     let most = first + suc (size l + size r) in
     let place = first + (size l + size r) in
-    fails-then most (fold-expression first l) (λ x. fold-expression (first + size l) r >>= λ y. fold place (binary o x y))
+    fails-then most (fold-expression first l) (λ x. fold-expression (first + size l) r >>= λ y. fold place (binary og o x y))
     (fails-more (first + size l) most (fold-expression first l) (omega arith) (expression-fails first l))
-    (λ x. fails-then most (fold-expression (first + size l) r) (λ y. fold place (binary o x y))
+    (λ x. fails-then most (fold-expression (first + size l) r) (λ y. fold place (binary og o x y))
     (fails-more (first + size l + size r) most (fold-expression (first + size l) r) (omega arith) (expression-fails (first + size l) r))
-    (λ y. fold-fails most place (binary o x y) (omega arith)))
+    (λ y. fold-fails most place (binary og o x y) (omega arith)))
 
 each-fails : {A : Type 0} (f : ℕ → A → Answer A) (cells : A → ℕ) → ((first : ℕ) (x : A) → Fails (first + cells x) (f first x))
     → (first : ℕ) (xs : List A) → Fails (first + sum cells xs) (fold-each f cells first xs)
@@ -326,11 +330,12 @@ optional-fails : (first : ℕ) (p : Option Expression) → Fails (first + option
 optional-fails first none = tt
 optional-fails first (some e) = fails-then (first + size e) (fold-expression first e) (λ x. done (some x)) (expression-fails first e) (λ x. tt)
 
-row-fails : (first : ℕ) (es : List Expression) → Fails (first + row-size es) (fold-row first es)
-row-fails first es = fails-more (first + sum size es) (first + row-size es) (fold-row first es) (omega arith) (each-fails fold-expression size expression-fails first es)
+row-fails : (first : ℕ) (row : Marked (List Expression)) → Fails (first + row-size row) (fold-row first row)
+row-fails first row =
+    part-fails first (sum size (row .0)) (fold-each fold-expression size first (row .0)) (λ es. (es, row .1)) (each-fails fold-expression size expression-fails first (row .0))
 
-one-part-fails : {A : Type 0} (first : ℕ) (p : Expression × A) → Fails (first + suc (size (p .0))) (fold-part first p)
-one-part-fails first p = part-fails first (size (p .0)) (fold-expression first (p .0)) (λ x. (x, p .1)) (expression-fails first (p .0))
+one-part-fails : {A : Type 0} (first : ℕ) (p : Expression × A × ℕ) → Fails (first + suc (size (p .0))) (fold-part first p)
+one-part-fails first p = part-fails first (size (p .0)) (fold-expression first (p .0)) (λ x. (x, p .1, p .2)) (expression-fails first (p .0))
 
 leaf-fails : (first : ℕ) (l : Leaf) → Fails (first + leaf-size l) (fold-leaf first l)
 leaf-fails first (scan t al p) = part-fails first (optional-size p) (fold-optional first p) (λ q. scan t al q) (optional-fails first p)
@@ -355,21 +360,21 @@ join-fails first (nested-loop p) = part-fails first (optional-size p) (fold-opti
 join-fails first (hash i j) = tt
 
 pub folding-fails : (first : ℕ) (n : Node) → Fails (first + node-size n) (ConstantFolding first n)
-folding-fails first (leaf l) = fails-then (first + leaf-size l) (fold-leaf first l) (λ m. done (leaf m)) (leaf-fails first l) (λ m. tt)
-folding-fails first (over o s) =
+folding-fails first (leaf og l) = fails-then (first + leaf-size l) (fold-leaf first l) (λ m. done (leaf og m)) (leaf-fails first l) (λ m. tt)
+folding-fails first (over og o s) =
     let most = first + (node-size s + over-size o) in
     let own = fold-over (first + node-size s) o in
-    fails-then most own (λ p. ConstantFolding first s >>= λ t. done (over p t))
+    fails-then most own (λ p. ConstantFolding first s >>= λ t. done (over og p t))
     (fails-more (first + node-size s + over-size o) most own (omega arith) (over-fails (first + node-size s) o))
-    (λ p. fails-then most (ConstantFolding first s) (λ t. done (over p t))
+    (λ p. fails-then most (ConstantFolding first s) (λ t. done (over og p t))
     (fails-more (first + node-size s) most (ConstantFolding first s) (omega arith) (folding-fails first s)) (λ t. tt))
-folding-fails first (join outer j a b) =
+folding-fails first (join og outer j a b) =
     let most = first + (node-size a + node-size b + join-size j) in
     let from = first + (node-size a + node-size b) in
     let right = ConstantFolding (first + node-size a) b in
-    fails-then most (fold-join from j) (λ k. ConstantFolding first a >>= λ l. right >>= λ r. done (join outer k l r))
+    fails-then most (fold-join from j) (λ k. ConstantFolding first a >>= λ l. right >>= λ r. done (join og outer k l r))
     (fails-more (from + join-size j) most (fold-join from j) (omega arith) (join-fails from j))
-    (λ k. fails-then most (ConstantFolding first a) (λ l. right >>= λ r. done (join outer k l r))
+    (λ k. fails-then most (ConstantFolding first a) (λ l. right >>= λ r. done (join og outer k l r))
     (fails-more (first + node-size a) most (ConstantFolding first a) (omega arith) (folding-fails first a))
-    (λ l. fails-then most right (λ r. done (join outer k l r))
+    (λ l. fails-then most right (λ r. done (join og outer k l r))
     (fails-more (first + node-size a + node-size b) most right (omega arith) (folding-fails (first + node-size a) b)) (λ r. tt)))

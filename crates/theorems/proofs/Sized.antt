@@ -89,22 +89,22 @@ module _ (room : ℕ) (schema : Schema) where
   done-fits (done a) f h = h a refl
 
   pub folding-fits : (first rest : ℕ) (n : Node) → rest + node-size n ≤ room → fit (Sizes.ConstantFolding first rest n) ≡ true
-  folding-fits first rest (leaf l) h = done-fits (fold-leaf first l) _ (λ m e. let s = leaf-smaller first l m e in step-fits rest (leaf m) (omega arith))
-  folding-fits first rest (over o source) h =
+  folding-fits first rest (leaf og l) h = done-fits (fold-leaf first l) _ (λ m e. let s = leaf-smaller first l m e in step-fits rest (leaf og m) (omega arith))
+  folding-fits first rest (over og o source) h =
       let place = first + node-size source in
       done-fits (fold-over place o) _ (λ p e.
       let s = over-smaller place o p e in
-      left-out (step rest (over p source)) (Sizes.ConstantFolding first (rest + over-size p) source) (step-fits rest (over p source) (omega arith))
+      left-out (step rest (over og p source)) (Sizes.ConstantFolding first (rest + over-size p) source) (step-fits rest (over og p source) (omega arith))
       ∙ folding-fits first (rest + over-size p) source (omega arith))
-  folding-fits first rest (join outer j left right) h =
+  folding-fits first rest (join og outer j left right) h =
       let place = first + (node-size left + node-size right) in
       done-fits (fold-join place j) _ (λ k e.
       let s = join-smaller place j k e in
       let on-left = rest + (node-size right + join-size k) in
       let on-right : Node → List ℕ = λ l. Sizes.ConstantFolding (first + node-size left) (rest + (node-size l + join-size k)) right in
       let folded = Optimizer.ConstantFolding first left in
-      left-out (step rest (join outer k left right)) (Sizes.ConstantFolding first on-left left ++ if-done folded on-right)
-      (step-fits rest (join outer k left right) (omega arith))
+      left-out (step rest (join og outer k left right)) (Sizes.ConstantFolding first on-left left ++ if-done folded on-right)
+      (step-fits rest (join og outer k left right) (omega arith))
       ∙ (left-out (Sizes.ConstantFolding first on-left left) (if-done folded on-right) (folding-fits first on-left left (omega arith))
       ∙ done-fits folded on-right (λ l f.
       let t = folding-smaller first left l f in
@@ -124,8 +124,8 @@ module _ (room : ℕ) (schema : Schema) where
   filter-sized : (k rest : ℕ) → Sized (Room.maybe-push-filter room schema k rest) (Optimizer.maybe-push-filter schema k) (Sizes.maybe-push-filter schema k rest)
   unfolding Room.maybe-push-filter Optimizer.maybe-push-filter Sizes.maybe-push-filter
   filter-sized zero rest n = refl
-  filter-sized (suc k) rest (leaf l) = refl
-  filter-sized (suc k) rest (over (filter p) source) = go (push-into p source) (filter-sized k rest)
+  filter-sized (suc k) rest (leaf og l) = refl
+  filter-sized (suc k) rest (over og (filter p) source) = go (push-into og p source) (filter-sized k rest)
     where
       again : Node → Answer Node
       again = Room.maybe-push-filter room schema k rest
@@ -140,7 +140,7 @@ module _ (room : ℕ) (schema : Schema) where
       sizes pushed = (step rest pushed ++ Sizes.maybe-push-filter schema k rest pushed) ++ Sizes.maybe-push-join schema rest (Optimizer.maybe-push-filter schema k pushed)
 
       go : (o : Option Node) → Sized again (Optimizer.maybe-push-filter schema k) (Sizes.maybe-push-filter schema k rest)
-          → go-on on (over (filter p) source) o ≡ if-room (fit (if-pushed sizes o)) (Optimizer.go-on plain (over (filter p) source) o)
+          → go-on on (over og (filter p) source) o ≡ if-room (fit (if-pushed sizes o)) (Optimizer.go-on plain (over og (filter p) source) o)
       go none ih = refl
       go (some m) ih =
           let n = Optimizer.maybe-push-filter schema k m in
@@ -149,8 +149,8 @@ module _ (room : ℕ) (schema : Schema) where
           ap (λ (r : Answer Node). r >>= Room.maybe-push-join room schema rest) merged
           ∙ then-sized (step rest m ++ Sizes.maybe-push-filter schema k rest m) (Sizes.maybe-push-join schema rest n) n (plain m) (Room.maybe-push-join room schema rest)
           (join-sized rest n)
-  filter-sized (suc k) rest (over (other o) source) = refl
-  filter-sized (suc k) rest (join outer j left right) = refl
+  filter-sized (suc k) rest (over og (other o) source) = refl
+  filter-sized (suc k) rest (join og outer j left right) = refl
 
   push-sized : (k rest : ℕ) → Sized (Room.push-filters room schema k rest) (Optimizer.push-filters schema k) (Sizes.push-filters schema k rest)
   push-sized k rest n =
@@ -160,32 +160,32 @@ module _ (room : ℕ) (schema : Schema) where
       (Room.maybe-push-join room schema rest) (join-sized rest m)
 
   -- a node over a source, and a join, whose sources are visited in turn
-  over-sized : (f : Node → Answer Node) (g : Node → Node) (sizes : List ℕ) (o : Over) (source : Node) → f source ≡ if-room (fit sizes) (g source)
-      → (f source >>= λ s. done (over o s)) ≡ if-room (fit sizes) (over o (g source))
-  over-sized f g sizes o source h = ap (λ (r : Answer Node). r >>= λ s. done (over o s)) h ∙ made (fit sizes) (g source) (over o)
+  over-sized : (og : ℕ) (f : Node → Answer Node) (g : Node → Node) (sizes : List ℕ) (o : Over) (source : Node) → f source ≡ if-room (fit sizes) (g source)
+      → (f source >>= λ s. done (over og o s)) ≡ if-room (fit sizes) (over og o (g source))
+  over-sized og f g sizes o source h = ap (λ (r : Answer Node). r >>= λ s. done (over og o s)) h ∙ made (fit sizes) (g source) (over og o)
 
-  both-sized : (f : ℕ → Node → Answer Node) (g : Node → Node) (sizes : ℕ → Node → List ℕ) (rest : ℕ) (outer : Bool) (j : Join) (left right : Node)
+  both-sized : (og : ℕ) (f : ℕ → Node → Answer Node) (g : Node → Node) (sizes : ℕ → Node → List ℕ) (rest : ℕ) (outer : Bool) (j : Join) (left right : Node)
       → let on-left = rest + (node-size right + join-size j) in
       let on-right = rest + (node-size (g left) + join-size j) in
       f on-left left ≡ if-room (fit (sizes on-left left)) (g left)
       → (fit (sizes on-left left) ≡ true → f on-right right ≡ if-room (fit (sizes on-right right)) (g right))
-      → (f on-left left >>= λ l. f (rest + (node-size l + join-size j)) right >>= λ r. done (join outer j l r))
-      ≡ if-room (fit (sizes on-left left ++ sizes on-right right)) (join outer j (g left) (g right))
-  both-sized f g sizes rest outer j left right h k =
+      → (f on-left left >>= λ l. f (rest + (node-size l + join-size j)) right >>= λ r. done (join og outer j l r))
+      ≡ if-room (fit (sizes on-left left ++ sizes on-right right)) (join og outer j (g left) (g right))
+  both-sized og f g sizes rest outer j left right h k =
       let on-left = rest + (node-size right + join-size j) in
       let on-right = rest + (node-size (g left) + join-size j) in
-      let then : Node → Answer Node = λ l. f (rest + (node-size l + join-size j)) right >>= λ r. done (join outer j l r) in
+      let then : Node → Answer Node = λ l. f (rest + (node-size l + join-size j)) right >>= λ r. done (join og outer j l r) in
       ap (λ (r : Answer Node). r >>= then) h
-      ∙ then-if-fit (sizes on-left left) (sizes on-right right) (g left) (join outer j (g left) (g right)) then
-      (λ e. ap (λ (a : Answer Node). a >>= λ r. done (join outer j (g left) r)) (k e) ∙ made (fit (sizes on-right right)) (g right) (join outer j (g left)))
+      ∙ then-if-fit (sizes on-left left) (sizes on-right right) (g left) (join og outer j (g left) (g right)) then
+      (λ e. ap (λ (a : Answer Node). a >>= λ r. done (join og outer j (g left) r)) (k e) ∙ made (fit (sizes on-right right)) (g right) (join og outer j (g left)))
 
   sources-sized : (f : ℕ → Node → Answer Node) (g : Node → Node) (sizes : ℕ → Node → List ℕ) → ((i : ℕ) → Sized (f i) g (sizes i))
       → (rest : ℕ) → Sized (Room.each-source room schema f rest) (map-sources g) (Sizes.each-source schema g sizes rest)
-  sources-sized f g sizes h rest (leaf l) = refl
-  sources-sized f g sizes h rest (over o source) =
-      over-sized (f (rest + over-size o)) g (sizes (rest + over-size o) source) o source (h (rest + over-size o) source)
-  sources-sized f g sizes h rest (join outer j left right) =
-      both-sized f g sizes rest outer j left right (h (rest + (node-size right + join-size j)) left) (λ e. h (rest + (node-size (g left) + join-size j)) right)
+  sources-sized f g sizes h rest (leaf og l) = refl
+  sources-sized f g sizes h rest (over og o source) =
+      over-sized og (f (rest + over-size o)) g (sizes (rest + over-size o) source) o source (h (rest + over-size o) source)
+  sources-sized f g sizes h rest (join og outer j left right) =
+      both-sized og f g sizes rest outer j left right (h (rest + (node-size right + join-size j)) left) (λ e. h (rest + (node-size (g left) + join-size j)) right)
 
   from-sized : (k rest : ℕ) → Sized (Room.push-filters-from room schema k rest) (Optimizer.push-filters-from schema k) (Sizes.push-filters-from schema k rest)
   unfolding Room.push-filters-from Optimizer.push-filters-from Sizes.push-filters-from
@@ -218,18 +218,18 @@ module _ (room : ℕ) (schema : Schema) where
 
   -- ---- IndexLookup
 
-  leaf-sized : (rest : ℕ) (l : Leaf) → Room.index-lookup room schema rest l ≡ if-room (fit (normal-forms (scan-filter l) ++ step rest (Optimizer.index-lookup schema l))) (Optimizer.index-lookup schema l)
+  leaf-sized : (og rest : ℕ) (l : Leaf) → Room.index-lookup room schema og rest l ≡ if-room (fit (normal-forms (scan-filter l) ++ step rest (Optimizer.index-lookup schema og l))) (Optimizer.index-lookup schema og l)
   unfolding Room.index-lookup
-  leaf-sized rest l = formed (scan-filter l) rest (leaf l) (Optimizer.index-lookup schema l)
+  leaf-sized og rest l = formed (scan-filter l) rest (leaf og l) (Optimizer.index-lookup schema og l)
 
   -- a visit that leaves the node as it is, and then those of its sources, which stay too
   stays : (rest : ℕ) (n : Node) → fit (step rest n ++ Sizes.each-source schema (λ (m : Node). m) step rest n) ≡ fit (step rest n)
-  stays rest (leaf l) = refl
-  stays rest (over o source) =
+  stays rest (leaf og l) = refl
+  stays rest (over og o source) =
       let e : rest + over-size o + node-size source ≡ rest + (node-size source + over-size o) = omega arith in
       let b = leb (rest + (node-size source + over-size o)) room in
       ap (λ (c : ℕ). b && (leb c room && true)) e ∙ and-self-left b true
-  stays rest (join outer j left right) =
+  stays rest (join og outer j left right) =
       let e : rest + (node-size right + join-size j) + node-size left ≡ rest + (node-size left + node-size right + join-size j) = omega arith in
       let f : rest + (node-size left + join-size j) + node-size right ≡ rest + (node-size left + node-size right + join-size j) = omega arith in
       let b = leb (rest + (node-size left + node-size right + join-size j)) room in
@@ -239,46 +239,46 @@ module _ (room : ℕ) (schema : Schema) where
   lookup-sized : (rest : ℕ) (n : Node) → rest + node-size n ≤ room
       → Room.IndexLookup room schema rest n ≡ if-room (fit (Sizes.IndexLookup schema rest n)) (Optimizer.IndexLookup schema n)
   unfolding Room.IndexLookup Optimizer.IndexLookup
-  lookup-sized rest (leaf l) h =
-      let m = Optimizer.index-lookup schema l in
+  lookup-sized rest (leaf og l) h =
+      let m = Optimizer.index-lookup schema og l in
       let forms = normal-forms (scan-filter l) in
       let visits = step rest m ++ Sizes.each-source schema (λ (n : Node). n) step rest m in
-      leaf-sized rest l
+      leaf-sized og rest l
       ∙ ap (λ (t : Bool). if-room t m) (fit-append forms (step rest m) ∙ (ap (λ (t : Bool). fit forms && t) (sym (stays rest m)) ∙ sym (fit-append forms visits)))
-  lookup-sized rest (over o source) h =
+  lookup-sized rest (over og o source) h =
       let sizes = Sizes.IndexLookup schema (rest + over-size o) source in
-      let m = over o (Optimizer.IndexLookup schema source) in
-      over-sized (Room.IndexLookup room schema (rest + over-size o)) (Optimizer.IndexLookup schema) sizes o source
+      let m = over og o (Optimizer.IndexLookup schema source) in
+      over-sized og (Room.IndexLookup room schema (rest + over-size o)) (Optimizer.IndexLookup schema) sizes o source
       (lookup-sized (rest + over-size o) source (omega arith))
-      ∙ ap (λ (t : Bool). if-room t m) (sym (left-out (step rest (over o source)) sizes (step-fits rest (over o source) h)))
-  lookup-sized rest (join outer j left right) h =
+      ∙ ap (λ (t : Bool). if-room t m) (sym (left-out (step rest (over og o source)) sizes (step-fits rest (over og o source) h)))
+  lookup-sized rest (join og outer j left right) h =
       let f = Room.IndexLookup room schema in
       let g = Optimizer.IndexLookup schema in
       let on-left = rest + (node-size right + join-size j) in
       let on-right = rest + (node-size (g left) + join-size j) in
       let sizes = Sizes.IndexLookup schema on-left left ++ Sizes.IndexLookup schema on-right right in
       let on-the-left = lookup-sized on-left left (omega arith) in
-      both-sized f g (Sizes.IndexLookup schema) rest outer j left right on-the-left
+      both-sized og f g (Sizes.IndexLookup schema) rest outer j left right on-the-left
       (λ e.
       let p = lookup-fits room schema on-left left (g left) (on-the-left ∙ ap (λ (t : Bool). if-room t (g left)) e) (omega arith) in
       lookup-sized on-right right (omega arith))
-      ∙ ap (λ (t : Bool). if-room t (join outer j (g left) (g right)))
-      (sym (left-out (step rest (join outer j left right)) sizes (step-fits rest (join outer j left right) h)))
+      ∙ ap (λ (t : Bool). if-room t (join og outer j (g left) (g right)))
+      (sym (left-out (step rest (join og outer j left right)) sizes (step-fits rest (join og outer j left right) h)))
 
   -- ---- HashJoin
 
   pub hash-fits : (rest : ℕ) (n : Node) → rest + node-size n ≤ room → fit (Sizes.HashJoin schema rest n) ≡ true
-  hash-fits rest (leaf l) h = step-fits rest (leaf l) h
-  hash-fits rest (over o source) h =
-      left-out (step rest (over o source)) (Sizes.HashJoin schema (rest + over-size o) source) (step-fits rest (over o source) h)
+  hash-fits rest (leaf og l) h = step-fits rest (leaf og l) h
+  hash-fits rest (over og o source) h =
+      left-out (step rest (over og o source)) (Sizes.HashJoin schema (rest + over-size o) source) (step-fits rest (over og o source) h)
       ∙ hash-fits (rest + over-size o) source (omega arith)
-  hash-fits rest (join outer j left right) h =
+  hash-fits rest (join og outer j left right) h =
       let k = hash-join (columns schema left) j in
       let s = hash-join-smaller (columns schema left) j in
       let t = hash-smaller schema left in
       let on-left = Sizes.HashJoin schema (rest + (node-size right + join-size k)) left in
       let on-right = Sizes.HashJoin schema (rest + (node-size (Optimizer.HashJoin schema left) + join-size k)) right in
-      left-out (step rest (join outer k left right)) (on-left ++ on-right) (step-fits rest (join outer k left right) (omega arith))
+      left-out (step rest (join og outer k left right)) (on-left ++ on-right) (step-fits rest (join og outer k left right) (omega arith))
       ∙ (left-out on-left on-right (hash-fits (rest + (node-size right + join-size k)) left (omega arith))
       ∙ hash-fits (rest + (node-size (Optimizer.HashJoin schema left) + join-size k)) right (omega arith))
 
@@ -290,24 +290,24 @@ module _ (room : ℕ) (schema : Schema) where
 
   circuit-sized : (rest : ℕ) → Sized (Room.ShortCircuit room schema rest) (Optimizer.ShortCircuit schema) (Sizes.ShortCircuit schema rest)
   unfolding Room.ShortCircuit
-  circuit-sized rest (leaf l) = circuit-step rest (leaf l)
-  circuit-sized rest (over o source) =
+  circuit-sized rest (leaf og l) = circuit-step rest (leaf og l)
+  circuit-sized rest (over og o source) =
       let s = Optimizer.ShortCircuit schema source in
-      ap (λ (r : Answer Node). r >>= λ t. Room.short-circuit room schema rest (over o t)) (circuit-sized (rest + over-size o) source)
-      ∙ then-sized (Sizes.ShortCircuit schema (rest + over-size o) source) (step rest (Optimizer.short-circuit schema (over o s))) s
-      (Optimizer.short-circuit schema (over o s)) (λ t. Room.short-circuit room schema rest (over o t)) (circuit-step rest (over o s))
-  circuit-sized rest (join outer j left right) =
+      ap (λ (r : Answer Node). r >>= λ t. Room.short-circuit room schema rest (over og o t)) (circuit-sized (rest + over-size o) source)
+      ∙ then-sized (Sizes.ShortCircuit schema (rest + over-size o) source) (step rest (Optimizer.short-circuit schema (over og o s))) s
+      (Optimizer.short-circuit schema (over og o s)) (λ t. Room.short-circuit room schema rest (over og o t)) (circuit-step rest (over og o s))
+  circuit-sized rest (join og outer j left right) =
       let l = Optimizer.ShortCircuit schema left in
       let r = Optimizer.ShortCircuit schema right in
       let on-left = rest + (node-size right + join-size j) in
       let on-right = rest + (node-size l + join-size j) in
-      let last : Node → Node → Answer Node = λ x y. Room.short-circuit room schema rest (join outer j x y) in
+      let last : Node → Node → Answer Node = λ x y. Room.short-circuit room schema rest (join og outer j x y) in
       let then : Node → Answer Node = λ x. Room.ShortCircuit room schema (rest + (node-size x + join-size j)) right >>= last x in
-      let m = Optimizer.short-circuit schema (join outer j l r) in
+      let m = Optimizer.short-circuit schema (join og outer j l r) in
       ap (λ (a : Answer Node). a >>= then) (circuit-sized on-left left)
       ∙ then-sized (Sizes.ShortCircuit schema on-left left) (Sizes.ShortCircuit schema on-right right ++ step rest m) l m then
       (ap (λ (a : Answer Node). a >>= last l) (circuit-sized on-right right)
-      ∙ then-sized (Sizes.ShortCircuit schema on-right right) (step rest m) r m (last l) (circuit-step rest (join outer j l r)))
+      ∙ then-sized (Sizes.ShortCircuit schema on-right right) (step rest m) r m (last l) (circuit-step rest (join og outer j l r)))
 
 -- ---- one pass, and all five
 

@@ -1,11 +1,11 @@
 -- The sheet that is written for a plan: its front and its length; and that every element of it is a byte: text and records are the input's, numbers are
 -- written as their bytes, and the tag, the flag and the zeros of a cell are small, since the sheet passes the checks.
 use Prim.Native.Nat.{ℕ, zero, suc, _+_, _*_, _/_, _≤_, _<_}
-use native.Mathlib.Nat.{mod-lt, mod-add-div}
+use native.Mathlib.Nat.{div-lt-iff-lt-mul, mod-lt, mod-add-div}
 use native.Mathlib.Omega.{arith}
 use borrow.Author.Tests.{leb-true, ltb-true, ltb-false, eqb-true}
 use mathlib.Core.Path.{_≡_, refl, sym, ap, _∙_, subst}
-use mathlib.Core.Bool.{Bool, true, false}
+use mathlib.Core.Bool.{Bool, true, false, cond}
 use mathlib.Core.List.{List, [], _∷_, _++_, append-assoc}
 use lib.Dec.{leb, ltb, eqb}
 use lib.ListN.{length, take, getD, length-append, List·getD-eq-default}
@@ -13,8 +13,8 @@ use lib.Seq.{length-take-le, take-at}
 use Rattle.sql.specs.Answer.{done}
 use Rattle.sql.specs.Plan.{Node, node-size}
 use Rattle.sheet.specs.Bytes.{half, bytes}
-use Rattle.sheet.specs.Parts.{tables-at, columns-at, cells-at, table-count, cell-count, record-at}
-use Rattle.sheet.specs.Cell.{Cell, cell-from, cell, Tag, unknown, not-carried, carried, tags, tag-of, fields-ok, cell-ok, bad-cell}
+use Rattle.sheet.specs.Parts.{edition, tables-at, columns-at, cells-at, table-count, cell-count, record-at}
+use Rattle.sheet.specs.Cell.{Cell, cell-from, cell, Tag, unknown, not-carried, carried, tags, tag-of, fields-ok, cell-ok, origins, bad-cell}
 use Rattle.sheet.specs.Cells.{cells}
 use Rattle.sheet.specs.Check.{plan}
 use Rattle.sheet.specs.Write.{cell-bytes, cells-bytes, trailer, sheet-with, write}
@@ -37,7 +37,7 @@ false-true h = absurd (let z : _≡_ {A = ℕ} 0 1 = cc in omega arith)
 -- ---- a cell that keeps its layout
 
 abbrev Small : Cell → Type 0
-Small k = (k .tag < 256) × ((k .flag < 256) × (k .zeros ≡ 0))
+Small k = (k .tag < 256) × ((k .flag < 256) × (k .origin < 65536))
 
 -- no tag has more than five flags
 abbrev few : Tag → Bool
@@ -50,28 +50,28 @@ few-at [] i h = refl
 few-at (t ∷ ts) zero h = and-left (few t) (all few ts) h
 few-at (t ∷ ts) (suc i) h = few-at ts i (and-right (few t) (all few ts) h)
 
-fields-small : (bytes tables : ℕ) (k : Cell) (t : Tag) → few t ≡ true → fields-ok bytes tables k t ≡ true → (k .flag < 256) × (k .zeros ≡ 0)
-fields-small bytes tables k unknown f h = false-true h
-fields-small bytes tables k not-carried f h = false-true h
-fields-small bytes tables k (carried flags a b c) f h =
+fields-small : (origins bytes tables : ℕ) → origins ≤ 65536 → (k : Cell) (t : Tag) → few t ≡ true → fields-ok origins bytes tables k t ≡ true → (k .flag < 256) × (k .origin < 65536)
+fields-small origins bytes tables m k unknown f h = false-true h
+fields-small origins bytes tables m k not-carried f h = false-true h
+fields-small origins bytes tables m k (carried flags a b c) f h =
     let l = leb-true flags 5 f in
-    let m = ltb-true (k .flag) flags (and-left (ltb (k .flag) flags) _ h) in
+    let g = ltb-true (k .flag) flags (and-left (ltb (k .flag) flags) _ h) in
     let z = and-right (ltb (k .flag) flags) _ h in
-    (omega arith, eqb-true (k .zeros) 0 (and-left (eqb (k .zeros) 0) _ z))
+    (omega arith, (let o = ltb-true (k .origin) origins (and-left (ltb (k .origin) origins) _ z) in omega arith))
 
 -- tags are from 0 to 63
-tag-small : (bytes tables : ℕ) (k : Cell) → fields-ok bytes tables k (getD tags (k .tag) unknown) ≡ true → k .tag < 256
-tag-small bytes tables k h = go (ltb (k .tag) 64) refl
+tag-small : (origins bytes tables : ℕ) (k : Cell) → fields-ok origins bytes tables k (getD tags (k .tag) unknown) ≡ true → k .tag < 256
+tag-small origins bytes tables k h = go (ltb (k .tag) 64) refl
   where
     go : (t : Bool) → ltb (k .tag) 64 ≡ t → k .tag < 256
     go true e = let p = ltb-true (k .tag) 64 e in omega arith
-    go false e = false-true (sym (ap (fields-ok bytes tables k) (List·getD-eq-default tags unknown {n = k .tag} (ltb-false (k .tag) 64 e))) ∙ h)
+    go false e = false-true (sym (ap (fields-ok origins bytes tables k) (List·getD-eq-default tags unknown {n = k .tag} (ltb-false (k .tag) 64 e))) ∙ h)
 
-cell-small : (bytes tables : ℕ) (k : Cell) → cell-ok bytes tables k ≡ true → Small k
+cell-small : (origins bytes tables : ℕ) → origins ≤ 65536 → (k : Cell) → cell-ok origins bytes tables k ≡ true → Small k
 unfolding cell-ok tag-of
-cell-small bytes tables k h =
-    let f = and-left (fields-ok bytes tables k (getD tags (k .tag) unknown)) _ h in
-    (tag-small bytes tables k f, fields-small bytes tables k (getD tags (k .tag) unknown) (few-at tags (k .tag) refl) f)
+cell-small origins bytes tables m k h =
+    let f = and-left (fields-ok origins bytes tables k (getD tags (k .tag) unknown)) _ h in
+    (tag-small origins bytes tables k f, fields-small origins bytes tables m k (getD tags (k .tag) unknown) (few-at tags (k .tag) refl) f)
 
 -- ---- what is written
 
@@ -86,9 +86,9 @@ cell-below k h = (
   (
     h .1 .0,
     (
-      mod-lt (k .zeros) (omega arith),
+      mod-lt (k .origin) (omega arith),
       (
-        subst (λ (z : ℕ). z / 256 < 256) (sym (h .1 .1)) (omega arith),
+        div-lt-iff-lt-mul {k = 256} {x = k .origin} {y = 256} (omega arith) .1 (h .1 .1),
         all-append Byte (bytes (k .a)) (bytes (k .b) ++ bytes (k .c)) (bytes-below (k .a)) (all-append Byte (bytes (k .b)) (bytes (k .c)) (bytes-below (k .b)) (bytes-below (k .c))),
       ),
     ),
@@ -106,10 +106,10 @@ then-below w l h = all-append Byte (bytes w) l (bytes-below w) h
 trailer-below : (s : List ℕ) (total : ℕ) → All Byte (trailer s total)
 unfolding trailer
 trailer-below s total =
-    let edition = then-below 1 (bytes total) (bytes-below total) in
-    let cells = then-below (cells-at s) (bytes 1 ++ bytes total) edition in
-    then-below (tables-at s) (bytes (columns-at s) ++ (bytes (cells-at s) ++ (bytes 1 ++ bytes total)))
-    (then-below (columns-at s) (bytes (cells-at s) ++ (bytes 1 ++ bytes total)) cells)
+    let from-edition = then-below (edition s) (bytes total) (bytes-below total) in
+    let cells = then-below (cells-at s) (bytes (edition s) ++ bytes total) from-edition in
+    then-below (tables-at s) (bytes (columns-at s) ++ (bytes (cells-at s) ++ (bytes (edition s) ++ bytes total)))
+    (then-below (columns-at s) (bytes (cells-at s) ++ (bytes (edition s) ++ bytes total)) cells)
 
 front-below : (n : ℕ) (s : List ℕ) → Bytes s → All Byte (take n s)
 front-below zero s b = tt
@@ -126,7 +126,7 @@ first-small xs k ys p e h =
       subst Byte (byte-after xs zs p 0 (omega arith)) (h .0),
       (
         subst Byte (byte-after xs zs (p + 1) 1 (omega arith)) (h .1 .0),
-        sym (half-after xs zs (p + 2) 2 (omega arith) ∙ mod-add-div (k .zeros) 256) ∙ h .1 .1,
+        subst (λ (o : ℕ). o < 65536) (half-after xs zs (p + 2) 2 (omega arith) ∙ mod-add-div (k .origin) 256) (h .1 .1),
       ),
     )
 
@@ -149,6 +149,13 @@ length-cells : (ks : List Cell) → length (cells-bytes ks) ≡ 16 * length ks
 unfolding cells-bytes
 length-cells [] = refl
 length-cells (k ∷ ks) = length-append (cell-bytes k) (cells-bytes ks) ∙ omega (arith, length-cell-bytes k, length-cells ks)
+
+few-origins : (s : List ℕ) → origins s ≤ 65536
+few-origins s = go (eqb (edition s) 1)
+  where
+    go : (b : Bool) → cond b 1 65536 ≤ 65536
+    go true = omega arith
+    go false = omega arith
 
 -- ---- the sheet that is written for the plan m
 
@@ -180,8 +187,8 @@ module _ (s : List ℕ) (n : Node) (h : plan s ≡ done n) (m : Node) where
     unfolding bad-cell cell
     each-small j low high =
         let w = write s m in
-        let ok = none-failing (λ i. cell-ok (tables-at w) (table-count w) (cell w i)) 0 (cell-count w) (accepted w m p .cells-are) j low (omega (arith, counted, node-length m)) in
-        subst (λ (c : ℕ). Small (cell-from w (record-at c j))) same-start (cell-small (tables-at w) (table-count w) (cell w j) ok)
+        let ok = none-failing (λ i. cell-ok (origins w) (tables-at w) (table-count w) (cell w i)) 0 (cell-count w) (accepted w m p .cells-are) j low (omega (arith, counted, node-length m)) in
+        subst (λ (c : ℕ). Small (cell-from w (record-at c j))) same-start (cell-small (origins w) (tables-at w) (table-count w) (few-origins w) (cell w j) ok)
 
     all-below : All Byte (write s m)
     unfolding write sheet-with

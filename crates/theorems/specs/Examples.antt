@@ -12,14 +12,14 @@ use Rattle.sql.specs.Samples.{keyed, scanned, one-row, number, equals, plus, A,
 use Rattle.theorems.specs.Sizes
 
 abbrev always : Expression
-always = constant (truth True)
+always = constant 0 (truth True)
 
 -- 22 cells: a Limit (1) over a NestedLoopJoin (6, with its predicate) of a Filter (4) over a Scan (1), and of a Scan (10)
 abbrev visited : Node
 visited =
-    over (other (limit 5))
-    (join false (nested-loop (some (and (equals A B) always))) (over (filter (and always always)) scanned)
-    (leaf (scan 0 none (some (and (and (equals A (number 1)) (equals A (number 2))) always)))))
+    over 0 (other (limit 5))
+    (join 0 false (nested-loop (some (and 0 (equals A B) always))) (over 0 (filter (and 0 always always)) scanned)
+    (leaf 0 (scan 0 none (some (and 0 (and 0 (equals A (number 1)) (equals A (number 2))) always)))))
 
 in-each-pass : Sizes.optimize keyed visited
     ≡ (22 ∷ 20 ∷ 18 ∷ 18 ∷ 16 ∷ [])  -- the Limit; the join and the Filter, which fold an And with true; its Scan; the right Scan, which folds one too
@@ -33,6 +33,6 @@ unfolding into-cnf into-cnf-vec Sizes.maybe-push-filter Sizes.push-filters-from 
 in-each-pass = refl
 
 -- The left source's visit is refused, by 13: the size after the join's visit is the only one.
-up-to-a-refusal : Sizes.optimize keyed (join false (nested-loop (some (and always always))) (one-row (plus (number 1) always ∷ [])) (one-row (number 1 ∷ []))) ≡ (10 ∷ [])
+up-to-a-refusal : Sizes.optimize keyed (join 0 false (nested-loop (some (and 0 always always))) (one-row (plus (number 1) always ∷ [])) (one-row (number 1 ∷ []))) ≡ (10 ∷ [])
 unfolding checked add-integers
 up-to-a-refusal = refl

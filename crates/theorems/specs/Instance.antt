@@ -64,24 +64,24 @@ database = record {
 -- ---- the six plans
 
 abbrev joined : Expression → Node → Node → Node
-joined predicate left right = join false (nested-loop (some predicate)) left right
+joined predicate left right = join 0 false (nested-loop (some predicate)) left right
 
 abbrev five : Expression
 five = equals A (number 5)
 
 abbrev looked-up-5 : Node
-looked-up-5 = leaf (lookup by-key 0 none (int 5 ∷ []))
+looked-up-5 = leaf 0 (lookup by-key 0 none ((int 5, 0) ∷ []))
 
 abbrev hashed : Node
-hashed = join false (hash 0 0) looked-up-5 looked-up-5
+hashed = join 0 false (hash 0 0) looked-up-5 looked-up-5
 
 -- Pass 1 adds 2 and 3, 2 moves the Filter into both Scans, 3 looks 5 up, and 4 makes a HashJoin, which 5 leaves as it is.
 abbrev pub plans : ℕ → Node
 plans k =
     getD
-    (over (filter (equals A (plus (number 2) (number 3)))) (joined (equals A B) scanned scanned)
-    ∷ over (filter five) (joined (equals A B) scanned scanned)
-    ∷ joined (equals A B) (leaf (scan 0 none (some five))) (leaf (scan 0 none (some five)))
+    (over 0 (filter (equals A (plus (number 2) (number 3)))) (joined (equals A B) scanned scanned)
+    ∷ over 0 (filter five) (joined (equals A B) scanned scanned)
+    ∷ joined (equals A B) (leaf 0 (scan 0 none (some five))) (leaf 0 (scan 0 none (some five)))
     ∷ joined (equals A B) looked-up-5 looked-up-5
     ∷ hashed
     ∷ []) k hashed

@@ -5,3 +5,4 @@ pub mod Examples
 pub mod Floats
 pub mod FloatExamples
 pub mod Instance
+pub mod Origins

@@ -39,12 +39,12 @@ if-done (done folded) f = f folded
 
 -- A visit folds the node's own expressions. `first` is the number of the node's first cell, for the places of refusals.
 abbrev pub ConstantFolding : (first rest : ℕ) → Node → List ℕ
-ConstantFolding first rest (leaf l) = if-done (fold-leaf first l) (λ m. step rest (leaf m))
-ConstantFolding first rest (over o source) =
-    if-done (fold-over (first + node-size source) o) (λ p. step rest (over p source) ++ ConstantFolding first (rest + over-size p) source)
-ConstantFolding first rest (join outer j left right) =
+ConstantFolding first rest (leaf og l) = if-done (fold-leaf first l) (λ m. step rest (leaf og m))
+ConstantFolding first rest (over og o source) =
+    if-done (fold-over (first + node-size source) o) (λ p. step rest (over og p source) ++ ConstantFolding first (rest + over-size p) source)
+ConstantFolding first rest (join og outer j left right) =
     if-done (fold-join (first + (node-size left + node-size right)) j) (λ k.
-    step rest (join outer k left right)
+    step rest (join og outer k left right)
     ++ (ConstantFolding first (rest + (node-size right + join-size k)) left
     ++ if-done (Optimizer.ConstantFolding first left) (λ l. ConstantFolding (first + node-size left) (rest + (node-size l + join-size k)) right)))
 
@@ -58,22 +58,22 @@ module _ (schema : Schema) where
   -- a merge of a Filter into what is below, which is tried again, and the join rule once more
   unfoldable pub maybe-push-filter : ℕ → (rest : ℕ) → Node → List ℕ
   maybe-push-filter zero rest node = []
-  maybe-push-filter (suc n) rest (leaf l) = []
-  maybe-push-filter (suc n) rest (over (filter predicate) source) =
+  maybe-push-filter (suc n) rest (leaf og l) = []
+  maybe-push-filter (suc n) rest (over og (filter predicate) source) =
       if-pushed
       (λ pushed. (step rest pushed ++ maybe-push-filter n rest pushed) ++ maybe-push-join rest (Optimizer.maybe-push-filter schema n pushed))
-      (push-into predicate source)
-  maybe-push-filter (suc n) rest (over (other o) source) = []
-  maybe-push-filter (suc n) rest (join outer j left right) = []
+      (push-into og predicate source)
+  maybe-push-filter (suc n) rest (over og (other o) source) = []
+  maybe-push-filter (suc n) rest (join og outer j left right) = []
 
   abbrev pub push-filters : ℕ → (rest : ℕ) → Node → List ℕ
   push-filters n rest node = maybe-push-filter n rest node ++ maybe-push-join rest (Optimizer.maybe-push-filter schema n node)
 
   -- the sources of a node, of which f makes something with these sizes
   abbrev pub each-source : (f : Node → Node) (sizes : ℕ → Node → List ℕ) → (rest : ℕ) → Node → List ℕ
-  each-source f sizes rest (leaf l) = []
-  each-source f sizes rest (over o source) = sizes (rest + over-size o) source
-  each-source f sizes rest (join outer j left right) =
+  each-source f sizes rest (leaf og l) = []
+  each-source f sizes rest (over og o source) = sizes (rest + over-size o) source
+  each-source f sizes rest (join og outer j left right) =
       sizes (rest + (node-size right + join-size j)) left ++ sizes (rest + (node-size (f left) + join-size j)) right
 
   unfoldable pub push-filters-from : ℕ → (rest : ℕ) → Node → List ℕ
@@ -89,35 +89,35 @@ module _ (schema : Schema) where
 
   -- A Scan that becomes a Filter over a lookup: the lookup is visited too, and stays.
   abbrev pub IndexLookup : (rest : ℕ) → Node → List ℕ
-  IndexLookup rest (leaf l) =
-      let found = Optimizer.index-lookup schema l in
+  IndexLookup rest (leaf og l) =
+      let found = Optimizer.index-lookup schema og l in
       normal-forms (scan-filter l) ++ (step rest found ++ each-source (λ lookup. lookup) step rest found)
-  IndexLookup rest (over o source) = step rest (over o source) ++ IndexLookup (rest + over-size o) source
-  IndexLookup rest (join outer j left right) =
-      step rest (join outer j left right)
+  IndexLookup rest (over og o source) = step rest (over og o source) ++ IndexLookup (rest + over-size o) source
+  IndexLookup rest (join og outer j left right) =
+      step rest (join og outer j left right)
       ++ (IndexLookup (rest + (node-size right + join-size j)) left
       ++ IndexLookup (rest + (node-size (Optimizer.IndexLookup schema left) + join-size j)) right)
 
   -- ======== HashJoin
 
   abbrev pub HashJoin : (rest : ℕ) → Node → List ℕ
-  HashJoin rest (leaf l) = step rest (leaf l)
-  HashJoin rest (over o source) = step rest (over o source) ++ HashJoin (rest + over-size o) source
-  HashJoin rest (join outer j left right) =
+  HashJoin rest (leaf og l) = step rest (leaf og l)
+  HashJoin rest (over og o source) = step rest (over og o source) ++ HashJoin (rest + over-size o) source
+  HashJoin rest (join og outer j left right) =
       let k = hash-join (columns schema left) j in
-      step rest (join outer k left right)
+      step rest (join og outer k left right)
       ++ (HashJoin (rest + (node-size right + join-size k)) left
       ++ HashJoin (rest + (node-size (Optimizer.HashJoin schema left) + join-size k)) right)
 
   -- ======== ShortCircuit: sources before the node
 
   abbrev pub ShortCircuit : (rest : ℕ) → Node → List ℕ
-  ShortCircuit rest (leaf l) = step rest (Optimizer.ShortCircuit schema (leaf l))
-  ShortCircuit rest (over o source) = ShortCircuit (rest + over-size o) source ++ step rest (Optimizer.ShortCircuit schema (over o source))
-  ShortCircuit rest (join outer j left right) =
+  ShortCircuit rest (leaf og l) = step rest (Optimizer.ShortCircuit schema (leaf og l))
+  ShortCircuit rest (over og o source) = ShortCircuit (rest + over-size o) source ++ step rest (Optimizer.ShortCircuit schema (over og o source))
+  ShortCircuit rest (join og outer j left right) =
       ShortCircuit (rest + (node-size right + join-size j)) left
       ++ (ShortCircuit (rest + (node-size (Optimizer.ShortCircuit schema left) + join-size j)) right
-      ++ step rest (Optimizer.ShortCircuit schema (join outer j left right)))
+      ++ step rest (Optimizer.ShortCircuit schema (join og outer j left right)))
 
   -- ======== One pass by its number, and all five.
 

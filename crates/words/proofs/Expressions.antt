@@ -5,10 +5,10 @@ use mathlib.Core.Path.{_≡_, refl, sym, ap, _∙_, subst}
 use mathlib.Core.List.{List, [], _∷_, _++_, append-assoc}
 use lib.ListN.{length, getD, length-append}
 use Rattle.value.specs.Value.{Truth, False, Unknown, True, Datum, integer, float, string, Value, truth, datum}
-use Rattle.sql.specs.Expression.{Logical, And, Or, Function1, IsNull, IsNaN, Identity, Negate, Function2, GreaterThan, LessThan, Add, Divide, Unary, Not, function, Binary, logical, Equal, Expression, constant, column, unary, binary}
+use Rattle.sql.specs.Expression.{origin, Logical, And, Or, Function1, IsNull, IsNaN, Identity, Negate, Function2, GreaterThan, LessThan, Add, Divide, Unary, Not, function, Binary, logical, Equal, Expression, constant, column, unary, binary}
 use Rattle.sheet.specs.Content.{Content, cell-of, constant-cell, column-cell, unary-cell, binary-cell, unary-tag, binary-tag}
 use Rattle.cells.specs.declared.Cell.{Cell}
-use Rattle.cells.specs.Cells.{words, sized, cell-at, tag-at, start-at, Part, Sized}
+use Rattle.cells.specs.Cells.{cell-words, words, sized, cell-at, tag-at, origin-at, start-at, Part, Sized}
 use Rattle.cells.proofs.Laws.{part-left, part-right, body-part, cell-in, tag-is, start-is, has-size, seam}
 use Rattle.cells.proofs.Laws as cells
 use Rattle.words.specs.Words.{cell, root, expression-words, operand-words}
@@ -17,16 +17,16 @@ use Rattle.words.specs.Place.{ExpressionHere, ExpressionAt}
 abbrev pub tag : Content → ℕ
 tag k = cell-of k .tag
 
-pub tag-cell : (k : Content) → cell k .tag ≡ tag k
+pub tag-cell : (og : ℕ) (k : Content) → cell og k .tag ≡ tag k
 unfolding cell
-tag-cell k = refl
+tag-cell og k = refl
 
-pub shape : (e : Expression) → expression-words e ≡ sized (operand-words e) (cell (root e))
+pub shape : (e : Expression) → expression-words e ≡ sized (operand-words e) (cell (origin e) (root e))
 unfolding expression-words
-shape (constant v) = refl
-shape (column i) = refl
-shape (unary o x) = refl
-shape (binary o l r) = refl
+shape (constant og v) = refl
+shape (column og i) = refl
+shape (unary og o x) = refl
+shape (binary og o l r) = refl
 
 -- ---- what a root's tag tells
 
@@ -56,35 +56,35 @@ binary-range (function Divide) = (omega arith, omega arith)
 
 -- An expression by the range that its root's tag lies in.
 module _ (P : Expression → Type 0) where
-  pub by-constant : ((v : Value) → P (constant v)) → (e : Expression) → tag (root e) < 6 → P e
-  by-constant f (constant v) h = f v
-  by-constant f (column i) h = absurd (omega arith)
-  by-constant f (unary o x) h = absurd (omega (arith, unary-range o))
-  by-constant f (binary o l r) h = absurd (omega (arith, binary-range o .0))
+  pub by-constant : ((og : ℕ) (v : Value) → P (constant og v)) → (e : Expression) → tag (root e) < 6 → P e
+  by-constant f (constant og v) h = f og v
+  by-constant f (column og i) h = absurd (omega arith)
+  by-constant f (unary og o x) h = absurd (omega (arith, unary-range o))
+  by-constant f (binary og o l r) h = absurd (omega (arith, binary-range o .0))
 
-  pub by-column : ((i : ℕ) → P (column i)) → (e : Expression) → tag (root e) ≡ 6 → P e
-  by-column f (constant v) h = absurd (omega (arith, constant-tag v))
-  by-column f (column i) h = f i
-  by-column f (unary o x) h = absurd (omega (arith, unary-range o))
-  by-column f (binary o l r) h = absurd (omega (arith, binary-range o .0))
+  pub by-column : ((og i : ℕ) → P (column og i)) → (e : Expression) → tag (root e) ≡ 6 → P e
+  by-column f (constant og v) h = absurd (omega (arith, constant-tag v))
+  by-column f (column og i) h = f og i
+  by-column f (unary og o x) h = absurd (omega (arith, unary-range o))
+  by-column f (binary og o l r) h = absurd (omega (arith, binary-range o .0))
 
-  pub by-leaf : ((v : Value) → P (constant v)) → ((i : ℕ) → P (column i)) → (e : Expression) → tag (root e) < 10 → P e
-  by-leaf f g (constant v) h = f v
-  by-leaf f g (column i) h = g i
-  by-leaf f g (unary o x) h = absurd (omega (arith, unary-range o))
-  by-leaf f g (binary o l r) h = absurd (omega (arith, binary-range o .0))
+  pub by-leaf : ((og : ℕ) (v : Value) → P (constant og v)) → ((og i : ℕ) → P (column og i)) → (e : Expression) → tag (root e) < 10 → P e
+  by-leaf f g (constant og v) h = f og v
+  by-leaf f g (column og i) h = g og i
+  by-leaf f g (unary og o x) h = absurd (omega (arith, unary-range o))
+  by-leaf f g (binary og o l r) h = absurd (omega (arith, binary-range o .0))
 
-  pub by-unary : ((o : Unary) (x : Expression) → P (unary o x)) → (e : Expression) → 30 ≤ tag (root e) → P e
-  by-unary f (constant v) h = absurd (omega (arith, constant-tag v))
-  by-unary f (column i) h = absurd (omega arith)
-  by-unary f (unary o x) h = f o x
-  by-unary f (binary o l r) h = absurd (omega (arith, binary-range o .1))
+  pub by-unary : ((og : ℕ) (o : Unary) (x : Expression) → P (unary og o x)) → (e : Expression) → 30 ≤ tag (root e) → P e
+  by-unary f (constant og v) h = absurd (omega (arith, constant-tag v))
+  by-unary f (column og i) h = absurd (omega arith)
+  by-unary f (unary og o x) h = f og o x
+  by-unary f (binary og o l r) h = absurd (omega (arith, binary-range o .1))
 
-  pub by-binary : ((o : Binary) (l r : Expression) → P (binary o l r)) → (e : Expression) → 10 ≤ tag (root e) → tag (root e) < 30 → P e
-  by-binary f (constant v) h k = absurd (omega (arith, constant-tag v))
-  by-binary f (column i) h k = absurd (omega arith)
-  by-binary f (unary o x) h k = absurd (omega (arith, unary-range o))
-  by-binary f (binary o l r) h k = f o l r
+  pub by-binary : ((og : ℕ) (o : Binary) (l r : Expression) → P (binary og o l r)) → (e : Expression) → 10 ≤ tag (root e) → tag (root e) < 30 → P e
+  by-binary f (constant og v) h k = absurd (omega (arith, constant-tag v))
+  by-binary f (column og i) h k = absurd (omega arith)
+  by-binary f (unary og o x) h k = absurd (omega (arith, unary-range o))
+  by-binary f (binary og o l r) h k = f og o l r
 
 -- An operator by its tag.
 module _ (P : Unary → Type 0) where
@@ -126,26 +126,30 @@ module _ (P : Binary → Type 0) where
 -- ---- where an expression stands
 
 module _ {s : List ℕ} {lo hi : ℕ} (e : Expression) (u : ExpressionHere s lo hi e) where
-  pub sized-part : Part s lo hi (sized (operand-words e) (cell (root e)))
+  pub sized-part : Part s lo hi (sized (operand-words e) (cell (origin e) (root e)))
   sized-part = rw (shape e) at (u .part)
 
-  pub root-is : cell-at s hi ≡ cell (root e)
-  root-is = cells.cell-is (operand-words e) (cell (root e)) sized-part
+  pub root-is : cell-at s hi ≡ cell (origin e) (root e)
+  root-is = cells.cell-is (operand-words e) (cell (origin e) (root e)) sized-part
 
   pub root-tag : tag-at s hi ≡ tag (root e)
-  root-tag = tag-is (operand-words e) (cell (root e)) sized-part ∙ tag-cell (root e)
+  root-tag = tag-is (operand-words e) (cell (origin e) (root e)) sized-part ∙ tag-cell (origin e) (root e)
 
-  pub here-in : (lo + 6 ≤ hi) × (hi ≤ length s)
-  here-in = cell-in (operand-words e) (cell (root e)) sized-part
+  pub root-origin : origin-at s hi ≡ origin e
+  unfolding cell
+  root-origin = ap (λ (x : Cell). x .origin) root-is
+
+  pub here-in : (lo + cell-words ≤ hi) × (hi ≤ length s)
+  here-in = cell-in (operand-words e) (cell (origin e) (root e)) sized-part
 
   pub here-size : Sized s hi
-  here-size = has-size (operand-words e) (cell (root e)) sized-part
+  here-size = has-size (operand-words e) (cell (origin e) (root e)) sized-part
 
   pub here-start : start-at s hi ≡ lo
-  here-start = start-is (operand-words e) (cell (root e)) sized-part
+  here-start = start-is (operand-words e) (cell (origin e) (root e)) sized-part
 
 module _ {s : List ℕ} {lo hi : ℕ} where
-  pub at-in : ExpressionAt s lo hi → (lo + 6 ≤ hi) × (hi ≤ length s)
+  pub at-in : ExpressionAt s lo hi → (lo + cell-words ≤ hi) × (hi ≤ length s)
   at-in t = here-in (t .e) (t .here)
 
   pub at-size : ExpressionAt s lo hi → Sized s hi
@@ -154,16 +158,16 @@ module _ {s : List ℕ} {lo hi : ℕ} where
   pub at-start : ExpressionAt s lo hi → start-at s hi ≡ lo
   at-start t = here-start (t .e) (t .here)
 
-  pub here-operand : (o : Unary) (x : Expression) → ExpressionHere s lo hi (unary o x) → ExpressionHere s lo (hi - 6) x
+  pub here-operand : (og : ℕ) (o : Unary) (x : Expression) → ExpressionHere s lo hi (unary og o x) → ExpressionHere s lo (hi - cell-words) x
   unfolding expression-words
-  here-operand o x u = record { part = body-part (expression-words x) (cell (unary-cell o)) (u .part) }
+  here-operand og o x u = record { part = body-part (expression-words x) (cell og (unary-cell o)) (u .part) }
 
-  module _ {mid : ℕ} (st : mid ≡ start-at s (hi - 6)) (o : Binary) (l r : Expression) (u : ExpressionHere s lo hi (binary o l r)) where
-    both : Part s lo (hi - 6) (expression-words l ++ expression-words r)
+  module _ {mid : ℕ} (st : mid ≡ start-at s (hi - cell-words)) (og : ℕ) (o : Binary) (l r : Expression) (u : ExpressionHere s lo hi (binary og o l r)) where
+    both : Part s lo (hi - cell-words) (expression-words l ++ expression-words r)
     unfolding expression-words
-    both = body-part (expression-words l ++ expression-words r) (cell (binary-cell o)) (u .part)
+    both = body-part (expression-words l ++ expression-words r) (cell og (binary-cell o)) (u .part)
 
-    right-raw : ExpressionHere s (lo + length (expression-words l)) (hi - 6) r
+    right-raw : ExpressionHere s (lo + length (expression-words l)) (hi - cell-words) r
     right-raw = record { part = part-right (expression-words l) (expression-words r) both }
 
     mid-is : lo + length (expression-words l) ≡ mid
@@ -172,24 +176,24 @@ module _ {s : List ℕ} {lo hi : ℕ} where
     pub here-left : ExpressionHere s lo mid l
     here-left = rw (← mid-is) (record { part = part-left (expression-words l) (expression-words r) both })
 
-    pub here-right : ExpressionHere s mid (hi - 6) r
-    here-right = subst (λ (n : ℕ). ExpressionHere s n (hi - 6) r) mid-is right-raw
+    pub here-right : ExpressionHere s mid (hi - cell-words) r
+    here-right = subst (λ (n : ℕ). ExpressionHere s n (hi - cell-words) r) mid-is right-raw
 
   -- the operands, by the range of the tag
-  pub at-operand : 30 ≤ tag-at s hi → ExpressionAt s lo hi → ExpressionAt s lo (hi - 6)
-  at-operand h t = by-unary (λ e. ExpressionHere s lo hi e → ExpressionAt s lo (hi - 6)) (λ o x u. record { e = x; here = here-operand o x u })
+  pub at-operand : 30 ≤ tag-at s hi → ExpressionAt s lo hi → ExpressionAt s lo (hi - cell-words)
+  at-operand h t = by-unary (λ e. ExpressionHere s lo hi e → ExpressionAt s lo (hi - cell-words)) (λ og o x u. record { e = x; here = here-operand og o x u })
       (t .e) (omega (arith, root-tag (t .e) (t .here))) (t .here)
 
   module _ (h : 10 ≤ tag-at s hi) (k : tag-at s hi < 30) where
-    pub at-last : ExpressionAt s lo hi → Sized s (hi - 6)
-    at-last t = by-binary (λ e. ExpressionHere s lo hi e → Sized s (hi - 6)) (λ o l r u. here-size r (here-right refl o l r u))
+    pub at-last : ExpressionAt s lo hi → Sized s (hi - cell-words)
+    at-last t = by-binary (λ e. ExpressionHere s lo hi e → Sized s (hi - cell-words)) (λ og o l r u. here-size r (here-right refl og o l r u))
         (t .e) (omega (arith, root-tag (t .e) (t .here))) (omega (arith, root-tag (t .e) (t .here))) (t .here)
 
-    module _ {mid : ℕ} (st : mid ≡ start-at s (hi - 6)) where
+    module _ {mid : ℕ} (st : mid ≡ start-at s (hi - cell-words)) where
       pub at-left : ExpressionAt s lo hi → ExpressionAt s lo mid
-      at-left t = by-binary (λ e. ExpressionHere s lo hi e → ExpressionAt s lo mid) (λ o l r u. record { e = l; here = here-left st o l r u })
+      at-left t = by-binary (λ e. ExpressionHere s lo hi e → ExpressionAt s lo mid) (λ og o l r u. record { e = l; here = here-left st og o l r u })
           (t .e) (omega (arith, root-tag (t .e) (t .here))) (omega (arith, root-tag (t .e) (t .here))) (t .here)
 
-      pub at-right : ExpressionAt s lo hi → ExpressionAt s mid (hi - 6)
-      at-right t = by-binary (λ e. ExpressionHere s lo hi e → ExpressionAt s mid (hi - 6)) (λ o l r u. record { e = r; here = here-right st o l r u })
+      pub at-right : ExpressionAt s lo hi → ExpressionAt s mid (hi - cell-words)
+      at-right t = by-binary (λ e. ExpressionHere s lo hi e → ExpressionAt s mid (hi - cell-words)) (λ og o l r u. record { e = r; here = here-right st og o l r u })
           (t .e) (omega (arith, root-tag (t .e) (t .here))) (omega (arith, root-tag (t .e) (t .here))) (t .here)

@@ -34,9 +34,9 @@ join-tag (nested-loop q) = 56
 join-tag (hash i j) = 52
 
 abbrev pub tag-of : Node → ℕ
-tag-of (leaf l) = leaf-tag l
-tag-of (over o n) = over-tag o
-tag-of (join outer j l r) = join-tag j
+tag-of (leaf og l) = leaf-tag l
+tag-of (over og o n) = over-tag o
+tag-of (join og outer j l r) = join-tag j
 
 leaf-tagged : (l : Leaf) → tag (leaf-cell l) ≡ leaf-tag l
 leaf-tagged (scan t none q) = refl
@@ -62,26 +62,26 @@ join-tagged outer (nested-loop q) = refl
 join-tagged outer (hash i j) = refl
 
 pub tagged : (p : Node) → tag (node-cell p) ≡ tag-of p
-tagged (leaf l) = leaf-tagged l
-tagged (over o n) = over-tagged o
-tagged (join outer j l r) = join-tagged outer j
+tagged (leaf og l) = leaf-tagged l
+tagged (over og o n) = over-tagged o
+tagged (join og outer j l r) = join-tagged outer j
 
 -- the tags of nodes
 pub tag-known : (p : Node) → (50 ≤ tag-of p) × (tag-of p < 64)
-tag-known (leaf (scan t al q)) = (omega arith, omega arith)
-tag-known (leaf (lookup by-key t al vs)) = (omega arith, omega arith)
-tag-known (leaf (lookup (by-index i) t al vs)) = (omega arith, omega arith)
-tag-known (leaf (nothing ls)) = (omega arith, omega arith)
-tag-known (leaf (values rs)) = (omega arith, omega arith)
-tag-known (over (filter e) n) = (omega arith, omega arith)
-tag-known (over (other (limit a)) n) = (omega arith, omega arith)
-tag-known (over (other (offset a)) n) = (omega arith, omega arith)
-tag-known (over (other (order ks)) n) = (omega arith, omega arith)
-tag-known (over (other (projection is)) n) = (omega arith, omega arith)
-tag-known (over (other (remap ts)) n) = (omega arith, omega arith)
-tag-known (over (other (aggregate es gs)) n) = (omega arith, omega arith)
-tag-known (join outer (nested-loop q) l r) = (omega arith, omega arith)
-tag-known (join outer (hash i j) l r) = (omega arith, omega arith)
+tag-known (leaf og (scan t al q)) = (omega arith, omega arith)
+tag-known (leaf og (lookup by-key t al vs)) = (omega arith, omega arith)
+tag-known (leaf og (lookup (by-index i) t al vs)) = (omega arith, omega arith)
+tag-known (leaf og (nothing ls)) = (omega arith, omega arith)
+tag-known (leaf og (values rs)) = (omega arith, omega arith)
+tag-known (over og (filter e) n) = (omega arith, omega arith)
+tag-known (over og (other (limit a)) n) = (omega arith, omega arith)
+tag-known (over og (other (offset a)) n) = (omega arith, omega arith)
+tag-known (over og (other (order ks)) n) = (omega arith, omega arith)
+tag-known (over og (other (projection is)) n) = (omega arith, omega arith)
+tag-known (over og (other (remap ts)) n) = (omega arith, omega arith)
+tag-known (over og (other (aggregate es gs)) n) = (omega arith, omega arith)
+tag-known (join og outer (nested-loop q) l r) = (omega arith, omega arith)
+tag-known (join og outer (hash i j) l r) = (omega arith, omega arith)
 
 -- how many sources the tags from 50 tell of
 abbrev sources-told : List ℕ
@@ -112,27 +112,27 @@ join-told (hash i j) = refl
 
 -- A node's tag tells how many sources it has.
 pub sources-by-tag : (p : Node) → source-count p ≡ told (tag-of p)
-sources-by-tag (leaf l) = sym (leaf-told l)
-sources-by-tag (over o n) = sym (over-told o)
-sources-by-tag (join outer j l r) = sym (join-told j)
+sources-by-tag (leaf og l) = sym (leaf-told l)
+sources-by-tag (over og o n) = sym (over-told o)
+sources-by-tag (join og outer j l r) = sym (join-told j)
 
 -- ---- by the number of sources
 
 module _ (P : Node → Type 0) where
-  pub by-leaf : ((l : Leaf) → P (leaf l)) → (p : Node) → source-count p ≡ 0 → P p
-  by-leaf f (leaf l) h = f l
-  by-leaf f (over o n) h = absurd (omega arith)
-  by-leaf f (join outer j l r) h = absurd (omega arith)
+  pub by-leaf : ((og : ℕ) (l : Leaf) → P (leaf og l)) → (p : Node) → source-count p ≡ 0 → P p
+  by-leaf f (leaf og l) h = f og l
+  by-leaf f (over og o n) h = absurd (omega arith)
+  by-leaf f (join og outer j l r) h = absurd (omega arith)
 
-  pub by-over : ((o : Over) (n : Node) → P (over o n)) → (p : Node) → source-count p ≡ 1 → P p
-  by-over f (leaf l) h = absurd (omega arith)
-  by-over f (over o n) h = f o n
-  by-over f (join outer j l r) h = absurd (omega arith)
+  pub by-over : ((og : ℕ) (o : Over) (n : Node) → P (over og o n)) → (p : Node) → source-count p ≡ 1 → P p
+  by-over f (leaf og l) h = absurd (omega arith)
+  by-over f (over og o n) h = f og o n
+  by-over f (join og outer j l r) h = absurd (omega arith)
 
-  pub by-join : ((outer : Bool) (j : Join) (l r : Node) → P (join outer j l r)) → (p : Node) → source-count p ≡ 2 → P p
-  by-join f (leaf l) h = absurd (omega arith)
-  by-join f (over o n) h = absurd (omega arith)
-  by-join f (join outer j l r) h = f outer j l r
+  pub by-join : ((og : ℕ) (outer : Bool) (j : Join) (l r : Node) → P (join og outer j l r)) → (p : Node) → source-count p ≡ 2 → P p
+  by-join f (leaf og l) h = absurd (omega arith)
+  by-join f (over og o n) h = absurd (omega arith)
+  by-join f (join og outer j l r) h = f og outer j l r
 
 -- ---- by the tag
 
@@ -144,28 +144,28 @@ module _ (P : Leaf → Type 0) where
   leaf-scan f (nothing ls) h = absurd (omega arith)
   leaf-scan f (values rs) h = absurd (omega arith)
 
-  pub leaf-key-lookup : ((t : ℕ) (al : Option ℕ) (vs : List Value) → P (lookup by-key t al vs)) → (x : Leaf) → leaf-tag x ≡ 54 → P x
+  pub leaf-key-lookup : ((t : ℕ) (al : Option ℕ) (vs : List (Value × ℕ)) → P (lookup by-key t al vs)) → (x : Leaf) → leaf-tag x ≡ 54 → P x
   leaf-key-lookup f (scan t al q) h = absurd (omega arith)
   leaf-key-lookup f (lookup by-key t al vs) h = f t al vs
   leaf-key-lookup f (lookup (by-index i) t al vs) h = absurd (omega arith)
   leaf-key-lookup f (nothing ls) h = absurd (omega arith)
   leaf-key-lookup f (values rs) h = absurd (omega arith)
 
-  pub leaf-index-lookup : ((i t : ℕ) (al : Option ℕ) (vs : List Value) → P (lookup (by-index i) t al vs)) → (x : Leaf) → leaf-tag x ≡ 53 → P x
+  pub leaf-index-lookup : ((i t : ℕ) (al : Option ℕ) (vs : List (Value × ℕ)) → P (lookup (by-index i) t al vs)) → (x : Leaf) → leaf-tag x ≡ 53 → P x
   leaf-index-lookup f (scan t al q) h = absurd (omega arith)
   leaf-index-lookup f (lookup by-key t al vs) h = absurd (omega arith)
   leaf-index-lookup f (lookup (by-index i) t al vs) h = f i t al vs
   leaf-index-lookup f (nothing ls) h = absurd (omega arith)
   leaf-index-lookup f (values rs) h = absurd (omega arith)
 
-  pub leaf-nothing : ((ls : List Label) → P (nothing ls)) → (x : Leaf) → leaf-tag x ≡ 57 → P x
+  pub leaf-nothing : ((ls : List (Label × ℕ)) → P (nothing ls)) → (x : Leaf) → leaf-tag x ≡ 57 → P x
   leaf-nothing f (scan t al q) h = absurd (omega arith)
   leaf-nothing f (lookup by-key t al vs) h = absurd (omega arith)
   leaf-nothing f (lookup (by-index i) t al vs) h = absurd (omega arith)
   leaf-nothing f (nothing ls) h = f ls
   leaf-nothing f (values rs) h = absurd (omega arith)
 
-  pub leaf-values : ((rs : List (List Expression)) → P (values rs)) → (x : Leaf) → leaf-tag x ≡ 63 → P x
+  pub leaf-values : ((rs : List (List Expression × ℕ)) → P (values rs)) → (x : Leaf) → leaf-tag x ≡ 63 → P x
   leaf-values f (scan t al q) h = absurd (omega arith)
   leaf-values f (lookup by-key t al vs) h = absurd (omega arith)
   leaf-values f (lookup (by-index i) t al vs) h = absurd (omega arith)
@@ -200,7 +200,7 @@ module _ (P : Over → Type 0) where
   over-offset f (other (remap ts)) h = absurd (omega arith)
   over-offset f (other (aggregate es gs)) h = absurd (omega arith)
 
-  pub over-order : ((ks : List (Expression × Bool)) → P (other (order ks))) → (x : Over) → over-tag x ≡ 59 → P x
+  pub over-order : ((ks : List (Expression × Bool × ℕ)) → P (other (order ks))) → (x : Over) → over-tag x ≡ 59 → P x
   over-order f (filter e) h = absurd (omega arith)
   over-order f (other (limit n)) h = absurd (omega arith)
   over-order f (other (offset n)) h = absurd (omega arith)
@@ -209,7 +209,7 @@ module _ (P : Over → Type 0) where
   over-order f (other (remap ts)) h = absurd (omega arith)
   over-order f (other (aggregate es gs)) h = absurd (omega arith)
 
-  pub over-projection : ((is : List (Expression × Label)) → P (other (projection is))) → (x : Over) → over-tag x ≡ 60 → P x
+  pub over-projection : ((is : List (Expression × Label × ℕ)) → P (other (projection is))) → (x : Over) → over-tag x ≡ 60 → P x
   over-projection f (filter e) h = absurd (omega arith)
   over-projection f (other (limit n)) h = absurd (omega arith)
   over-projection f (other (offset n)) h = absurd (omega arith)
@@ -218,7 +218,7 @@ module _ (P : Over → Type 0) where
   over-projection f (other (remap ts)) h = absurd (omega arith)
   over-projection f (other (aggregate es gs)) h = absurd (omega arith)
 
-  pub over-remap : ((ts : List (Option ℕ)) → P (other (remap ts))) → (x : Over) → over-tag x ≡ 61 → P x
+  pub over-remap : ((ts : List (Option ℕ × ℕ)) → P (other (remap ts))) → (x : Over) → over-tag x ≡ 61 → P x
   over-remap f (filter e) h = absurd (omega arith)
   over-remap f (other (limit n)) h = absurd (omega arith)
   over-remap f (other (offset n)) h = absurd (omega arith)
@@ -227,7 +227,7 @@ module _ (P : Over → Type 0) where
   over-remap f (other (remap ts)) h = f ts
   over-remap f (other (aggregate es gs)) h = absurd (omega arith)
 
-  pub over-aggregate : ((es : List Expression) (gs : List (ℕ × Expression)) → P (other (aggregate es gs))) → (x : Over) → over-tag x ≡ 50 → P x
+  pub over-aggregate : ((es : List Expression) (gs : List (ℕ × Expression × ℕ)) → P (other (aggregate es gs))) → (x : Over) → over-tag x ≡ 50 → P x
   over-aggregate f (filter e) h = absurd (omega arith)
   over-aggregate f (other (limit n)) h = absurd (omega arith)
   over-aggregate f (other (offset n)) h = absurd (omega arith)
@@ -247,44 +247,44 @@ module _ (P : Join → Type 0) where
 
 -- A node by its tag.
 module _ (P : Node → Type 0) where
-  pub by-scan : ((t : ℕ) (al : Option ℕ) (q : Option Expression) → P (leaf (scan t al q))) → (p : Node) → tag-of p ≡ 62 → P p
-  by-scan f p h = by-leaf (λ p. tag-of p ≡ 62 → P p) (λ l. leaf-scan (λ l. P (leaf l)) f l) p (sources-by-tag p ∙ ap told h) h
+  pub by-scan : ((og : ℕ) (t : ℕ) (al : Option ℕ) (q : Option Expression) → P (leaf og (scan t al q))) → (p : Node) → tag-of p ≡ 62 → P p
+  by-scan f p h = by-leaf (λ p. tag-of p ≡ 62 → P p) (λ og l. leaf-scan (λ l. P (leaf og l)) (f og) l) p (sources-by-tag p ∙ ap told h) h
 
-  pub by-key-lookup : ((t : ℕ) (al : Option ℕ) (vs : List Value) → P (leaf (lookup by-key t al vs))) → (p : Node) → tag-of p ≡ 54 → P p
-  by-key-lookup f p h = by-leaf (λ p. tag-of p ≡ 54 → P p) (λ l. leaf-key-lookup (λ l. P (leaf l)) f l) p (sources-by-tag p ∙ ap told h) h
+  pub by-key-lookup : ((og : ℕ) (t : ℕ) (al : Option ℕ) (vs : List (Value × ℕ)) → P (leaf og (lookup by-key t al vs))) → (p : Node) → tag-of p ≡ 54 → P p
+  by-key-lookup f p h = by-leaf (λ p. tag-of p ≡ 54 → P p) (λ og l. leaf-key-lookup (λ l. P (leaf og l)) (f og) l) p (sources-by-tag p ∙ ap told h) h
 
-  pub by-index-lookup : ((i t : ℕ) (al : Option ℕ) (vs : List Value) → P (leaf (lookup (by-index i) t al vs))) → (p : Node) → tag-of p ≡ 53 → P p
-  by-index-lookup f p h = by-leaf (λ p. tag-of p ≡ 53 → P p) (λ l. leaf-index-lookup (λ l. P (leaf l)) f l) p (sources-by-tag p ∙ ap told h) h
+  pub by-index-lookup : ((og : ℕ) (i t : ℕ) (al : Option ℕ) (vs : List (Value × ℕ)) → P (leaf og (lookup (by-index i) t al vs))) → (p : Node) → tag-of p ≡ 53 → P p
+  by-index-lookup f p h = by-leaf (λ p. tag-of p ≡ 53 → P p) (λ og l. leaf-index-lookup (λ l. P (leaf og l)) (f og) l) p (sources-by-tag p ∙ ap told h) h
 
-  pub by-nothing : ((ls : List Label) → P (leaf (nothing ls))) → (p : Node) → tag-of p ≡ 57 → P p
-  by-nothing f p h = by-leaf (λ p. tag-of p ≡ 57 → P p) (λ l. leaf-nothing (λ l. P (leaf l)) f l) p (sources-by-tag p ∙ ap told h) h
+  pub by-nothing : ((og : ℕ) (ls : List (Label × ℕ)) → P (leaf og (nothing ls))) → (p : Node) → tag-of p ≡ 57 → P p
+  by-nothing f p h = by-leaf (λ p. tag-of p ≡ 57 → P p) (λ og l. leaf-nothing (λ l. P (leaf og l)) (f og) l) p (sources-by-tag p ∙ ap told h) h
 
-  pub by-values : ((rs : List (List Expression)) → P (leaf (values rs))) → (p : Node) → tag-of p ≡ 63 → P p
-  by-values f p h = by-leaf (λ p. tag-of p ≡ 63 → P p) (λ l. leaf-values (λ l. P (leaf l)) f l) p (sources-by-tag p ∙ ap told h) h
+  pub by-values : ((og : ℕ) (rs : List (List Expression × ℕ)) → P (leaf og (values rs))) → (p : Node) → tag-of p ≡ 63 → P p
+  by-values f p h = by-leaf (λ p. tag-of p ≡ 63 → P p) (λ og l. leaf-values (λ l. P (leaf og l)) (f og) l) p (sources-by-tag p ∙ ap told h) h
 
-  pub by-filter : ((e : Expression) (n : Node) → P (over (filter e) n)) → (p : Node) → tag-of p ≡ 51 → P p
-  by-filter f p h = by-over (λ p. tag-of p ≡ 51 → P p) (λ o n. over-filter (λ o. P (over o n)) (λ e. f e n) o) p (sources-by-tag p ∙ ap told h) h
+  pub by-filter : ((og : ℕ) (e : Expression) (n : Node) → P (over og (filter e) n)) → (p : Node) → tag-of p ≡ 51 → P p
+  by-filter f p h = by-over (λ p. tag-of p ≡ 51 → P p) (λ og o n. over-filter (λ o. P (over og o n)) (λ e. f og e n) o) p (sources-by-tag p ∙ ap told h) h
 
-  pub by-limit : ((amount : ℕ) (n : Node) → P (over (other (limit amount)) n)) → (p : Node) → tag-of p ≡ 55 → P p
-  by-limit f p h = by-over (λ p. tag-of p ≡ 55 → P p) (λ o n. over-limit (λ o. P (over o n)) (λ amount. f amount n) o) p (sources-by-tag p ∙ ap told h) h
+  pub by-limit : ((og : ℕ) (amount : ℕ) (n : Node) → P (over og (other (limit amount)) n)) → (p : Node) → tag-of p ≡ 55 → P p
+  by-limit f p h = by-over (λ p. tag-of p ≡ 55 → P p) (λ og o n. over-limit (λ o. P (over og o n)) (λ amount. f og amount n) o) p (sources-by-tag p ∙ ap told h) h
 
-  pub by-offset : ((amount : ℕ) (n : Node) → P (over (other (offset amount)) n)) → (p : Node) → tag-of p ≡ 58 → P p
-  by-offset f p h = by-over (λ p. tag-of p ≡ 58 → P p) (λ o n. over-offset (λ o. P (over o n)) (λ amount. f amount n) o) p (sources-by-tag p ∙ ap told h) h
+  pub by-offset : ((og : ℕ) (amount : ℕ) (n : Node) → P (over og (other (offset amount)) n)) → (p : Node) → tag-of p ≡ 58 → P p
+  by-offset f p h = by-over (λ p. tag-of p ≡ 58 → P p) (λ og o n. over-offset (λ o. P (over og o n)) (λ amount. f og amount n) o) p (sources-by-tag p ∙ ap told h) h
 
-  pub by-order : ((ks : List (Expression × Bool)) (n : Node) → P (over (other (order ks)) n)) → (p : Node) → tag-of p ≡ 59 → P p
-  by-order f p h = by-over (λ p. tag-of p ≡ 59 → P p) (λ o n. over-order (λ o. P (over o n)) (λ ks. f ks n) o) p (sources-by-tag p ∙ ap told h) h
+  pub by-order : ((og : ℕ) (ks : List (Expression × Bool × ℕ)) (n : Node) → P (over og (other (order ks)) n)) → (p : Node) → tag-of p ≡ 59 → P p
+  by-order f p h = by-over (λ p. tag-of p ≡ 59 → P p) (λ og o n. over-order (λ o. P (over og o n)) (λ ks. f og ks n) o) p (sources-by-tag p ∙ ap told h) h
 
-  pub by-projection : ((is : List (Expression × Label)) (n : Node) → P (over (other (projection is)) n)) → (p : Node) → tag-of p ≡ 60 → P p
-  by-projection f p h = by-over (λ p. tag-of p ≡ 60 → P p) (λ o n. over-projection (λ o. P (over o n)) (λ is. f is n) o) p (sources-by-tag p ∙ ap told h) h
+  pub by-projection : ((og : ℕ) (is : List (Expression × Label × ℕ)) (n : Node) → P (over og (other (projection is)) n)) → (p : Node) → tag-of p ≡ 60 → P p
+  by-projection f p h = by-over (λ p. tag-of p ≡ 60 → P p) (λ og o n. over-projection (λ o. P (over og o n)) (λ is. f og is n) o) p (sources-by-tag p ∙ ap told h) h
 
-  pub by-remap : ((ts : List (Option ℕ)) (n : Node) → P (over (other (remap ts)) n)) → (p : Node) → tag-of p ≡ 61 → P p
-  by-remap f p h = by-over (λ p. tag-of p ≡ 61 → P p) (λ o n. over-remap (λ o. P (over o n)) (λ ts. f ts n) o) p (sources-by-tag p ∙ ap told h) h
+  pub by-remap : ((og : ℕ) (ts : List (Option ℕ × ℕ)) (n : Node) → P (over og (other (remap ts)) n)) → (p : Node) → tag-of p ≡ 61 → P p
+  by-remap f p h = by-over (λ p. tag-of p ≡ 61 → P p) (λ og o n. over-remap (λ o. P (over og o n)) (λ ts. f og ts n) o) p (sources-by-tag p ∙ ap told h) h
 
-  pub by-aggregate : ((es : List Expression) (gs : List (ℕ × Expression)) (n : Node) → P (over (other (aggregate es gs)) n)) → (p : Node) → tag-of p ≡ 50 → P p
-  by-aggregate f p h = by-over (λ p. tag-of p ≡ 50 → P p) (λ o n. over-aggregate (λ o. P (over o n)) (λ es gs. f es gs n) o) p (sources-by-tag p ∙ ap told h) h
+  pub by-aggregate : ((og : ℕ) (es : List Expression) (gs : List (ℕ × Expression × ℕ)) (n : Node) → P (over og (other (aggregate es gs)) n)) → (p : Node) → tag-of p ≡ 50 → P p
+  by-aggregate f p h = by-over (λ p. tag-of p ≡ 50 → P p) (λ og o n. over-aggregate (λ o. P (over og o n)) (λ es gs. f og es gs n) o) p (sources-by-tag p ∙ ap told h) h
 
-  pub by-nested-loop : ((outer : Bool) (q : Option Expression) (l r : Node) → P (join outer (nested-loop q) l r)) → (p : Node) → tag-of p ≡ 56 → P p
-  by-nested-loop f p h = by-join (λ p. tag-of p ≡ 56 → P p) (λ outer k l r. join-nested-loop (λ k. P (join outer k l r)) (λ q. f outer q l r) k) p (sources-by-tag p ∙ ap told h) h
+  pub by-nested-loop : ((og : ℕ) (outer : Bool) (q : Option Expression) (l r : Node) → P (join og outer (nested-loop q) l r)) → (p : Node) → tag-of p ≡ 56 → P p
+  by-nested-loop f p h = by-join (λ p. tag-of p ≡ 56 → P p) (λ og outer k l r. join-nested-loop (λ k. P (join og outer k l r)) (λ q. f og outer q l r) k) p (sources-by-tag p ∙ ap told h) h
 
-  pub by-hash : ((outer : Bool) (i j : ℕ) (l r : Node) → P (join outer (hash i j) l r)) → (p : Node) → tag-of p ≡ 52 → P p
-  by-hash f p h = by-join (λ p. tag-of p ≡ 52 → P p) (λ outer k l r. join-hash (λ k. P (join outer k l r)) (λ i j. f outer i j l r) k) p (sources-by-tag p ∙ ap told h) h
+  pub by-hash : ((og : ℕ) (outer : Bool) (i j : ℕ) (l r : Node) → P (join og outer (hash i j) l r)) → (p : Node) → tag-of p ≡ 52 → P p
+  by-hash f p h = by-join (λ p. tag-of p ≡ 52 → P p) (λ og outer k l r. join-hash (λ k. P (join og outer k l r)) (λ i j. f og outer i j l r) k) p (sources-by-tag p ∙ ap told h) h

@@ -5,16 +5,16 @@ use mathlib.Core.List.{List, [], _∷_, _++_}
 use mathlib.Core.Option.{Option, none, some}
 use lib.ListN.{length}
 use Rattle.value.specs.Value.{Value}
-use Rattle.sql.specs.Expression.{Expression, constant, column, unary, binary}
+use Rattle.sql.specs.Expression.{Marked, Expression, constant, column, unary, binary}
 use Rattle.sql.specs.Plan.{Label, Leaf, scan, lookup, nothing, values, Other, limit, offset, order, projection, remap, aggregate, Over, filter, other, Join, nested-loop, hash, Node, leaf, over, join}
 use Rattle.sheet.specs.Content.{Content, cell-of, constant-cell, column-cell, unary-cell, binary-cell, label-cell, item-cell, key-cell, target-cell, agg-cell, row-cell, aggregate-cell, filter-cell, hash-join-cell, limit-cell, offset-cell, nested-loop-join-cell, nothing-cell, order-cell, projection-cell, remap-cell, scan-cell, values-cell}
 use Rattle.sheet.specs.Cells.{present, lookup-content}
 use Rattle.cells.specs.declared.Cell.{Cell}
 use Rattle.cells.specs.Cells.{sized}
 
--- a cell without the two zeros
-unfoldable pub cell : Content → Cell
-cell k = record { tag = cell-of k .tag; flag = cell-of k .flag; a = cell-of k .a; b = cell-of k .b; c = cell-of k .c }
+-- what a cell says, and its origin
+unfoldable pub cell : ℕ → Content → Cell
+cell og k = record { origin = og; tag = cell-of k .tag; flag = cell-of k .flag; a = cell-of k .a; b = cell-of k .b; c = cell-of k .c }
 
 -- the words of each, one after the other
 abbrev pub all-words {ℓ} : {A : Type ℓ} → (A → List ℕ) → List A → List ℕ
@@ -24,22 +24,22 @@ all-words f (x ∷ xs) = f x ++ all-words f xs
 -- ---- expressions: the cell at the root, and the operands' words before it
 
 abbrev pub root : Expression → Content
-root (constant v) = constant-cell v
-root (column i) = column-cell i
-root (unary o x) = unary-cell o
-root (binary o l r) = binary-cell o
+root (constant og v) = constant-cell v
+root (column og i) = column-cell i
+root (unary og o x) = unary-cell o
+root (binary og o l r) = binary-cell o
 
 unfoldable pub expression-words : Expression → List ℕ
-expression-words (constant v) = sized [] (cell (constant-cell v))
-expression-words (column i) = sized [] (cell (column-cell i))
-expression-words (unary o x) = sized (expression-words x) (cell (unary-cell o))
-expression-words (binary o l r) = sized (expression-words l ++ expression-words r) (cell (binary-cell o))
+expression-words (constant og v) = sized [] (cell og (constant-cell v))
+expression-words (column og i) = sized [] (cell og (column-cell i))
+expression-words (unary og o x) = sized (expression-words x) (cell og (unary-cell o))
+expression-words (binary og o l r) = sized (expression-words l ++ expression-words r) (cell og (binary-cell o))
 
 abbrev pub operand-words : Expression → List ℕ
-operand-words (constant v) = []
-operand-words (column i) = []
-operand-words (unary o x) = expression-words x
-operand-words (binary o l r) = expression-words l ++ expression-words r
+operand-words (constant og v) = []
+operand-words (column og i) = []
+operand-words (unary og o x) = expression-words x
+operand-words (binary og o l r) = expression-words l ++ expression-words r
 
 abbrev pub optional-words : Option Expression → List ℕ
 optional-words none = []
@@ -47,26 +47,26 @@ optional-words (some e) = expression-words e
 
 -- ---- parts
 
-abbrev pub constant-words : Value → List ℕ
-constant-words v = sized [] (cell (constant-cell v))
+abbrev pub constant-words : Marked Value → List ℕ
+constant-words v = sized [] (cell (v .1) (constant-cell (v .0)))
 
-abbrev pub label-words : Label → List ℕ
-label-words l = sized [] (cell (label-cell l))
+abbrev pub label-words : Marked Label → List ℕ
+label-words l = sized [] (cell (l .1) (label-cell (l .0)))
 
-abbrev pub target-words : Option ℕ → List ℕ
-target-words t = sized [] (cell (target-cell t))
+abbrev pub target-words : Marked (Option ℕ) → List ℕ
+target-words t = sized [] (cell (t .1) (target-cell (t .0)))
 
-abbrev pub item-words : Expression × Label → List ℕ
-item-words i = sized (expression-words (i .0)) (cell (item-cell (i .1)))
+abbrev pub item-words : Expression × Label × ℕ → List ℕ
+item-words i = sized (expression-words (i .0)) (cell (i .2) (item-cell (i .1)))
 
-abbrev pub key-words : Expression × Bool → List ℕ
-key-words k = sized (expression-words (k .0)) (cell (key-cell (k .1)))
+abbrev pub key-words : Expression × Bool × ℕ → List ℕ
+key-words k = sized (expression-words (k .0)) (cell (k .2) (key-cell (k .1)))
 
-abbrev pub agg-words : ℕ × Expression → List ℕ
-agg-words g = sized (expression-words (g .1)) (cell (agg-cell (g .0)))
+abbrev pub agg-words : ℕ × Expression × ℕ → List ℕ
+agg-words g = sized (expression-words (g .1)) (cell (g .2) (agg-cell (g .0)))
 
-abbrev pub row-words : List Expression → List ℕ
-row-words es = sized (all-words expression-words es) (cell (row-cell (length es)))
+abbrev pub row-words : Marked (List Expression) → List ℕ
+row-words es = sized (all-words expression-words (es .0)) (cell (es .1) (row-cell (length (es .0))))
 
 -- ---- nodes: a node's own cell, and its own words, those of its parts, which stand between its sources' words and its cell
 
@@ -109,35 +109,35 @@ join-own (nested-loop p) = optional-words p
 join-own (hash l r) = []
 
 unfoldable pub node-words : Node → List ℕ
-node-words (leaf l) = sized (leaf-own l) (cell (leaf-cell l))
-node-words (over o n) = sized (node-words n ++ over-own o) (cell (over-cell o))
-node-words (join outer j l r) = sized (node-words l ++ (node-words r ++ join-own j)) (cell (join-cell outer j))
+node-words (leaf og l) = sized (leaf-own l) (cell og (leaf-cell l))
+node-words (over og o n) = sized (node-words n ++ over-own o) (cell og (over-cell o))
+node-words (join og outer j l r) = sized (node-words l ++ (node-words r ++ join-own j)) (cell og (join-cell outer j))
 
 -- the same by parts: the sources' words, a node's own words and its cell
 abbrev pub source-words : Node → List ℕ
-source-words (leaf l) = []
-source-words (over o n) = node-words n
-source-words (join outer j l r) = node-words l ++ node-words r
+source-words (leaf og l) = []
+source-words (over og o n) = node-words n
+source-words (join og outer j l r) = node-words l ++ node-words r
 
 abbrev pub own-words : Node → List ℕ
-own-words (leaf l) = leaf-own l
-own-words (over o n) = over-own o
-own-words (join outer j l r) = join-own j
+own-words (leaf og l) = leaf-own l
+own-words (over og o n) = over-own o
+own-words (join og outer j l r) = join-own j
 
 abbrev pub node-cell : Node → Content
-node-cell (leaf l) = leaf-cell l
-node-cell (over o n) = over-cell o
-node-cell (join outer j l r) = join-cell outer j
+node-cell (leaf og l) = leaf-cell l
+node-cell (over og o n) = over-cell o
+node-cell (join og outer j l r) = join-cell outer j
 
 -- how many sources a node has
 abbrev pub source-count : Node → ℕ
-source-count (leaf l) = 0
-source-count (over o n) = 1
-source-count (join outer j l r) = 2
+source-count (leaf og l) = 0
+source-count (over og o n) = 1
+source-count (join og outer j l r) = 2
 
 -- the expression with f of its operands; a rewrite that goes down into an expression does this at each cell that it keeps
 abbrev pub map-operands : (Expression → Expression) → Expression → Expression
-map-operands f (constant v) = constant v
-map-operands f (column i) = column i
-map-operands f (unary o x) = unary o (f x)
-map-operands f (binary o l r) = binary o (f l) (f r)
+map-operands f (constant og v) = constant og v
+map-operands f (column og i) = column og i
+map-operands f (unary og o x) = unary og o (f x)
+map-operands f (binary og o l r) = binary og o (f l) (f r)

@@ -15,7 +15,7 @@ use harness::tree::{Expr, Val, col, con, one, tag, two};
 use crate::calls;
 use crate::compare::ROOM;
 use crate::shapes::{self, Maker, Shape};
-use crate::words::{self, TEXT};
+use crate::words::{self, CELL_WORDS, TEXT};
 
 const ROUNDS: usize = 15;
 
@@ -65,8 +65,8 @@ fn fold(name: &str, e: &Rc<Expr>) {
     let proved = time(|| {
         let _ = black_box(calls::fold(TEXT, black_box(&s), &mut d));
     });
-    let toydb = time_taking(&original, s.len() / 6, |e| e.transform(&Ok, &ConstantFolding::fold));
-    row("fold", name, s.len() / 6, proved, toydb);
+    let toydb = time_taking(&original, s.len() / CELL_WORDS, |e| e.transform(&Ok, &ConstantFolding::fold));
+    row("fold", name, s.len() / CELL_WORDS, proved, toydb);
 }
 
 fn nnf(name: &str, e: &Rc<Expr>) {
@@ -75,7 +75,7 @@ fn nnf(name: &str, e: &Rc<Expr>) {
     let proved = time(|| {
         black_box(calls::into_nnf(black_box(&s), &mut d, 0));
     });
-    row("into_nnf", name, s.len() / 6, proved, time_taking(&original, s.len() / 6, Expression::into_nnf));
+    row("into_nnf", name, s.len() / CELL_WORDS, proved, time_taking(&original, s.len() / CELL_WORDS, Expression::into_nnf));
 }
 
 /// By the cells of the normal form, which may be more than those of the expression.
@@ -87,7 +87,7 @@ fn cnf(name: &str, e: &Rc<Expr>) {
         let n = calls::into_nnf(black_box(&s), &mut x, 0).expect("room");
         size = calls::distribute(&x[..n], &mut d, 0).expect("room");
     });
-    row("into_cnf", name, size / 6, proved, time_taking(&original, s.len() / 6, Expression::into_cnf));
+    row("into_cnf", name, size / CELL_WORDS, proved, time_taking(&original, s.len() / CELL_WORDS, Expression::into_cnf));
 }
 
 /// What the copies of toyDB's tree cost beside it, and what the cells cost to copy.
@@ -95,8 +95,8 @@ fn copies(name: &str, e: &Rc<Expr>) {
     let (s, original) = given(e);
     let mut d = vec![0; ROOM];
     let proved = time(|| black_box(&mut d)[..s.len()].copy_from_slice(black_box(&s)));
-    let toydb = time_taking(&original, s.len() / 6, |e| black_box(&e).clone());
-    row("copy (clone)", name, s.len() / 6, proved, toydb);
+    let toydb = time_taking(&original, s.len() / CELL_WORDS, |e| black_box(&e).clone());
+    row("copy (clone)", name, s.len() / CELL_WORDS, proved, toydb);
 }
 
 /// A random expression of about so many cells that folds and whose normal form fits.

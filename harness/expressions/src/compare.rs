@@ -15,10 +15,10 @@ use harness::tree::{self, Expr, Sheet};
 use harness::value::Fault;
 
 use crate::calls;
-use crate::words::{self, TEXT};
+use crate::words::{self, CELL_WORDS, TEXT};
 
 /// Words of 2,048 cells.
-pub const ROOM: usize = 2048 * 6;
+pub const ROOM: usize = 2048 * CELL_WORDS;
 
 /// Past so many cells toyDB's normal form isn't built.
 const TOO_LARGE: usize = 60_000;
@@ -259,7 +259,7 @@ pub fn compare(counts: &mut Counts, case: &str, e: &Rc<Expr>, a: &Asked) {
     let a = &Asked { by: a.by.min(words::highest_shift(&s)), ..a.clone() };
     let original = words::original(&e);
     counts.expressions += 1;
-    counts.largest = counts.largest.max(s.len() / 6);
+    counts.largest = counts.largest.max(s.len() / CELL_WORDS);
 
     let nnf = original.clone().into_nnf();
     let nnf_words = words::of_original(&nnf);
@@ -307,9 +307,9 @@ fn compare_cnf(counts: &mut Counts, case: &str, answers: &Answers, original: &Ex
         return;
     }
     let cnf = words::of_original(&original.clone().into_cnf());
-    assert_eq!(cnf.len(), size * 6, "{case}: toyDB's normal form has another size than was counted");
+    assert_eq!(cnf.len(), size * CELL_WORDS, "{case}: toyDB's normal form has another size than was counted");
     counts.words("into_cnf", case, &answers.cnf, &within(cnf));
-    if size > ROOM / 6 {
+    if size > ROOM / CELL_WORDS {
         return;
     }
     let (mut to_left, mut to_right, mut both) = (Vec::new(), Vec::new(), Vec::new());

@@ -14,25 +14,25 @@ use harness::tree::{Expr, Op, Val};
 
 use crate::compare::{self, Asked, Counts, ROOM};
 use crate::shapes::Maker;
-use crate::words::{self, TEXT};
+use crate::words::{self, A, B, CELL_WORDS, TAG, TEXT};
 
 fn cells(out: &mut Vec<u8>, w: &[u32]) {
     if w.len() > ROOM {
         out.extend(0xFFFFu16.to_le_bytes());
         return;
     }
-    out.extend((w.len() as u16 / 6).to_le_bytes());
-    for cell in w.chunks(6) {
-        out.push(cell[0] as u8);
-        out.extend(cell[2].to_le_bytes());
-        out.extend(cell[3].to_le_bytes());
+    out.extend(((w.len() / CELL_WORDS) as u16).to_le_bytes());
+    for cell in w.chunks(CELL_WORDS) {
+        out.push(cell[TAG] as u8);
+        out.extend(cell[A].to_le_bytes());
+        out.extend(cell[B].to_le_bytes());
     }
 }
 
 /// The tree with the first reference to each text, which is what toyDB's answers are given with.
 fn first_references(e: &Rc<Expr>) -> Rc<Expr> {
     let op = match &e.op {
-        Op::Const(Val::Str(r)) => Op::Const(Val::Str(words::first_references(&[5, 0, *r, 0, 0, 6])[2])),
+        Op::Const(Val::Str(r)) => Op::Const(Val::Str(words::first_references(&[0, 5, 0, *r, 0, 0, 7])[A])),
         Op::Const(_) | Op::Col(_) => e.op.clone(),
         Op::One(op, x) => Op::One(*op, first_references(x)),
         Op::Two(op, l, r) => Op::Two(*op, first_references(l), first_references(r)),

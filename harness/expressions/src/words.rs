@@ -1,5 +1,5 @@
-//! Expressions in their working form: postfix cells of six words of 32 bits, tag, flag, a, b, c and the number of words of the subtree that ends with the
-//! cell. From a tree, and from toyDB's `Expression`, each by its own lines.
+//! Expressions in their working form: postfix cells of seven words of 32 bits, origin (0), tag, flag, a, b, c and the number of words of the subtree that ends
+//! with the cell. From a tree, and from toyDB's `Expression`, each by its own lines.
 
 use std::rc::Rc;
 
@@ -8,6 +8,12 @@ use harness::tree::{self, Expr, NAN, Op, Val, tag, text_of};
 
 /// The text that Strings refer to. References to equal text differ.
 pub const TEXT: &[u8] = "aababcabdXéz\u{20ac}".as_bytes();
+
+/// The words of a cell, and which of them are its tag and its numbers a and b.
+pub const CELL_WORDS: usize = 7;
+pub const TAG: usize = 1;
+pub const A: usize = 3;
+pub const B: usize = 4;
 
 /// Offset and length of the references into TEXT.
 pub const REFERENCES: [(u32, u32); 14] =
@@ -25,8 +31,8 @@ fn first_reference(text: &[u8]) -> u32 {
 }
 
 fn put(words: &mut Vec<u32>, start: usize, tag: u8, a: u32, b: u32) {
-    let size = words.len() - start + 6;
-    words.extend([tag as u32, 0, a, b, 0, size as u32]);
+    let size = words.len() - start + CELL_WORDS;
+    words.extend([0, tag as u32, 0, a, b, 0, size as u32]);
 }
 
 fn halves(words: &mut Vec<u32>, tag: u8, bits: u64) {
@@ -112,15 +118,15 @@ pub fn of_original(e: &Expression) -> Vec<u32> {
 /// Words with the first reference to each text.
 pub fn first_references(words: &[u32]) -> Vec<u32> {
     let mut words = words.to_vec();
-    for cell in words.chunks_mut(6).filter(|cell| cell[0] == tag::STRING as u32) {
-        cell[2] = first_reference(text_of(TEXT, cell[2]));
+    for cell in words.chunks_mut(CELL_WORDS).filter(|cell| cell[TAG] == tag::STRING as u32) {
+        cell[A] = first_reference(text_of(TEXT, cell[A]));
     }
     words
 }
 
 /// The most that an expression's columns can be shifted up by: the highest of them has to fit a word.
 pub fn highest_shift(words: &[u32]) -> usize {
-    let columns = words.chunks(6).filter(|cell| cell[0] == tag::COLUMN as u32).map(|cell| cell[2]);
+    let columns = words.chunks(CELL_WORDS).filter(|cell| cell[TAG] == tag::COLUMN as u32).map(|cell| cell[A]);
     (u32::MAX - columns.max().unwrap_or(0)) as usize
 }
 

@@ -8,7 +8,7 @@ use harness::compare::{self, Settled};
 use harness::original;
 use harness::promise::{self, Case};
 use harness::rng::Rng;
-use harness::{check, damage, extremes, generate, model, sheet, tree, vectors, worked};
+use harness::{check, damage, extremes, generate, model, origins, sheet, tree, vectors, worked};
 
 fn main() {
     original::silence_panics();
@@ -18,6 +18,7 @@ fn main() {
     let ok = original::on_deep_stack(|| match args.first().map(String::as_str) {
         Some("worked") => worked::worked(|line| println!("{line}")),
         Some("self") => compare_many(number(1), number(2)),
+        Some("origins") => origins_many(number(1), number(2)),
         Some("answer") => answer(),
         Some("listing") => listing(),
         Some("explain") => explain(),
@@ -35,7 +36,7 @@ fn main() {
 
 fn usage() -> ! {
     eprintln!(
-        "usage: oracle worked | self N SEED | answer | listing | explain | sheets N SEED | damaged N SEED | \
+        "usage: oracle worked | self N SEED | origins N SEED | answer | listing | explain | sheets N SEED | damaged N SEED | \
          extremes | extremes show | counts N SEED | values SEED N | rows N SEED"
     );
     exit(2);
@@ -192,9 +193,9 @@ fn counts(count: u64, seed: u64) -> bool {
         let bytes = damaged(seed, n);
         let answer = check::check(&bytes);
         *numbers.entry(answer.number).or_default() += 1;
-        // What is accepted is read and written back as it was.
+        // What is accepted is read and written back as it was, in edition 1.
         if answer.number == 0 {
-            accepted += (tree::encode(&tree::decode(&bytes)) == bytes) as u64;
+            accepted += (tree::encode(&tree::decode(&bytes)) == origins::down(&bytes)) as u64;
         }
     }
     println!(
@@ -210,6 +211,31 @@ fn values(seed: u64, count: u64) -> bool {
     let mut out = std::io::BufWriter::new(std::io::stdout().lock());
     vectors::vectors(seed, count, |line| writeln!(out, "{line}").expect("output"));
     out.flush().is_ok()
+}
+
+/// The model of origins on random accepted sheets: each result, taken down to edition 1, must be the model's, to the byte.
+fn origins_many(n: u64, seed: u64) -> bool {
+    let (mut answers, mut different) = (0, 0);
+    for i in 0..n {
+        let mut rng = Rng::case(seed ^ 0x0216, i);
+        let plain = generate::bytes(&mut rng);
+        let bytes = origins::any_up(&mut rng, &plain);
+        for pass in 1..=model::ALL {
+            let run = |bytes: &[u8]| match pass {
+                model::ALL => model::all_five(bytes, 45_332),
+                k => model::one_pass(bytes, k, 45_332),
+            };
+            let ((first, unmarked), (second, marked)) = (run(&plain), run(&bytes));
+            let down = if second.number == 0 { origins::down(&marked) } else { marked };
+            answers += 1;
+            if (first, unmarked) != (second, down) {
+                different += 1;
+                println!("sheet {i}, pass {pass}: edition 2 is answered otherwise than edition 1");
+            }
+        }
+    }
+    println!("{n} sheets of edition 2, {answers} answers, {different} different from edition 1's, origins aside");
+    different == 0
 }
 
 /// `self N SEED`: the model against the compiled Rust, seven answers a sheet.

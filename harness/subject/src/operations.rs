@@ -5,7 +5,7 @@ use harness::check::Answer;
 use harness::compare::{self, Settled};
 use harness::rng::Rng;
 use harness::rows::{self, Interner};
-use harness::{damage, extremes, generate, model, original, promise, tree};
+use harness::{damage, extremes, generate, model, original, origins, promise, tree};
 
 /// An operation: 0 is check, 1 to 5 are the passes, 6 is all five, and n from 100 on asks for pass n - 100.
 pub type Operation = u32;
@@ -175,6 +175,42 @@ pub fn damaged(n: u64, seed: u64) -> bool {
         }
     });
     tally.print(&format!("{n} damaged sheets"))
+}
+
+/// `origins`: n random accepted sheets in edition 2, with distinct and with equal origins: seven answers each beside the model of origins, outputs of awkward
+/// lengths on every tenth; the same sheet in edition 1, whose results are those of edition 2 with the origins zero; and a damaged copy.
+pub fn origins(n: u64, seed: u64) -> bool {
+    let tally = in_two(n, |i, tally| {
+        let mut rng = Rng::case(seed ^ 0x0216, i);
+        let plain = generate::bytes(&mut rng);
+        let bytes = origins::any_up(&mut rng, &plain);
+        let case = format!("sheet {i}");
+        for operation in 0..=model::ALL {
+            tally.add(&case, operation, same(&bytes, operation, 45_332));
+            let ((second, mut marked), (first, unmarked)) = (proved(&bytes, operation, 45_332), proved(&plain, operation, 45_332));
+            if second.number == 0 && operation > 0 {
+                let length = second.length as usize;
+                let down = origins::down(&marked[..length]);
+                marked[..length].copy_from_slice(&down);
+            }
+            if (second, marked) != (first, unmarked) {
+                tally.report(&case, &format!("operation {operation}: edition 1 is answered otherwise"));
+            }
+        }
+        if i % 10 == 0 {
+            for operation in 1..=model::ALL {
+                let needed = modelled(&bytes, operation, 45_332).0.length as usize;
+                for capacity in [0, needed.saturating_sub(1), needed, needed + 1] {
+                    tally.add(&case, operation, same(&bytes, operation, capacity));
+                }
+            }
+        }
+        let damaged = damage::damage(&mut rng, &bytes);
+        for operation in [0, 1 + i as u32 % 5, model::ALL] {
+            tally.add(&format!("damaged {i}"), operation, same(&damaged, operation, 45_332));
+        }
+    });
+    tally.print(&format!("{n} accepted sheets in edition 2, and a damaged copy of each"))
 }
 
 /// `limits`: sheets at the limits, the library on a thread with so many KiB of stack.

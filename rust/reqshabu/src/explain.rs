@@ -4,16 +4,52 @@
 //! as they are, here they are escaped as in a string. Bytes that are no UTF-8, which toyDB can't hold, are printed as `\xFF`.
 use std::fmt;
 
-use crate::plan::{Cell, Plan, tag};
+use crate::plan::{Cell, Plan, tag, tag_name};
 
 /// A node's line of the tree.
 pub struct Line {
     /// The number of the node's cell.
     pub cell: usize,
+    /// Its origin, in edition 2.
+    pub origin: Option<u16>,
     /// The branches before the node.
     pub branches: String,
     /// The node in words.
     pub text: String,
+}
+
+/// How wide the numbers before a tree are.
+#[derive(Clone, Copy, Debug, Default, PartialEq, Eq)]
+pub struct Digits {
+    cell: usize,
+    origin: usize,
+}
+
+impl Digits {
+    /// Wide enough for both.
+    pub fn max(self, other: Digits) -> Digits {
+        Digits { cell: self.cell.max(other.cell), origin: self.origin.max(other.origin) }
+    }
+
+    /// A cell's number, and in edition 2 its origin.
+    pub fn numbers(self, cell: usize, origin: Option<u16>) -> String {
+        let Digits { cell: wide, origin: far } = self;
+        origin.map_or(format!("{cell:wide$}"), |origin| format!("{cell:wide$} from {origin:far$}"))
+    }
+}
+
+/// A line of a plan with what its parts came from ([`Plan::came_from`]).
+pub struct Part {
+    /// The number of its cell: a node's, or that of the top of a condition or of a lookup's constant.
+    pub cell: usize,
+    /// Its origin, in edition 2.
+    pub origin: Option<u16>,
+    /// What is before the words: the branches, and the depth of a condition in its node.
+    pub branches: String,
+    /// The node, condition or constant in words.
+    pub text: String,
+    /// What it was in the plan that was handed in, where the two differ.
+    pub was: Option<String>,
 }
 
 /// A column's name where it has one: toyDB's `Label`.
@@ -299,14 +335,66 @@ impl<'a> Plan<'a> {
             for (i, &source) in sources.iter().enumerate().rev() {
                 todo.push((source, format!("{above}{below}"), i + 1 == sources.len()));
             }
-            lines.push(Line { cell: node, branches: above + branch, text: self.node(node) });
+            lines.push(Line { cell: node, origin: self.origin(node), branches: above + branch, text: self.node(node) });
         }
         lines
     }
 
-    /// How many digits the cells' numbers have at most: the width of the numbers before the tree.
-    pub fn digits(&self) -> usize {
-        self.root().to_string().len()
+    /// The width of the numbers before the tree: those of the cells and, in edition 2, of their origins.
+    pub fn digits(&self) -> Digits {
+        let farthest = (0..self.cells.len()).filter_map(|i| self.origin(i)).max();
+        Digits { cell: self.root().to_string().len(), origin: farthest.map_or(0, |origin| origin.to_string().len()) }
+    }
+
+    /// The conditions of a node that passes move: the parts of a predicate or filter that stand under its Ands, and a lookup's constants.
+    fn conditions(&self, node: usize) -> Vec<usize> {
+        let own = self.own(node);
+        if !matches!(self.cells[node].tag, tag::FILTER | tag::NESTED_LOOP_JOIN | tag::SCAN) {
+            let lookup = matches!(self.cells[node].tag, tag::INDEX_LOOKUP | tag::KEY_LOOKUP);
+            return if lookup { own.to_vec() } else { Vec::new() };
+        }
+        let (mut found, mut todo) = (Vec::new(), own.to_vec());
+        while let Some(top) = todo.pop() {
+            match self.cells[top].tag {
+                tag::AND => todo.extend(self.children(top).iter().rev()),
+                _ => found.push(top),
+            }
+        }
+        found
+    }
+
+    /// The node that a cell is a part of: itself, or the nearest above it.
+    fn node_of(&self, cell: usize) -> usize {
+        // What a cell stands in are the cells behind it whose subtrees begin before it, the nearest first.
+        (cell..self.cells.len()).find(|&i| self.cells[i].tag >= tag::AGGREGATE && self.starts[i] <= cell).unwrap_or(self.root())
+    }
+
+    /// The tree with the conditions of each node, and where both came from in the plan that was handed in to the passes that made this one. What they were there can
+    /// be told if that plan [is numbered](Self::is_numbered).
+    pub fn came_from(&self, handed_in: &Plan) -> Vec<Part> {
+        let numbered = handed_in.is_numbered();
+        let old = |cell: usize| self.origin(cell).map(usize::from).filter(|&origin| numbered && origin < handed_in.cells.len());
+        let kind = |plan: &Plan, node: usize| tag_name(plan.cells[node].tag).unwrap_or_default();
+        let mut parts = Vec::new();
+        for Line { cell: node, origin, branches, text } in self.lines() {
+            let was = old(node).map(|before| kind(handed_in, before)).filter(|&before| before != kind(self, node));
+            // Below a node's own line the branches go on to its sources and to its parent's next one.
+            let below = branches.replace("├─ ", "│  ").replace("└─ ", "   ");
+            let more = if self.sources(node).is_empty() { "     " } else { "│    " };
+            parts.push(Part { cell: node, origin, branches, text, was: was.map(|before| format!("was {before}")) });
+            for top in self.conditions(node) {
+                let over = if self.cells[node].tag == tag::FILTER { self.sources(node)[0] } else { node };
+                let home = old(top).map(|before| handed_in.node_of(before)).filter(|&home| old(node) != Some(home));
+                parts.push(Part {
+                    cell: top,
+                    origin: self.origin(top),
+                    branches: format!("{below}{more}"),
+                    text: self.expression(top, over),
+                    was: home.map(|home| format!("was in {home} {}", kind(handed_in, home))),
+                });
+            }
+        }
+        parts
     }
 
     /// The plan as a graph for Graphviz's `dot`, rows flowing upwards.
@@ -318,7 +406,7 @@ impl<'a> Plan<'a> {
             let label = line.text.replace('\\', "\\\\").replace('"', "\\\"");
             // The node's name on a line of its own, then what it works on.
             let label = label.split_once(": ").map_or(label.clone(), |(kind, rest)| format!("{kind}\\n{rest}"));
-            text += &format!("  c{} [label=\"{label}\", xlabel=\"{}\"];\n", line.cell, line.cell);
+            text += &format!("  c{} [label=\"{label}\", xlabel=\"{}\"];\n", line.cell, Digits::default().numbers(line.cell, line.origin));
             for source in self.sources(line.cell) {
                 text += &format!("  c{} -> c{source};\n", line.cell);
             }
@@ -330,8 +418,8 @@ impl<'a> Plan<'a> {
 impl fmt::Display for Plan<'_> {
     fn fmt(&self, f: &mut fmt::Formatter<'_>) -> fmt::Result {
         let digits = self.digits();
-        for Line { cell, branches, text } in self.lines() {
-            writeln!(f, "{cell:digits$}  {branches}{text}")?;
+        for Line { cell, origin, branches, text } in self.lines() {
+            writeln!(f, "{}  {branches}{text}", digits.numbers(cell, origin))?;
         }
         Ok(())
     }

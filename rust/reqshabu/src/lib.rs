@@ -16,6 +16,9 @@
 //! `cargo run --example optimize -- FILE` in rust/reqshabu is that as a program. [`Plan`] reads a sheet for people: a tree as toyDB's EXPLAIN prints it, a
 //! graph, or a list of cells. It is tested, not proved.
 //!
+//! A sheet is of edition 1 or 2, and the sheet handed out is of the same. In edition 2 each cell has an *origin*, a number of 16 bits that the caller chooses; the
+//! cells handed out have those of the cells that they came from (docs/FORMAT.md, Origins). [`Plan::origin`] gives them.
+//!
 //! # What will be added
 //!
 //! The functions here keep their arguments. A mode (house or plain) and a summary of lookups, which requests to come bring, get functions of
@@ -27,7 +30,7 @@ mod explain;
 mod plan;
 mod refusal;
 
-pub use explain::{Line, changed_lines};
+pub use explain::{Digits, Line, Part, changed_lines};
 pub use plan::Plan;
 pub use refusal::Refusal;
 

@@ -9,7 +9,7 @@ use std::os::unix::fs::{MetadataExt, fchown};
 use std::path::{Path, PathBuf};
 use std::process::ExitCode;
 
-use reqshabu::{LARGEST_SHEET, Line, PASSES, Plan, Refusal, VERSION, changed_lines, check, optimize_to_vec, pass_to_vec};
+use reqshabu::{LARGEST_SHEET, Line, PASSES, Part, Plan, Refusal, VERSION, changed_lines, check, optimize_to_vec, pass_to_vec};
 
 const USAGE: &str = "\
 usage: reqshabu check FILE
@@ -26,6 +26,9 @@ const HELP: &str = "
   optimize   applies all five in turn
   explain    shows the plan as a tree, with the cell number of each node
   diff       shows the plan before and after each pass that changes it
+
+A sheet of edition 2 says where its cells came from: behind each cell number stands its origin, as `3 from 5`, and diff ends with the optimized plan, its
+conditions, and what each came from.
 
   -o OUT     writes the sheet that comes out to OUT, whole or not at all, instead of showing it
   --list     shows cells as numbers, one line each: number tag flag a b c
@@ -207,7 +210,22 @@ fn diff(request: &Request, sheet: &[u8]) -> Result<(), Stop> {
         }
         before = after;
     }
+    text += &origins(&Plan::read(sheet).map_err(refused)?, &Plan::read(&before).map_err(refused)?);
     print(&text)
+}
+
+/// For edition 2 the optimized plan, with the conditions of each node, and what came from where.
+fn origins(before: &Plan, after: &Plan) -> String {
+    if after.edition() == 1 {
+        return String::new();
+    }
+    let mut text = format!("in all: {} cells become {}\n", before.cells(), after.cells());
+    let digits = before.digits().max(after.digits());
+    for Part { cell, origin, branches, text: part, was } in after.came_from(before) {
+        let was = was.map_or(String::new(), |was| format!("  ({was})"));
+        text += &format!("    {}  {branches}{part}{was}\n", digits.numbers(cell, origin));
+    }
+    text
 }
 
 fn changes(number: usize, name: &str, before: &Plan, after: &Plan) -> String {
@@ -220,8 +238,8 @@ fn changes(number: usize, name: &str, before: &Plan, after: &Plan) -> String {
     let digits = before.digits().max(after.digits());
     let mut tree = |title: &str, lines: &[Line], marks: &[bool], mark: char| {
         text += &format!("  {title}\n");
-        for (Line { cell, branches, text: node }, &marked) in lines.iter().zip(marks) {
-            text += &format!("  {} {cell:digits$}  {branches}{node}\n", if marked { mark } else { ' ' });
+        for (Line { cell, origin, branches, text: node }, &marked) in lines.iter().zip(marks) {
+            text += &format!("  {} {}  {branches}{node}\n", if marked { mark } else { ' ' }, digits.numbers(*cell, *origin));
         }
     };
     tree("before", &old, &gone, '-');

@@ -114,6 +114,7 @@ pub(crate) struct Parts<'a> {
     pub tables: &'a [u8],
     pub columns: &'a [u8],
     pub cells: &'a [u8],
+    pub edition: u32,
 }
 
 impl<'a> Parts<'a> {
@@ -127,12 +128,14 @@ impl<'a> Parts<'a> {
             tables: sheet.get(tables..columns)?,
             columns: sheet.get(columns..cells)?,
             cells: sheet.get(cells..end)?,
+            edition: word(sheet, end + 12)?,
         })
     }
 
     pub fn cell(&self, number: usize) -> Option<Cell> {
         let bytes = self.cells.get(number.checked_mul(16)?..)?.get(..16)?;
-        Some(Cell { tag: bytes[0], flag: bytes[1], a: word(bytes, 4)?, b: word(bytes, 8)?, c: word(bytes, 12)? })
+        let origin = u16::from_le_bytes([bytes[2], bytes[3]]);
+        Some(Cell { tag: bytes[0], flag: bytes[1], origin, a: word(bytes, 4)?, b: word(bytes, 8)?, c: word(bytes, 12)? })
     }
 }
 
@@ -140,6 +143,8 @@ impl<'a> Parts<'a> {
 pub(crate) struct Cell {
     pub tag: u8,
     pub flag: u8,
+    /// 0 in edition 1.
+    pub origin: u16,
     pub a: u32,
     pub b: u32,
     pub c: u32,
@@ -186,9 +191,11 @@ pub(crate) struct Table<'a> {
     pub columns: Vec<&'a [u8]>,
 }
 
-/// The plan of an accepted sheet, to be shown: `to_string` gives the tree of toyDB's EXPLAIN, with the cell number of each node before its line.
+/// The plan of an accepted sheet, to be shown: `to_string` gives the tree of toyDB's EXPLAIN, with the cell number of each node before its line, and in edition 2
+/// its origin too.
 pub struct Plan<'a> {
     length: usize,
+    edition: u32,
     pub(crate) text: &'a [u8],
     pub(crate) tables: Vec<Table<'a>>,
     pub(crate) cells: Vec<Cell>,
@@ -221,6 +228,7 @@ impl<'a> Plan<'a> {
         let cells = (0..parts.cells.len() / 16).map(|i| parts.cell(i)).collect::<Option<Vec<_>>>()?;
         let mut plan = Plan {
             length: sheet.len(),
+            edition: parts.edition,
             text: parts.text,
             tables,
             children: Vec::with_capacity(cells.len()),
@@ -286,6 +294,21 @@ impl<'a> Plan<'a> {
         self.cells.len()
     }
 
+    /// The sheet's edition, 1 or 2.
+    pub fn edition(&self) -> u32 {
+        self.edition
+    }
+
+    /// Where a cell came from: its origin in edition 2. None in edition 1, and where there is no such cell.
+    pub fn origin(&self, cell: usize) -> Option<u16> {
+        self.cells.get(cell).filter(|_| self.edition == 2).map(|cell| cell.origin)
+    }
+
+    /// Whether the origin of each cell is its own number, as in a sheet that is about to be optimized: then the origins in the result name cells of this one.
+    pub fn is_numbered(&self) -> bool {
+        (0..self.cells.len()).all(|i| self.origin(i).is_some_and(|origin| usize::from(origin) == i))
+    }
+
     /// The root node's cell, the last one.
     pub(crate) fn root(&self) -> usize {
         self.cells.len() - 1
@@ -299,7 +322,7 @@ impl<'a> Plan<'a> {
     /// The cells as numbers, as the program sheet_list prints them: a header, then number, tag, flag, a, b and c of each cell.
     pub fn list(&self) -> String {
         let mut text = format!("cells {} bytes {} columns {}\n", self.cells.len(), self.length, self.widths[self.root()]);
-        for (i, Cell { tag, flag, a, b, c }) in self.cells.iter().enumerate() {
+        for (i, Cell { tag, flag, a, b, c, .. }) in self.cells.iter().enumerate() {
             text += &format!("{i} {tag} {flag} {a} {b} {c}\n");
         }
         text

@@ -18,7 +18,7 @@ impl Refusal {
         match self.number {
             1 => "there is no such pass, only 1 to 5",
             2 => "this is no sheet: it has under 20 or over 45,332 bytes, or its last word is not its length",
-            3 => "the edition is not 1",
+            3 => "the edition is neither 1 nor 2",
             4 => "a part is out of order, not whole or over its limit, or there is no cell",
             5 => "a table or column record breaks its layout",
             6 => "a cell breaks its layout",
@@ -69,6 +69,9 @@ impl Refusal {
             None => format!("tag {}, which is none", cell.tag),
         };
         Some(match self.number {
+            6 if parts.edition == 1 && cell.origin != 0 && plan::tag_name(cell.tag).is_some() => {
+                format!("cell {place} ({name}): bytes 2 and 3 are not zero, and edition 1 has no origins")
+            }
             8 => format!("cell {place} ({name}) lacks its children"),
             _ => format!("cell {place} ({name})"),
         })

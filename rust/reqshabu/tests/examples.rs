@@ -1,7 +1,7 @@
 //! The example sheets, through the wrapper: what each gets from check, from each pass and from all five.
 mod common;
 
-use common::{examples, listing, output};
+use common::{down, edition, examples, listing, origins, output, up};
 use std::fs;
 
 #[test]
@@ -38,6 +38,54 @@ fn each_pass() {
         };
         let text: String = (1..=5).map(one).collect();
         assert_eq!(text, fs::read_to_string(path.with_extension("passes")).unwrap(), "{}", path.display());
+    }
+}
+
+/// The passes by number, and all five as 6.
+fn operate(number: usize, sheet: &[u8]) -> Result<Vec<u8>, reqshabu::Refusal> {
+    match number {
+        6 => reqshabu::optimize_to_vec(sheet),
+        _ => reqshabu::pass_to_vec(sheet, number),
+    }
+}
+
+#[test]
+fn stored_origins() {
+    let mut found = 0;
+    for path in examples() {
+        let sheet = fs::read(&path).unwrap();
+        let Ok(stored) = fs::read_to_string(path.with_extension("origins")) else { continue };
+        let line = |what: String, sheet: &[u8]| {
+            let numbers: Vec<String> = origins(sheet).iter().map(u16::to_string).collect();
+            format!("{what}: {}\n", numbers.join(" "))
+        };
+        let mut text = line("handed in".into(), &sheet);
+        (1..=5).for_each(|pass| text += &line(format!("pass {pass}"), &operate(pass, &sheet).unwrap()));
+        text += &line("all five".into(), &operate(6, &sheet).unwrap());
+        assert_eq!(text, stored, "{}", path.display());
+        found += 1;
+    }
+    assert!(found >= 2, "only {found} examples of edition 2");
+}
+
+#[test]
+fn editions_are_answered_alike() {
+    for path in examples() {
+        let sheet = fs::read(&path).unwrap();
+        if reqshabu::check(&sheet).is_err() {
+            continue;
+        }
+        let (one, two) = (down(&sheet), up(&sheet, |i| (i as u16).wrapping_mul(40_503)));
+        assert_eq!(reqshabu::check(&two), reqshabu::check(&one), "{}", path.display());
+        for number in 1..=6 {
+            let (plain, with) = (operate(number, &one), operate(number, &two));
+            if let (Ok(plain), Ok(with)) = (&plain, &with) {
+                assert_eq!((edition(plain), edition(with)), (1, 2), "{}, {number}", path.display());
+                assert!(origins(plain).iter().all(|&origin| origin == 0), "{}, {number}", path.display());
+                assert!(origins(with).iter().all(|origin| origins(&two).contains(origin)), "{}, {number}", path.display());
+            }
+            assert_eq!(with.map(|with| down(&with)), plain, "{}, {number}", path.display());
+        }
     }
 }
 

@@ -1,7 +1,7 @@
 //! The boundaries of document 01's "Run only", and the deepest and widest sheets on a thread with a stack of 1 MiB.
 mod common;
 
-use common::{cell, on_small_stack, output, over_table, sheet, sheet_with, LARGEST};
+use common::{cell, on_small_stack, output, over_table, sheet, sheet_with, up, LARGEST};
 use reqshabu::{check, optimize, pass, Accepted, Refusal, Written};
 
 type Cell = [u8; 16];
@@ -50,12 +50,17 @@ fn refused(sheet: &[u8], number: u64, place: u64) {
     }
 }
 
-/// What each pass and, last, all five answer: the number of cells, or the refusal's number.
+/// What each pass and, last, all five answer: the number of cells, or the refusal's number. In edition 2 it is the same.
 fn answers(sheet: &[u8]) -> [Result<u64, u64>; 6] {
-    std::array::from_fn(|i| {
-        let answer = operate(i + 1, sheet, &mut output());
-        answer.map(|written| written.cells).map_err(|refusal| refusal.number)
-    })
+    let of = |sheet: &[u8]| -> [Result<u64, u64>; 6] {
+        std::array::from_fn(|i| {
+            let answer = operate(i + 1, sheet, &mut output());
+            answer.map(|written| written.cells).map_err(|refusal| refusal.number)
+        })
+    };
+    let plain = of(sheet);
+    assert_eq!(of(&up(sheet, |i| u16::MAX - i as u16)), plain, "edition 2");
+    plain
 }
 
 #[test]
@@ -85,6 +90,11 @@ fn bytes() {
         let needed = Refusal { number: 15, place: LARGEST as u64 };
         assert_eq!(operate(number, &full, &mut output[..LARGEST - 1]), Err(needed));
         let written = Written { length: LARGEST as u64, cells: 2048, columns: 16 };
+        assert_eq!(operate(number, &full, &mut output), Ok(written));
+        assert!(output == full, "{number}");
+        // In edition 2 each cell keeps its origin.
+        let full = up(&full, |i| 65_535 - 31 * i as u16);
+        assert_eq!(operate(number, &full, &mut output[..LARGEST - 1]), Err(needed));
         assert_eq!(operate(number, &full, &mut output), Ok(written));
         assert!(output == full, "{number}");
     }

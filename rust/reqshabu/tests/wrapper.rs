@@ -1,7 +1,7 @@
 //! What the wrapper adds to the operations: sheets in vectors, refusals in words, and plans to be shown.
 mod common;
 
-use common::{LARGEST, cell, example, examples, listing, on_small_stack, output, sheet};
+use common::{LARGEST, cell, down, example, examples, listing, on_small_stack, output, sheet, up};
 use reqshabu::{LARGEST_SHEET, PASSES, Plan, Refusal, changed_lines, check, optimize, optimize_to_vec, pass, pass_to_vec};
 use std::fs;
 
@@ -44,6 +44,9 @@ fn places_in_words() {
         let sheet = example(name);
         optimize(&sheet, &mut output()).unwrap_err().describe(&sheet)
     };
+    assert!(said("refused-3").ends_with(": the edition is neither 1 nor 2"));
+    assert!(said("refused-6").ends_with(": cell 1 (Filter)"));
+    assert!(said("refused-6-origin").ends_with(": cell 1 (Limit): bytes 2 and 3 are not zero, and edition 1 has no origins"));
     assert!(said("refused-7").ends_with(": cell 2 (Multiply)"));
     assert!(said("refused-8-two").ends_with("each of the 2 cells has its children, but together they are not exactly one node"));
     assert!(said("refused-9").ends_with(": cell 3 (Column #1)"));
@@ -90,13 +93,50 @@ fn deep_plans_are_shown_on_a_small_stack() {
         let mut filters = vec![cell(1, 0, 0, 0, 0), cell(45, 0, 1, 0, 0), cell(63, 0, 1, 0, 0)];
         (0..1_022).for_each(|_| filters.extend([cell(6, 0, 0, 0, 0), cell(51, 0, 0, 0, 0)]));
         for (cells, nodes) in [(limits, 2_048), (joins, 2_047), (nots, 2), (filters, 1_023)] {
-            let sheet = sheet(&cells);
+            let sheet = up(&sheet(&cells), |i| i as u16);
             let plan = Plan::read(&sheet).unwrap();
+            assert!(plan.came_from(&plan).iter().all(|part| part.was.is_none()));
             assert_eq!(plan.lines().len(), nodes);
             assert_eq!(plan.to_string().lines().count(), nodes);
             assert_eq!(plan.dot().matches(" -> ").count(), nodes - 1);
         }
     });
+}
+
+#[test]
+fn origins_of_cells() {
+    let numbered = example("boot-file-2");
+    let plan = Plan::read(&numbered).unwrap();
+    assert_eq!((plan.edition(), plan.is_numbered()), (2, true));
+    assert_eq!((plan.origin(0), plan.origin(18), plan.origin(19)), (Some(0), Some(18), None));
+    // Edition 1 has none.
+    let plain = down(&numbered);
+    let plan = Plan::read(&plain).unwrap();
+    assert_eq!((plan.edition(), plan.is_numbered(), plan.origin(0)), (1, false, None));
+    assert!(plan.lines().iter().all(|line| line.origin.is_none()));
+    // Others than the cells' numbers.
+    let others = up(&plain, |i| 1_000 - i as u16);
+    let plan = Plan::read(&others).unwrap();
+    assert_eq!((plan.is_numbered(), plan.origin(18)), (false, Some(982)));
+    assert!(plan.to_string().starts_with("18 from  982  Projection: "));
+    assert!(plan.dot().contains("xlabel=\"18 from 982\""));
+}
+
+#[test]
+fn what_parts_came_from() {
+    let shown = |handed_in: &[u8]| {
+        let result = optimize_to_vec(handed_in).unwrap();
+        let (before, after) = (Plan::read(handed_in).unwrap(), Plan::read(&result).unwrap());
+        let part = |part: reqshabu::Part| (part.cell, part.origin, part.was.unwrap_or_default());
+        after.came_from(&before).into_iter().map(part).collect::<Vec<_>>()
+    };
+    let numbered = example("boot-file-2");
+    let expected = [(8, 18, ""), (3, 5, "was NestedLoopJoin"), (1, 0, "was Scan"), (0, 7, "was in 13 Filter"), (2, 1, "")];
+    assert_eq!(shown(&numbered), expected.map(|(cell, origin, was)| (cell, Some(origin), was.to_string())));
+    // Where the cells aren't numbered, what they were can't be told; edition 1 has no origins at all.
+    let others = up(&numbered, |i| 2 * i as u16);
+    assert_eq!(shown(&others), expected.map(|(cell, origin, _)| (cell, Some(2 * origin), String::new())));
+    assert_eq!(shown(&down(&numbered)), expected.map(|(cell, _, _)| (cell, None, String::new())));
 }
 
 #[test]

@@ -1,5 +1,5 @@
 use Prim.Native.Nat.{_+_, _-_}
-use Rattle.cells.proofs.Laws.{put6, seals-not, seals}
+use Rattle.cells.proofs.Laws.{put7, seals-not, seals}
 use mathlib.Core.Logic.{inl, inr}
 use mathlib.Core.Path.{refl}
 use lib.ListN.{length-set}
@@ -80,6 +80,15 @@ mul-d-6 c = search needs
 slice-write-d-6 : tie.Need-slice-write-d-6
 slice-write-d-6 c = simp length-set (omega arith)
 
+add-d-7 : tie.Need-add-d-7
+add-d-7 c = search needs
+
+mul-d-7 : tie.Need-mul-d-7
+mul-d-7 c = search needs
+
+slice-write-d-7 : tie.Need-slice-write-d-7
+slice-write-d-7 c = simp length-set (omega arith)
+
 add-result : tie.Need-add-result
 add-result c = search needs
 
@@ -87,7 +96,7 @@ same-length : tie.Need-same-length
 same-length c = simp length-set refl
 
 returns-5 : tie.Need-returns-5
-returns-5 c = let a = c .before .before .before .before .args in (seals (a .k) (omega arith) (omega arith) (put6 (a .d .now) (a .at) (a .k .tag) (a .k .flag) (a .k .a) (a .k .b) (a .k .c) (a .at - a .lo + 6) (omega arith)), λ h. absurd (omega arith))
+returns-5 c = let a = c .before .before .before .before .args in (seals (a .k) (omega arith) (omega arith) (put7 (a .d .now) (a .at) (a .k .origin) (a .k .tag) (a .k .flag) (a .k .a) (a .k .b) (a .k .c) (a .at - a .lo + 7) (omega arith)), λ h. absurd (omega arith))
 
 pub put-spec : {M : Type 1} → statement M
 put-spec =
@@ -113,10 +122,13 @@ put-spec =
     mul-d-5
     slice-write-d-5
     add-d-5
-    cast-d
-    add-d-6
     mul-d-6
     slice-write-d-6
+    add-d-6
+    cast-d
+    add-d-7
+    mul-d-7
+    slice-write-d-7
     add-result
     same-length
     returns-5)

@@ -1,4 +1,4 @@
-use Rattle.chain.proofs.Bare.{bare-at, six-inside, down-bare, several-sources, own-left}
+use Rattle.chain.proofs.Bare.{bare-at, cell-inside, down-bare, several-sources, own-left}
 use Rattle.chain.specs.Chain.{Bare, no-more}
 use Rattle.nodes.proofs.Own.{has-sources}
 use native.Mathlib.Omega.{arith}
@@ -32,10 +32,10 @@ returns-2 : tie.Need-returns-2 Inv-loop μ-loop
 returns-2 c = own-left (c .before .before .before .before .loop .inv) (c .before .before .before .source-count .ensures) (c .before .before .if1 .left) (c .before .own-trees .ensures) (c .if2 .taken)
 
 sub-end : tie.Need-sub-end Inv-loop μ-loop
-sub-end c = six-inside (c .before .before .before .before .loop .inv) (c .before .before .before .before .before .before .pre)
+sub-end c = cell-inside (c .before .before .before .before .loop .inv) (c .before .before .before .before .before .before .pre)
 
 loop-less : tie.Need-loop-less Inv-loop μ-loop
-loop-less c = omega (arith, six-inside (c .before .before .before .before .loop .inv) (c .before .before .before .before .before .before .pre))
+loop-less c = omega (arith, cell-inside (c .before .before .before .before .loop .inv) (c .before .before .before .before .before .before .pre))
 
 loop-again : tie.Need-loop-again Inv-loop μ-loop
 loop-again c = down-bare (c .before .before .before .before .loop .inv) (c .before .before .before .before .before .before .pre) (c .before .before .before .source-count .ensures) (c .before .before .if1 .left) (c .before .own-trees .ensures) (c .if2 .left)

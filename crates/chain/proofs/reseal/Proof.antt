@@ -43,6 +43,9 @@ cast-size c = search needs
 add-size-2 : tie.Need-add-size-2 Inv-loop μ-loop
 add-size-2 c = search needs
 
+add-size-3 : tie.Need-add-size-3 Inv-loop μ-loop
+add-size-3 c = search needs
+
 mul-size-2 : tie.Need-mul-size-2 Inv-loop μ-loop
 mul-size-2 c = search needs
 
@@ -85,12 +88,13 @@ reseal-spec =
     sub-to
     loop-holds
     sub-loop
+    add-size
     mul-size
     slice-read-size
-    add-size
+    add-size-2
     sub-size
     cast-size
-    add-size-2
+    add-size-3
     mul-size-2
     slice-read-size-2
     size-requires

@@ -29,6 +29,7 @@ use Rattle.cells.proofs.cell_at.Reads as cell-at-reads
 use Rattle.cells.proofs.put.Reads as put-reads
 use Rattle.cells.proofs.start.Reads as start-reads
 use Rattle.cells.proofs.tag_at.Reads as tag-at-reads
+use Rattle.cells.proofs.origin_at.Reads as origin-at-reads
 use Rattle.cnf.proofs.+distribute_expression+distribute_operands+or_both+or_right.{statement}
 use Rattle.cnf.proofs.+distribute_expression+distribute_operands+or_both+or_right.Tie.{close}
 
@@ -82,7 +83,7 @@ or-right-below t =
     and 2 or-right-kinds.ps (falls 2 or-right-kinds.ps _<_ μ-or-right t) or-right.Pre
 
 abbrev distribute-expression-claims : ℕ → distribute-expression-lts.Claims
-distribute-expression-claims t = (tag-at-reads.Asked, tag-at-reads.Learnt, start-reads.Asked, start-reads.Learnt, or-both-below t, or-both.Post, distribute-operands-below t, distribute-operands.Post)
+distribute-expression-claims t = (tag-at-reads.Asked, tag-at-reads.Learnt, start-reads.Asked, start-reads.Learnt, origin-at-reads.Asked, origin-at-reads.Learnt, or-both-below t, or-both.Post, distribute-operands-below t, distribute-operands.Post)
 
 abbrev distribute-operands-claims : ℕ → distribute-operands-lts.Claims
 distribute-operands-claims t = (cell-at-reads.Asked, cell-at-reads.Learnt, put-reads.Asked, put-reads.Learnt, distribute-expression-below t, distribute-expression.Post, start-reads.Asked, start-reads.Learnt)
@@ -105,14 +106,17 @@ distribute-expression-sub-k t c = let (h, k) = at-in (c .before .before .before 
 distribute-expression-start-requires : (t : ℕ) → distribute-expression-lts.Need-start-requires (distribute-expression-claims t) (distribute-expression-at t) distribute-expression.Post
 distribute-expression-start-requires t c κs = at-last (omega (arith, c .before .tag-at .ensures, c .if2 .taken)) (omega (arith, c .before .tag-at .ensures, c .if2 .taken)) (c .before .before .before .before .before .pre .1)
 
+distribute-expression-origin-at-requires : (t : ℕ) → distribute-expression-lts.Need-origin-at-requires (distribute-expression-claims t) (distribute-expression-at t) distribute-expression.Post
+distribute-expression-origin-at-requires t c κs = let (h, k) = at-in (c .before .before .before .before .before .before .before .pre .1) in (omega arith, k)
+
 distribute-expression-or-both-requires : (t : ℕ) → distribute-expression-lts.Need-or-both-requires (distribute-expression-claims t) (distribute-expression-at t) distribute-expression.Post
-distribute-expression-or-both-requires t c κs = let e = c .before .before .before .tag-at .ensures in let g : 10 ≤ tag-at (c .before .before .before .before .before .before .before .args .s .now) (c .before .before .before .before .before .before .before .args .hi) = omega (arith, e, c .before .before .if2 .taken) in let f : tag-at (c .before .before .before .before .before .before .before .args .s .now) (c .before .before .before .before .before .before .before .args .hi) < 30 = omega (arith, e, c .before .before .if2 .taken) in let l = at-left g f (c .before .start .ensures) (c .before .before .before .before .before .before .before .pre .1) in let r = at-right g f (c .before .start .ensures) (c .before .before .before .before .before .before .before .pre .1) in let (h, k) = at-in r in let (h′, k′) = at-in l in (omega (arith, c .before .before .before .before .before .before .before .pre .0), (l, r))
+distribute-expression-or-both-requires t c κs = let e = c .before .before .before .before .tag-at .ensures in let g : 10 ≤ tag-at (c .before .before .before .before .before .before .before .before .args .s .now) (c .before .before .before .before .before .before .before .before .args .hi) = omega (arith, e, c .before .before .before .if2 .taken) in let f : tag-at (c .before .before .before .before .before .before .before .before .args .s .now) (c .before .before .before .before .before .before .before .before .args .hi) < 30 = omega (arith, e, c .before .before .before .if2 .taken) in let l = at-left g f (c .before .before .start .ensures) (c .before .before .before .before .before .before .before .before .pre .1) in let r = at-right g f (c .before .before .start .ensures) (c .before .before .before .before .before .before .before .before .pre .1) in let (h, k) = at-in r in let (h′, k′) = at-in l in (omega (arith, c .before .before .before .before .before .before .before .before .pre .0), (l, r))
 
 distribute-expression-same-length : (t : ℕ) → distribute-expression-lts.Need-same-length (distribute-expression-claims t) (distribute-expression-at t) distribute-expression.Post
 distribute-expression-same-length t c = search needs
 
 distribute-expression-returns-2 : (t : ℕ) → distribute-expression-lts.Need-returns-2 (distribute-expression-claims t) (distribute-expression-at t) distribute-expression.Post
-distribute-expression-returns-2 t c = distribute-as-or (c .before .before .before .before .start .ensures) (sym (c .before .before .before .before .before .before .tag-at .ensures) ∙ c .before .before .before .before .before .if2 .taken) (c .before .before .or-both .ensures)
+distribute-expression-returns-2 t c = distribute-as-or (c .before .before .before .before .before .start .ensures) (sym (c .before .before .before .before .before .before .before .tag-at .ensures) ∙ c .before .before .before .before .before .before .if2 .taken) (c .before .before .before .origin-at .ensures) (c .before .before .or-both .ensures)
 
 distribute-expression-distribute-operands-requires : (t : ℕ) → distribute-expression-lts.Need-distribute-operands-requires (distribute-expression-claims t) (distribute-expression-at t) distribute-expression.Post
 distribute-expression-distribute-operands-requires t c κs = (omega (arith, c .before .before .before .before .before .before .pre .0), c .before .before .before .before .before .before .pre .1)
@@ -169,7 +173,7 @@ distribute-operands-returns-3 : (t : ℕ) → distribute-operands-lts.Need-retur
 distribute-operands-returns-3 t c = let e = ap (λ (x : Cell). x .tag) (c .before .before .before .before .before .before .before .before .before .before .before .before .before .before .before .before .before .cell-at .ensures) in operands-binary distribute (c .before .before .before .before .before .before .before .before .before .before .before .before .before .before .before .before .before .cell-at .ensures) (c .before .before .before .before .before .before .before .before .before .before .distribute-expression2 .kept .1 .1 .1 .0) (c .before .before .before .before .before .before .distribute-expression3 .kept .1 .1 .1 .0) (c .before .before .before .before .before .before .before .before .before .before .before .before .start .ensures) (omega (arith, e, c .before .before .before .before .before .before .before .before .before .before .before .before .before .before .before .if1 .left)) (omega (arith, e, c .before .before .before .before .before .before .before .before .before .before .before .before .before .if2 .left)) (c .before .before .before .before .before .before .before .before .before .before .distribute-expression2 .ensures) (c .before .before .before .before .before .before .distribute-expression3 .ensures) (c .before .before .put3 .ensures .0)
 
 or-both-returns : (t : ℕ) → or-both-lts.Need-returns (or-both-claims t) (or-both-at t) or-both.Post
-or-both-returns t c = full-two spread (c .if1 .taken)
+or-both-returns t c = full-two (spread (c .before .before .before .args .origin)) (c .if1 .taken)
 
 or-both-tag-at-requires : (t : ℕ) → or-both-lts.Need-tag-at-requires (or-both-claims t) (or-both-at t) or-both.Post
 or-both-tag-at-requires t c κs = let (h, k) = at-in (c .before .before .before .pre .1 .0) in (omega arith, k)
@@ -193,7 +197,7 @@ or-both-same-length : (t : ℕ) → or-both-lts.Need-same-length (or-both-claims
 or-both-same-length t c = search needs
 
 or-both-returns-2 : (t : ℕ) → or-both-lts.Need-returns-2 (or-both-claims t) (or-both-at t) or-both.Post
-or-both-returns-2 t c = both-and (c .before .before .before .before .before .before .before .before .before .before .or-both .kept .1 .1 .1 .1 .1 .0) (c .before .before .before .before .before .before .or-both2 .kept .1 .1 .1 .1 .1 .0) (c .before .before .before .before .before .before .before .before .before .before .before .before .start .ensures) (sym (c .before .before .before .before .before .before .before .before .before .before .before .before .before .before .tag-at .ensures) ∙ c .before .before .before .before .before .before .before .before .before .before .before .before .before .if2 .taken) (c .before .before .before .before .before .before .before .before .before .before .or-both .ensures) (c .before .before .before .before .before .before .or-both2 .ensures) (c .before .before .put .ensures .0)
+or-both-returns-2 t c = both-and (c .before .before .before .before .before .before .before .before .before .before .or-both .kept .1 .1 .1 .1 .1 .0) (c .before .before .before .before .before .before .or-both2 .kept .1 .1 .1 .1 .1 .0) (c .before .before .before .before .before .before .before .before .before .before .before .before .before .before .before .before .before .before .args .origin) (c .before .before .before .before .before .before .before .before .before .before .before .before .start .ensures) (sym (c .before .before .before .before .before .before .before .before .before .before .before .before .before .before .tag-at .ensures) ∙ c .before .before .before .before .before .before .before .before .before .before .before .before .before .if2 .taken) (c .before .before .before .before .before .before .before .before .before .before .or-both .ensures) (c .before .before .before .before .before .before .or-both2 .ensures) (c .before .before .put .ensures .0)
 
 or-both-or-right-requires : (t : ℕ) → or-both-lts.Need-or-right-requires (or-both-claims t) (or-both-at t) or-both.Post
 or-both-or-right-requires t c κs = (omega (arith, c .before .before .before .before .before .before .pre .0), c .before .before .before .before .before .before .pre .1)
@@ -202,10 +206,10 @@ or-both-same-length-2 : (t : ℕ) → or-both-lts.Need-same-length-2 (or-both-cl
 or-both-same-length-2 t c = search needs
 
 or-both-returns-3 : (t : ℕ) → or-both-lts.Need-returns-3 (or-both-claims t) (or-both-at t) or-both.Post
-or-both-returns-3 t c = both-as-right (λ z. c .before .before .before .before .if2 .left (c .before .before .before .before .before .tag-at .ensures ∙ z)) (c .before .before .or-right .ensures)
+or-both-returns-3 t c = both-as-right (c .before .before .before .before .before .before .before .before .before .args .origin) (λ z. c .before .before .before .before .if2 .left (c .before .before .before .before .before .tag-at .ensures ∙ z)) (c .before .before .or-right .ensures)
 
 or-right-returns : (t : ℕ) → or-right-lts.Need-returns (or-right-claims t) (or-right-at t) or-right.Post
-or-right-returns t c = full-two spread-right (c .if1 .taken)
+or-right-returns t c = full-two (spread-right (c .before .before .before .args .origin)) (c .if1 .taken)
 
 or-right-tag-at-requires : (t : ℕ) → or-right-lts.Need-tag-at-requires (or-right-claims t) (or-right-at t) or-right.Post
 or-right-tag-at-requires t c κs = let (h, k) = at-in (c .before .before .before .pre .1 .1) in (omega arith, k)
@@ -229,7 +233,7 @@ or-right-same-length : (t : ℕ) → or-right-lts.Need-same-length (or-right-cla
 or-right-same-length t c = search needs
 
 or-right-returns-2 : (t : ℕ) → or-right-lts.Need-returns-2 (or-right-claims t) (or-right-at t) or-right.Post
-or-right-returns-2 t c = right-and (c .before .before .before .before .before .before .before .before .before .before .or-right .kept .1 .1 .1 .1 .1 .0) (c .before .before .before .before .before .before .or-right2 .kept .1 .1 .1 .1 .1 .0) (c .before .before .before .before .before .before .before .before .before .before .before .before .start .ensures) (sym (c .before .before .before .before .before .before .before .before .before .before .before .before .before .before .tag-at .ensures) ∙ c .before .before .before .before .before .before .before .before .before .before .before .before .before .if2 .taken) (c .before .before .before .before .before .before .before .before .before .before .or-right .ensures) (c .before .before .before .before .before .before .or-right2 .ensures) (c .before .before .put .ensures .0)
+or-right-returns-2 t c = right-and (c .before .before .before .before .before .before .before .before .before .before .or-right .kept .1 .1 .1 .1 .1 .0) (c .before .before .before .before .before .before .or-right2 .kept .1 .1 .1 .1 .1 .0) (c .before .before .before .before .before .before .before .before .before .before .before .before .before .before .before .before .before .before .args .origin) (c .before .before .before .before .before .before .before .before .before .before .before .before .start .ensures) (sym (c .before .before .before .before .before .before .before .before .before .before .before .before .before .before .tag-at .ensures) ∙ c .before .before .before .before .before .before .before .before .before .before .before .before .before .if2 .taken) (c .before .before .before .before .before .before .before .before .before .before .or-right .ensures) (c .before .before .before .before .before .before .or-right2 .ensures) (c .before .before .put .ensures .0)
 
 or-right-distribute-expression-requires : (t : ℕ) → or-right-lts.Need-distribute-expression-requires (or-right-claims t) (or-right-at t) or-right.Post
 or-right-distribute-expression-requires t c κs = let (h, k) = at-in (c .before .before .before .before .before .before .pre .1 .1) in (omega (arith, c .before .before .before .before .before .before .pre .0), c .before .before .before .before .before .before .pre .1 .0)
@@ -244,7 +248,7 @@ or-right-same-length-2 : (t : ℕ) → or-right-lts.Need-same-length-2 (or-right
 or-right-same-length-2 t c = search needs
 
 or-right-returns-3 : (t : ℕ) → or-right-lts.Need-returns-3 (or-right-claims t) (or-right-at t) or-right.Post
-or-right-returns-3 t c = right-or (c .before .before .before .before .before .before .before .before .before .before .distribute-expression .kept .1 .1 .1 .0) (c .before .before .before .before .before .before .distribute-expression2 .kept .1 .1 .1 .0) (λ z. c .before .before .before .before .before .before .before .before .before .before .before .before .if2 .left (c .before .before .before .before .before .before .before .before .before .before .before .before .before .tag-at .ensures ∙ z)) (c .before .before .before .before .before .before .before .before .before .before .distribute-expression .ensures) (c .before .before .before .before .before .before .distribute-expression2 .ensures) (c .before .before .put2 .ensures .0)
+or-right-returns-3 t c = right-or (c .before .before .before .before .before .before .before .before .before .before .distribute-expression .kept .1 .1 .1 .0) (c .before .before .before .before .before .before .distribute-expression2 .kept .1 .1 .1 .0) (c .before .before .before .before .before .before .before .before .before .before .before .before .before .before .before .before .before .args .origin) (λ z. c .before .before .before .before .before .before .before .before .before .before .before .before .if2 .left (c .before .before .before .before .before .before .before .before .before .before .before .before .before .tag-at .ensures ∙ z)) (c .before .before .before .before .before .before .before .before .before .before .distribute-expression .ensures) (c .before .before .before .before .before .before .distribute-expression2 .ensures) (c .before .before .put2 .ensures .0)
 
 pub +distribute-expression+distribute-operands+or-both+or-right-spec : {M : Type 1} → statement M
 +distribute-expression+distribute-operands+or-both+or-right-spec =
@@ -253,6 +257,7 @@ pub +distribute-expression+distribute-operands+or-both+or-right-spec : {M : Type
     (distribute-expression-tag-at-requires t)
     (distribute-expression-sub-k t)
     (distribute-expression-start-requires t)
+    (distribute-expression-origin-at-requires t)
     (distribute-expression-or-both-requires t)
     (distribute-expression-same-length t)
     (distribute-expression-returns-2 t)

@@ -76,7 +76,7 @@ write-labels-same-length-3 : (t : ℕ) → write-labels-lts.Need-same-length-3 (
 write-labels-same-length-3 t c = search needs
 
 write-labels-returns-3 : (t : ℕ) → write-labels-lts.Need-returns-3 (write-labels-claims t) (write-labels-at t) write-labels.Post
-write-labels-returns-3 t c = let (y, z) = says-false-here (c .before .before .before .before .before .before .tag-at .ensures) (sym (c .before .before .before .before .before .says-columns .ensures) ∙ c .before .before .before .before .if3 .left) in source-written (counted-as (c .before .before .before .before .before .before .before .before .before .before .source-count .ensures) (c .before .before .before .before .before .before .before .if2 .taken)) (c .before .before .before .before .before .before .before .before .own-start .ensures) y z (c .before .before .write-labels .ensures)
+write-labels-returns-3 t c = let (y, z) = says-false-here (c .before .before .before .before .before .before .tag-at .ensures) (sym (c .before .before .before .before .before .says-columns .ensures) ∙ c .before .before .before .before .if3 .left) in source-written (c .before .before .before .before .before .before .before .before .before .before .before .before .before .before .before .before .args .origin) (counted-as (c .before .before .before .before .before .before .before .before .before .before .source-count .ensures) (c .before .before .before .before .before .before .before .if2 .taken)) (c .before .before .before .before .before .before .before .before .own-start .ensures) y z (c .before .before .write-labels .ensures)
 
 write-labels-start-requires : (t : ℕ) → write-labels-lts.Need-start-requires (write-labels-claims t) (write-labels-at t) write-labels.Post
 write-labels-start-requires t c κs = join-sized (two-left (c .before .before .before .source-count .ensures) (c .before .before .if1 .left) (c .if2 .left)) (c .before .own-start .ensures) (columns-node (c .before .before .before .before .before .before .before .before .before .pre .1 .0))
@@ -91,7 +91,7 @@ write-labels-same-length-4 : (t : ℕ) → write-labels-lts.Need-same-length-4 (
 write-labels-same-length-4 t c = search needs
 
 write-labels-returns-4 : (t : ℕ) → write-labels-lts.Need-returns-4 (write-labels-claims t) (write-labels-at t) write-labels.Post
-write-labels-returns-4 t c = sources-written (two-left (c .before .before .before .before .before .before .before .before .before .before .before .before .source-count .ensures) (c .before .before .before .before .before .before .before .before .before .before .before .if1 .left) (c .before .before .before .before .before .before .before .before .before .if2 .left)) (c .before .before .before .before .before .before .before .before .before .before .own-start .ensures) (c .before .before .before .before .before .before .before .before .start .ensures) (c .before .before .before .before .before .before .write-labels2 .kept .1 .1 .1 .0) (c .before .before .before .before .before .before .write-labels2 .ensures) (c .before .before .write-labels3 .ensures)
+write-labels-returns-4 t c = sources-written (c .before .before .before .before .before .before .before .before .before .before .before .before .before .before .before .before .before .before .args .origin) (two-left (c .before .before .before .before .before .before .before .before .before .before .before .before .source-count .ensures) (c .before .before .before .before .before .before .before .before .before .before .before .if1 .left) (c .before .before .before .before .before .before .before .before .before .if2 .left)) (c .before .before .before .before .before .before .before .before .before .before .own-start .ensures) (c .before .before .before .before .before .before .before .before .start .ensures) (c .before .before .before .before .before .before .write-labels2 .kept .1 .1 .1 .0) (c .before .before .before .before .before .before .write-labels2 .ensures) (c .before .before .write-labels3 .ensures)
 
 pub +write-labels-spec : {M : Type 1} → statement M
 +write-labels-spec = close μ-write-labels λ t. write-labels-lts.spec (write-labels-claims t) (write-labels-at t) write-labels.Post

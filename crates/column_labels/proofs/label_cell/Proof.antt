@@ -13,13 +13,13 @@ enum-known-l-2 : tie.Need-enum-known-l-2
 enum-known-l-2 c = search needs
 
 returns : tie.Need-returns
-returns c = cell-none (c .before .before .args .l) (c .enum-told .given .1)
+returns c = cell-none (c .before .before .args .origin) (c .before .before .args .l) (c .enum-told .given .1)
 
 returns-2 : tie.Need-returns-2
-returns-2 c = cell-name (c .before .before .before .args .l) (c .before .l .given .0 .0) (c .before .l .given .1)
+returns-2 c = cell-name (c .before .before .before .args .origin) (c .before .before .before .args .l) (c .before .l .given .0 .0) (c .before .l .given .1)
 
 returns-3 : tie.Need-returns-3
-returns-3 c = cell-both (c .before .before .before .args .l) (c .before .l2 .given .0 .0) (c .before .l2 .given .0 .1 .0) (c .before .l2 .given .1)
+returns-3 c = cell-both (c .before .before .before .args .origin) (c .before .before .before .args .l) (c .before .l2 .given .0 .0) (c .before .l2 .given .0 .1 .0) (c .before .l2 .given .1)
 
 pub label-cell-spec : {M : Type 1} → statement M
 label-cell-spec =

@@ -1,6 +1,6 @@
 use Rattle.nodes.proofs.Widths.{columns-node}
 use Rattle.nodes.proofs.Own.{at-in}
-use Rattle.column_labels.proofs.Steps.{nothing-copied}
+use Rattle.column_labels.proofs.Steps.{nothing-labelled, nothing-marked}
 use native.Mathlib.Omega.{arith}
 use mathlib.Core.Path.{sym, _∙_}
 use borrow.Author.Needs.{needs}
@@ -10,17 +10,17 @@ use Rattle.column_labels.proofs.leaf_labels.Tie as tie
 tag-at-requires : tie.Need-tag-at-requires
 tag-at-requires c κs = let (h, k) = at-in (columns-node (c .before .before .before .before .before .pre .0)) in (omega arith, k)
 
-sub-copy : tie.Need-sub-copy
-sub-copy c = let (h, k) = at-in (columns-node (c .before .before .before .before .before .before .before .pre .0)) in omega arith
+sub-marked-labels : tie.Need-sub-marked-labels
+sub-marked-labels c = let (h, k) = at-in (columns-node (c .before .before .before .before .before .before .before .pre .0)) in omega arith
 
-copy-requires : tie.Need-copy-requires
-copy-requires c κs = let (h, k) = at-in (columns-node (c .before .before .before .before .before .before .before .before .pre .0)) in (omega arith, omega arith)
+marked-labels-requires : tie.Need-marked-labels-requires
+marked-labels-requires c κs = nothing-labelled (sym (c .before .before .tag-at .ensures) ∙ c .before .if1 .taken) (columns-node (c .before .before .before .before .before .before .before .before .pre .0))
 
 same-length : tie.Need-same-length
 same-length c = search needs
 
 returns : tie.Need-returns
-returns c = nothing-copied (sym (c .before .before .before .before .before .tag-at .ensures) ∙ c .before .before .before .before .if1 .taken) (c .before .before .copy .ensures)
+returns c = nothing-marked (c .before .before .before .before .before .before .before .before .before .before .before .args .origin) (sym (c .before .before .before .before .before .tag-at .ensures) ∙ c .before .before .before .before .if1 .taken) (c .before .before .marked-labels .ensures)
 
 each-label-requires : tie.Need-each-label-requires
 each-label-requires c κs = (c .before .before .before .before .before .before .before .before .pre .0, c .before .before .before .before .before .before .before .before .pre .1)
@@ -36,8 +36,8 @@ leaf-labels-spec =
     tie.close
     (tie.spec
     tag-at-requires
-    sub-copy
-    copy-requires
+    sub-marked-labels
+    marked-labels-requires
     same-length
     returns
     each-label-requires

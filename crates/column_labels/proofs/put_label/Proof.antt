@@ -13,7 +13,7 @@ same-length : tie.Need-same-length
 same-length c = search needs
 
 returns : tie.Need-returns
-returns c = label-put (c .before .before .before .before .before .before .args .l) (c .before .before .before .before .label-cell .ensures) (c .before .before .put .ensures .0)
+returns c = label-put (c .before .before .before .before .before .before .args .origin) (c .before .before .before .before .before .before .args .l) (c .before .before .before .before .label-cell .ensures) (c .before .before .put .ensures .0)
 
 pub put-label-spec : {M : Type 1} → statement M
 put-label-spec = tie.close (tie.spec label-cell-requires put-requires same-length returns)

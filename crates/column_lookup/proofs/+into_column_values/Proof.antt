@@ -13,6 +13,7 @@ use Rattle.column_lookup.proofs.+into_column_values.Lts-into_column_val
 use Rattle.cells.proofs.cell_at.Reads as cell-at-reads
 use Rattle.cells.proofs.start.Reads as start-reads
 use Rattle.cells.proofs.tag_at.Reads as tag-at-reads
+use Rattle.cells.proofs.origin_at.Reads as origin-at-reads
 use Rattle.column_lookup.proofs.equal_value.Reads as equal-value-reads
 use Rattle.column_lookup.proofs.is_value.Reads as is-value-reads
 use Rattle.column_lookup.proofs.+into_column_values.{statement}
@@ -38,7 +39,7 @@ into-column-values-below t =
     into-column-values.Pre
 
 abbrev into-column-values-claims : ℕ → into-column-values-lts.Claims
-into-column-values-claims t = (tag-at-reads.Asked, tag-at-reads.Learnt, start-reads.Asked, start-reads.Learnt, into-column-values-below t, into-column-values.Post, cell-at-reads.Asked, cell-at-reads.Learnt, equal-value-reads.Asked, equal-value-reads.Learnt, is-value-reads.Asked, is-value-reads.Learnt)
+into-column-values-claims t = (tag-at-reads.Asked, tag-at-reads.Learnt, start-reads.Asked, start-reads.Learnt, into-column-values-below t, into-column-values.Post, cell-at-reads.Asked, cell-at-reads.Learnt, equal-value-reads.Asked, equal-value-reads.Learnt, origin-at-reads.Asked, origin-at-reads.Learnt, is-value-reads.Asked, is-value-reads.Learnt)
 
 into-column-values-tag-at-requires : (t : ℕ) → into-column-values-lts.Need-tag-at-requires (into-column-values-claims t) (into-column-values-at t) into-column-values.Post
 into-column-values-tag-at-requires t c κs = let (h, k) = at-in (c .before .before .pre .1) in (omega arith, k)
@@ -85,6 +86,9 @@ into-column-values-same-length-2 t c = search needs
 into-column-values-returns-3 : (t : ℕ) → into-column-values-lts.Need-returns-3 (into-column-values-claims t) (into-column-values-at t) into-column-values.Post
 into-column-values-returns-3 t c = gathers-equal (c .before .before .before .before .before .before .before .before .before .before .start2 .ensures) (c .before .before .before .before .before .before .before .equal-value .kept .0) (sym (c .before .before .before .before .before .before .before .before .before .before .before .before .before .before .tag-at .ensures) ∙ c .before .before .before .before .before .before .before .before .before .before .before .if3 .taken) (c .before .before .before .before .before .before .before .before .cell-at .ensures) (c .before .before .before .cell-at2 .ensures) (c .before .before .before .before .before .before .before .equal-value .ensures) (c .before .before .equal-value2 .ensures)
 
+into-column-values-origin-at-requires : (t : ℕ) → into-column-values-lts.Need-origin-at-requires (into-column-values-claims t) (into-column-values-at t) into-column-values.Post
+into-column-values-origin-at-requires t c κs = let (h, k) = at-in (c .before .before .before .before .before .before .before .pre .1) in (omega arith, k)
+
 into-column-values-is-value-requires : (t : ℕ) → into-column-values-lts.Need-is-value-requires (into-column-values-claims t) (into-column-values-at t) into-column-values.Post
 into-column-values-is-value-requires t c κs = search needs
 
@@ -92,7 +96,7 @@ into-column-values-same-length-3 : (t : ℕ) → into-column-values-lts.Need-sam
 into-column-values-same-length-3 t c = search needs
 
 into-column-values-returns-4 : (t : ℕ) → into-column-values-lts.Need-returns-4 (into-column-values-claims t) (into-column-values-at t) into-column-values.Post
-into-column-values-returns-4 t c = gathers-other (c .before .before .before .before .before .before .before .tag-at .ensures) (omega (arith, c .before .before .before .before .before .if2 .left, c .before .before .before .before .if3 .left)) (c .before .before .is-value .ensures)
+into-column-values-returns-4 t c = gathers-other (c .before .before .before .before .before .before .before .before .tag-at .ensures) (omega (arith, c .before .before .before .before .before .before .if2 .left, c .before .before .before .before .before .if3 .left)) (c .before .before .before .origin-at .ensures) (c .before .before .is-value .ensures)
 
 pub +into-column-values-spec : {M : Type 1} → statement M
 +into-column-values-spec = close μ-into-column-values λ t. into-column-values-lts.spec (into-column-values-claims t) (into-column-values-at t) into-column-values.Post
@@ -111,6 +115,7 @@ pub +into-column-values-spec : {M : Type 1} → statement M
     (into-column-values-equal-value-requires-2 t)
     (into-column-values-same-length-2 t)
     (into-column-values-returns-3 t)
+    (into-column-values-origin-at-requires t)
     (into-column-values-is-value-requires t)
     (into-column-values-same-length-3 t)
     (into-column-values-returns-4 t)

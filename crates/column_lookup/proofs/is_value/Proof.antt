@@ -10,7 +10,7 @@ same-length : tie.Need-same-length
 same-length c = search needs
 
 returns : tie.Need-returns
-returns c = null-written (c .before .before .before .before .if1 .taken) (c .before .before .put .ensures .0)
+returns c = null-written (c .before .before .before .before .before .before .args .origin) (c .before .before .before .before .if1 .taken) (c .before .before .put .ensures .0)
 
 put-requires-2 : tie.Need-put-requires-2
 put-requires-2 c κs = search needs
@@ -19,10 +19,10 @@ same-length-2 : tie.Need-same-length-2
 same-length-2 c = search needs
 
 returns-2 : tie.Need-returns-2
-returns-2 c = nan-written (c .before .before .before .before .if2 .taken) (c .before .before .put2 .ensures .0)
+returns-2 c = nan-written (c .before .before .before .before .before .before .before .args .origin) (c .before .before .before .before .if2 .taken) (c .before .before .put2 .ensures .0)
 
 returns-3 : tie.Need-returns-3
-returns-3 c = no-is-written (c .before .before .before .args .t) (c .before .if1 .left) (c .if2 .left)
+returns-3 c = no-is-written (c .before .before .before .args .t) (c .before .before .before .args .origin) (c .before .if1 .left) (c .if2 .left)
 
 pub is-value-spec : {M : Type 1} → statement M
 is-value-spec =

@@ -17,6 +17,9 @@ abbrev μ-loop : tie.MeasureT-loop
 loop-holds : tie.Need-loop-holds Inv-loop μ-loop
 loop-holds c = (refl, changing-none (c .before .args .k) (c .before .args .d .now) (c .before .args .at) (c .before .args .n))
 
+add-if1 : tie.Need-add-if1 Inv-loop μ-loop
+add-if1 c = search needs
+
 mul-if1 : tie.Need-mul-if1 Inv-loop μ-loop
 mul-if1 c = let (h, k) = rest-in (c .before .before .before .pre .part .low) (c .before .loop .inv .1 (c .before .before .before .pre .cells) (c .before .before .before .pre .part)) (c .loop-test .taken) in search needs
 
@@ -66,6 +69,7 @@ change-columns-spec =
     Inv-loop
     μ-loop
     loop-holds
+    add-if1
     mul-if1
     slice-read-if1
     add-changed

@@ -47,13 +47,13 @@ gather-gather-requires : (t : ℕ) → gather-lts.Need-gather-requires (gather-c
 gather-gather-requires t c κs = let e = c .before .before .before .tag-at .ensures in let g : 10 ≤ tag-at (c .before .before .before .before .before .before .args .s .now) (c .before .before .before .before .before .before .args .hi) = omega (arith, e, c .before .before .if1 .taken) in let f : tag-at (c .before .before .before .before .before .before .args .s .now) (c .before .before .before .before .before .before .args .hi) < 30 = omega (arith, e, c .before .before .if1 .taken) in let l = at-left g f (c .before .start .ensures) (c .before .before .before .before .before .before .pre .1 .0) in let r = at-right g f (c .before .start .ensures) (c .before .before .before .before .before .before .pre .1 .0) in let (h, k) = at-in r in let (h′, k′) = at-in l in (omega (arith, c .before .before .before .before .before .before .pre .0), (l, c .before .before .before .before .before .before .pre .1 .1))
 
 gather-gather-requires-2 : (t : ℕ) → gather-lts.Need-gather-requires-2 (gather-claims t) (gather-at t) gather.Post
-gather-gather-requires-2 t c κs = let e = c .before .before .before .before .before .before .before .tag-at .ensures in let g : 10 ≤ tag-at (c .before .before .before .before .before .before .before .before .before .before .args .s .now) (c .before .before .before .before .before .before .before .before .before .before .args .hi) = omega (arith, e, c .before .before .before .before .before .before .if1 .taken) in let f : tag-at (c .before .before .before .before .before .before .before .before .before .before .args .s .now) (c .before .before .before .before .before .before .before .before .before .before .args .hi) < 30 = omega (arith, e, c .before .before .before .before .before .before .if1 .taken) in let l = at-left g f (c .before .before .before .before .before .start .ensures) (c .before .before .before .before .before .before .before .before .before .before .pre .1 .0) in let r = at-right g f (c .before .before .before .before .before .start .ensures) (c .before .before .before .before .before .before .before .before .before .before .pre .1 .0) in let (h, k) = at-in r in let (h′, k′) = at-in l in (omega (arith, c .before .before .before .before .before .before .before .before .before .before .pre .0), (r, gathered-each (c .before .before .before .before .before .before .before .before .before .before .pre .1 .1) (c .before .before .before .gather .kept .1 .1 .1 .0) l (λ e. flat-map (chosen (c .before .before .before .before .before .before .before .before .before .before .args .to) (c .before .before .before .before .before .before .before .before .before .before .args .n) (c .before .before .before .before .before .before .before .before .before .before .args .shift)) (ands e)) (c .before .before .before .gather .ensures)))
+gather-gather-requires-2 t c κs = let e = c .before .before .before .before .before .before .before .tag-at .ensures in let g : 10 ≤ tag-at (c .before .before .before .before .before .before .before .before .before .before .args .s .now) (c .before .before .before .before .before .before .before .before .before .before .args .hi) = omega (arith, e, c .before .before .before .before .before .before .if1 .taken) in let f : tag-at (c .before .before .before .before .before .before .before .before .before .before .args .s .now) (c .before .before .before .before .before .before .before .before .before .before .args .hi) < 30 = omega (arith, e, c .before .before .before .before .before .before .if1 .taken) in let l = at-left g f (c .before .before .before .before .before .start .ensures) (c .before .before .before .before .before .before .before .before .before .before .pre .1 .0) in let r = at-right g f (c .before .before .before .before .before .start .ensures) (c .before .before .before .before .before .before .before .before .before .before .pre .1 .0) in let (h, k) = at-in r in let (h′, k′) = at-in l in (omega (arith, c .before .before .before .before .before .before .before .before .before .before .pre .0), (r, gathered-each (c .before .before .before .before .before .before .before .before .before .before .pre .1 .1) (c .before .before .before .gather .kept .1 .1 .1 .0) l (c .before .before .before .before .before .before .before .before .before .before .args .origin) (λ e. flat-map (chosen (c .before .before .before .before .before .before .before .before .before .before .args .to) (c .before .before .before .before .before .before .before .before .before .before .args .n) (c .before .before .before .before .before .before .before .before .before .before .args .shift)) (ands e)) (c .before .before .before .gather .ensures)))
 
 gather-same-length : (t : ℕ) → gather-lts.Need-same-length (gather-claims t) (gather-at t) gather.Post
 gather-same-length t c = search needs
 
 gather-returns : (t : ℕ) → gather-lts.Need-returns (gather-claims t) (gather-at t) gather.Post
-gather-returns t c = walk-and (chosen (c .before .before .before .before .before .before .before .before .before .before .before .before .before .args .to) (c .before .before .before .before .before .before .before .before .before .before .before .before .before .args .n) (c .before .before .before .before .before .before .before .before .before .before .before .before .before .args .shift)) (c .before .before .before .before .before .before .gather .kept .1 .1 .1 .0) (c .before .before .before .before .before .before .before .before .start .ensures) (sym (c .before .before .before .before .before .before .before .before .before .before .tag-at .ensures) ∙ c .before .before .before .before .before .before .before .before .before .if1 .taken) (c .before .before .before .before .before .before .gather .ensures) (c .before .before .gather2 .ensures)
+gather-returns t c = walk-and (c .before .before .before .before .before .before .before .before .before .before .before .before .before .args .origin) (chosen (c .before .before .before .before .before .before .before .before .before .before .before .before .before .args .to) (c .before .before .before .before .before .before .before .before .before .before .before .before .before .args .n) (c .before .before .before .before .before .before .before .before .before .before .before .before .before .args .shift)) (c .before .before .before .before .before .before .gather .kept .1 .1 .1 .0) (c .before .before .before .before .before .before .before .before .start .ensures) (sym (c .before .before .before .before .before .before .before .before .before .before .tag-at .ensures) ∙ c .before .before .before .before .before .before .before .before .before .if1 .taken) (c .before .before .before .before .before .before .gather .ensures) (c .before .before .gather2 .ensures)
 
 gather-refers-requires : (t : ℕ) → gather-lts.Need-refers-requires (gather-claims t) (gather-at t) gather.Post
 gather-refers-requires t c κs = c .before .before .before .before .pre .1 .0
@@ -68,10 +68,10 @@ gather-same-length-2 : (t : ℕ) → gather-lts.Need-same-length-2 (gather-claim
 gather-same-length-2 t c = search needs
 
 gather-returns-2 : (t : ℕ) → gather-lts.Need-returns-2 (gather-claims t) (gather-at t) gather.Post
-gather-returns-2 t c = walk-one (chosen (c .before .before .before .before .before .before .before .before .before .before .before .args .to) (c .before .before .before .before .before .before .before .before .before .before .before .args .n) (c .before .before .before .before .before .before .before .before .before .before .before .args .shift)) (λ z. c .before .before .before .before .before .before .before .if1 .left (c .before .before .before .before .before .before .before .before .tag-at .ensures ∙ z)) (chosen-here (c .before .before .before .before .before .before .before .before .before .before .before .args .to) (c .before .before .before .before .before .before .before .before .before .before .before .args .n) (c .before .before .before .before .before .before .before .before .before .before .before .args .shift) (c .before .before .before .before .before .goes .ensures) (c .before .before .before .before .before .before .refers .ensures) (c .before .before .before .before .if2 .taken) (c .before .before .append .ensures))
+gather-returns-2 t c = walk-one (c .before .before .before .before .before .before .before .before .before .before .before .args .origin) (chosen (c .before .before .before .before .before .before .before .before .before .before .before .args .to) (c .before .before .before .before .before .before .before .before .before .before .before .args .n) (c .before .before .before .before .before .before .before .before .before .before .before .args .shift)) (λ z. c .before .before .before .before .before .before .before .if1 .left (c .before .before .before .before .before .before .before .before .tag-at .ensures ∙ z)) (chosen-here (c .before .before .before .before .before .before .before .before .before .before .before .args .to) (c .before .before .before .before .before .before .before .before .before .before .before .args .n) (c .before .before .before .before .before .before .before .before .before .before .before .args .shift) (c .before .before .before .before .before .goes .ensures) (c .before .before .before .before .before .before .refers .ensures) (c .before .before .before .before .before .before .before .before .before .before .before .args .origin) (c .before .before .before .before .if2 .taken) (c .before .before .append .ensures))
 
 gather-returns-3 : (t : ℕ) → gather-lts.Need-returns-3 (gather-claims t) (gather-at t) gather.Post
-gather-returns-3 t c = walk-one (chosen (c .before .before .before .before .before .before .before .args .to) (c .before .before .before .before .before .before .before .args .n) (c .before .before .before .before .before .before .before .args .shift)) (λ z. c .before .before .before .if1 .left (c .before .before .before .before .tag-at .ensures ∙ z)) (not-chosen (c .before .before .before .before .before .before .before .args .to) (c .before .before .before .before .before .before .before .args .n) (c .before .before .before .before .before .before .before .args .shift) (c .before .goes .ensures) (c .before .before .refers .ensures) (c .if2 .left))
+gather-returns-3 t c = walk-one (c .before .before .before .before .before .before .before .args .origin) (chosen (c .before .before .before .before .before .before .before .args .to) (c .before .before .before .before .before .before .before .args .n) (c .before .before .before .before .before .before .before .args .shift)) (λ z. c .before .before .before .if1 .left (c .before .before .before .before .tag-at .ensures ∙ z)) (not-chosen (c .before .before .before .before .before .before .before .args .to) (c .before .before .before .before .before .before .before .args .n) (c .before .before .before .before .before .before .before .args .shift) (c .before .goes .ensures) (c .before .before .refers .ensures) (c .before .before .before .before .before .before .before .args .origin) (c .if2 .left))
 
 pub +gather-spec : {M : Type 1} → statement M
 +gather-spec = close μ-gather λ t. gather-lts.spec (gather-claims t) (gather-at t) gather.Post

@@ -14,7 +14,7 @@ same-length : tie.Need-same-length
 same-length c = search needs
 
 returns : tie.Need-returns
-returns c = appends-mapped (c .before .before .before .before .before .before .move-down .kept .1 .1 .1 .0) (shift-column-down (c .before .before .before .before .before .before .before .before .before .before .args .shift)) (c .before .before .before .before .before .before .move-down .ensures) (c .before .before .and-over .ensures)
+returns c = appends-mapped (c .before .before .before .before .before .before .move-down .kept .1 .1 .1 .0) (c .before .before .before .before .before .before .before .before .before .before .args .origin) (shift-column-down (c .before .before .before .before .before .before .before .before .before .before .args .shift)) (c .before .before .before .before .before .before .move-down .ensures) (c .before .before .and-over .ensures)
 
 pub append-spec : {M : Type 1} → statement M
 append-spec = tie.close (tie.spec move-down-requires and-over-requires same-length returns)

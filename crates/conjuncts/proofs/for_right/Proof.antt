@@ -10,7 +10,7 @@ same-length : tie.Need-same-length
 same-length c = search needs
 
 returns : tie.Need-returns
-returns c = gathered-right (c .before .before .before .before .before .before .args .n) (c .before .before .before .before .before .before .args .shift) (c .before .before .gather .ensures)
+returns c = gathered-right (c .before .before .before .before .before .before .args .origin) (c .before .before .before .before .before .before .args .n) (c .before .before .before .before .before .before .args .shift) (c .before .before .gather .ensures)
 
 pub for-right-spec : {M : Type 1} → statement M
 for-right-spec = tie.close (tie.spec gather-requires same-length returns)

@@ -44,13 +44,13 @@ copy-each-copy-each-requires : (t : ℕ) → copy-each-lts.Need-copy-each-requir
 copy-each-copy-each-requires t c κs = let e = c .before .before .before .tag-at .ensures in let g : 10 ≤ tag-at (c .before .before .before .before .before .before .before .args .s .now) (c .before .before .before .before .before .before .before .args .hi) = omega (arith, e, c .before .before .if1 .taken) in let f : tag-at (c .before .before .before .before .before .before .before .args .s .now) (c .before .before .before .before .before .before .before .args .hi) < 30 = omega (arith, e, c .before .before .if1 .taken) in let l = at-left g f (c .before .start .ensures) (c .before .before .before .before .before .before .before .pre .1 .0) in let r = at-right g f (c .before .start .ensures) (c .before .before .before .before .before .before .before .pre .1 .0) in let (h, k) = at-in r in let (h′, k′) = at-in l in (omega (arith, c .before .before .before .before .before .before .before .pre .0), (l, (c .before .before .before .before .before .before .before .pre .1 .1 .0, c .before .before .before .before .before .before .before .pre .1 .1 .1)))
 
 copy-each-copy-each-requires-2 : (t : ℕ) → copy-each-lts.Need-copy-each-requires-2 (copy-each-claims t) (copy-each-at t) copy-each.Post
-copy-each-copy-each-requires-2 t c κs = let e = c .before .before .before .before .before .before .before .tag-at .ensures in let g : 10 ≤ tag-at (c .before .before .before .before .before .before .before .before .before .before .before .args .s .now) (c .before .before .before .before .before .before .before .before .before .before .before .args .hi) = omega (arith, e, c .before .before .before .before .before .before .if1 .taken) in let f : tag-at (c .before .before .before .before .before .before .before .before .before .before .before .args .s .now) (c .before .before .before .before .before .before .before .before .before .before .before .args .hi) < 30 = omega (arith, e, c .before .before .before .before .before .before .if1 .taken) in let l = at-left g f (c .before .before .before .before .before .start .ensures) (c .before .before .before .before .before .before .before .before .before .before .before .pre .1 .0) in let r = at-right g f (c .before .before .before .before .before .start .ensures) (c .before .before .before .before .before .before .before .before .before .before .before .pre .1 .0) in let (h, k) = at-in r in let (h′, k′) = at-in l in (omega (arith, c .before .before .before .before .before .before .before .before .before .before .before .pre .0), (r, (c .before .before .before .before .before .before .before .before .before .before .before .pre .1 .1 .0, copies-gathered (c .before .before .before .before .before .before .before .before .before .before .before .args .into) (c .before .before .before .before .before .before .before .before .before .before .before .args .n) (c .before .before .before .before .before .before .before .before .before .before .before .args .shift) (c .before .before .before .before .before .before .before .before .before .before .before .pre .1 .1 .1) (c .before .before .before .copy-each .kept .1 .1 .1 .1 .1 .1 .0) l (c .before .before .before .before .before .before .before .before .before .before .before .pre .1 .1 .0) (c .before .before .before .copy-each .ensures))))
+copy-each-copy-each-requires-2 t c κs = let e = c .before .before .before .before .before .before .before .tag-at .ensures in let g : 10 ≤ tag-at (c .before .before .before .before .before .before .before .before .before .before .before .args .s .now) (c .before .before .before .before .before .before .before .before .before .before .before .args .hi) = omega (arith, e, c .before .before .before .before .before .before .if1 .taken) in let f : tag-at (c .before .before .before .before .before .before .before .before .before .before .before .args .s .now) (c .before .before .before .before .before .before .before .before .before .before .before .args .hi) < 30 = omega (arith, e, c .before .before .before .before .before .before .if1 .taken) in let l = at-left g f (c .before .before .before .before .before .start .ensures) (c .before .before .before .before .before .before .before .before .before .before .before .pre .1 .0) in let r = at-right g f (c .before .before .before .before .before .start .ensures) (c .before .before .before .before .before .before .before .before .before .before .before .pre .1 .0) in let (h, k) = at-in r in let (h′, k′) = at-in l in (omega (arith, c .before .before .before .before .before .before .before .before .before .before .before .pre .0), (r, (c .before .before .before .before .before .before .before .before .before .before .before .pre .1 .1 .0, copies-gathered (c .before .before .before .before .before .before .before .before .before .before .before .args .origin) (c .before .before .before .before .before .before .before .before .before .before .before .args .into) (c .before .before .before .before .before .before .before .before .before .before .before .args .n) (c .before .before .before .before .before .before .before .before .before .before .before .args .shift) (c .before .before .before .before .before .before .before .before .before .before .before .pre .1 .1 .1) (c .before .before .before .copy-each .kept .1 .1 .1 .1 .1 .1 .0) l (c .before .before .before .before .before .before .before .before .before .before .before .pre .1 .1 .0) (c .before .before .before .copy-each .ensures))))
 
 copy-each-same-length : (t : ℕ) → copy-each-lts.Need-same-length (copy-each-claims t) (copy-each-at t) copy-each.Post
 copy-each-same-length t c = search needs
 
 copy-each-returns : (t : ℕ) → copy-each-lts.Need-returns (copy-each-claims t) (copy-each-at t) copy-each.Post
-copy-each-returns t c = λ o u. walk-and (copies (c .before .before .before .before .before .before .before .before .before .before .before .before .before .before .args .into) (c .before .before .before .before .before .before .before .before .before .before .before .before .before .before .args .n) (c .before .before .before .before .before .before .before .before .before .before .before .before .before .before .args .shift) (conjuncts-of o)) (c .before .before .before .before .before .before .copy-each .kept .1 .1 .1 .1 .1 .1 .0) (c .before .before .before .before .before .before .before .before .start .ensures) (sym (c .before .before .before .before .before .before .before .before .before .before .tag-at .ensures) ∙ c .before .before .before .before .before .before .before .before .before .if1 .taken) (c .before .before .before .before .before .before .copy-each .ensures o u) (c .before .before .copy-each2 .ensures o u)
+copy-each-returns t c = λ o u. walk-and (c .before .before .before .before .before .before .before .before .before .before .before .before .before .before .args .origin) (copies (c .before .before .before .before .before .before .before .before .before .before .before .before .before .before .args .into) (c .before .before .before .before .before .before .before .before .before .before .before .before .before .before .args .n) (c .before .before .before .before .before .before .before .before .before .before .before .before .before .before .args .shift) (conjuncts-of o)) (c .before .before .before .before .before .before .copy-each .kept .1 .1 .1 .1 .1 .1 .0) (c .before .before .before .before .before .before .before .before .start .ensures) (sym (c .before .before .before .before .before .before .before .before .before .before .tag-at .ensures) ∙ c .before .before .before .before .before .before .before .before .before .if1 .taken) (c .before .before .before .before .before .before .copy-each .ensures o u) (c .before .before .copy-each2 .ensures o u)
 
 copy-each-copy-conjunct-requires : (t : ℕ) → copy-each-lts.Need-copy-conjunct-requires (copy-each-claims t) (copy-each-at t) copy-each.Post
 copy-each-copy-conjunct-requires t c κs = c .before .before .before .before .before .before .pre .1
@@ -59,7 +59,7 @@ copy-each-same-length-2 : (t : ℕ) → copy-each-lts.Need-same-length-2 (copy-e
 copy-each-same-length-2 t c = search needs
 
 copy-each-returns-2 : (t : ℕ) → copy-each-lts.Need-returns-2 (copy-each-claims t) (copy-each-at t) copy-each.Post
-copy-each-returns-2 t c = λ o u. walk-one (copies (c .before .before .before .before .before .before .before .before .before .args .into) (c .before .before .before .before .before .before .before .before .before .args .n) (c .before .before .before .before .before .before .before .before .before .args .shift) (conjuncts-of o)) (λ z. c .before .before .before .before .if1 .left (c .before .before .before .before .before .tag-at .ensures ∙ z)) (c .before .before .copy-conjunct .ensures o u)
+copy-each-returns-2 t c = λ o u. walk-one (c .before .before .before .before .before .before .before .before .before .args .origin) (copies (c .before .before .before .before .before .before .before .before .before .args .into) (c .before .before .before .before .before .before .before .before .before .args .n) (c .before .before .before .before .before .before .before .before .before .args .shift) (conjuncts-of o)) (λ z. c .before .before .before .before .if1 .left (c .before .before .before .before .before .tag-at .ensures ∙ z)) (c .before .before .copy-conjunct .ensures o u)
 
 pub +copy-each-spec : {M : Type 1} → statement M
 +copy-each-spec = close μ-copy-each λ t. copy-each-lts.spec (copy-each-claims t) (copy-each-at t) copy-each.Post

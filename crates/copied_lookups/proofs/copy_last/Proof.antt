@@ -6,7 +6,7 @@ use Rattle.copied_lookups.proofs.copy_last.Statement.{statement}
 use Rattle.copied_lookups.proofs.copy_last.Tie as tie
 
 returns : tie.Need-returns
-returns c = copies-nothing (c .before .before .before .args .column) (c .before .before .before .args .to) (c .if1 .taken)
+returns c = copies-nothing (c .before .before .before .args .origin) (c .before .before .before .args .column) (c .before .before .before .args .to) (c .if1 .taken)
 
 last-lookup-requires : tie.Need-last-lookup-requires
 last-lookup-requires c κs = some-there (c .if1 .left) (c .before .before .before .pre .0)
@@ -18,7 +18,7 @@ enum-told : tie.Need-enum-told
 enum-told c = search needs
 
 returns-2 : tie.Need-returns-2
-returns-2 c = copies-missing (c .before .before .before .if1 .left) (c .before .before .before .before .before .before .args .column) (c .before .before .last-lookup .ensures) (c .enum-told .given .1) (c .before .before .before .before .before .before .args .to)
+returns-2 c = copies-missing (c .before .before .before .if1 .left) (c .before .before .before .before .before .before .args .column) (c .before .before .last-lookup .ensures) (c .before .before .before .before .before .before .args .origin) (c .enum-told .given .1) (c .before .before .before .before .before .before .args .to)
 
 replace-column-requires : tie.Need-replace-column-requires
 replace-column-requires c κs = place-there (c .before .before .before .before .before .if1 .left) (c .before .before .before .before .before .before .before .before .args .column) (c .before .before .before .before .last-lookup .ensures) (c .before .before .last .given .1) (c .before .before .before .before .before .before .before .before .pre .0)
@@ -30,7 +30,7 @@ same-length : tie.Need-same-length
 same-length c = search needs
 
 returns-3 : tie.Need-returns-3
-returns-3 c = copies-found (c .before .before .before .before .before .before .before .before .before .before .before .before .if1 .left) (c .before .before .before .before .before .before .before .before .before .before .before .before .before .before .before .args .column) (c .before .before .before .before .before .before .before .before .before .before .before .last-lookup .ensures) (c .before .before .before .before .before .before .before .before .before .last .given .1) (c .before .before .before .before .before .before .replace-column .kept .1 .1 .1 .0) (c .before .before .before .before .before .before .before .before .before .before .before .before .before .before .before .args .to) (c .before .before .before .before .before .before .replace-column .ensures) (c .before .before .and-over .ensures)
+returns-3 c = copies-found (c .before .before .before .before .before .before .before .before .before .before .before .before .if1 .left) (c .before .before .before .before .before .before .before .before .before .before .before .before .before .before .before .args .column) (c .before .before .before .before .before .before .before .before .before .before .before .last-lookup .ensures) (c .before .before .before .before .before .before .before .before .before .before .before .before .before .before .before .args .origin) (c .before .before .before .before .before .before .before .before .before .last .given .1) (c .before .before .before .before .before .before .replace-column .kept .1 .1 .1 .0) (c .before .before .before .before .before .before .before .before .before .before .before .before .before .before .before .args .to) (c .before .before .before .before .before .before .replace-column .ensures) (c .before .before .and-over .ensures)
 
 pub copy-last-spec : {M : Type 1} → statement M
 copy-last-spec =

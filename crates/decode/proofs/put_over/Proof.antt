@@ -19,6 +19,9 @@ cast-t10 c = search needs
 cast-t11 : tie.Need-cast-t11
 cast-t11 c = search needs
 
+cast-t12 : tie.Need-cast-t12
+cast-t12 c = search needs
+
 put-requires : tie.Need-put-requires
 put-requires c κs = search needs
 
@@ -27,7 +30,7 @@ same-length c = search needs
 
 returns : tie.Need-returns
 returns c =
-    put-said (c .before .before .before .before .before .before .before .before .before .before .before .args .k) (c .before .before .before .before .before .before .before .before .start-of .ensures) (c .before .before .put .ensures .0)
+    put-said (c .before .before .before .before .before .before .before .before .before .before .before .before .args .k) (c .before .before .before .before .before .before .before .before .before .start-of .ensures) (c .before .before .put .ensures .0)
 
 pub put-over-spec : {M : Type 1} → statement M
 put-over-spec = tie.close (tie.spec
@@ -36,6 +39,7 @@ put-over-spec = tie.close (tie.spec
     cast-t9
     cast-t10
     cast-t11
+    cast-t12
     put-requires
     same-length
     returns)

@@ -23,14 +23,20 @@ put-start-requires c κs = room-start (c .before .before .before .before .before
 put-cells-requires : tie.Need-put-cells-requires
 put-cells-requires c κs = room-cells (c .before .before .before .before .before .before .before .before .before .args .s .now) (c .before .before .before .before .before .parts-of .ensures) (c .before .before .before .before .before .before .before .before .before .pre) (c .before .before .before .put-start .kept .1 .1 .0) (c .before .before .before .put-start .ensures .0)
 
+sub-word-at : tie.Need-sub-word-at
+sub-word-at c = search needs
+
+word-at-requires : tie.Need-word-at-requires
+word-at-requires c κs = search needs
+
 put-trailer-requires : tie.Need-put-trailer-requires
-put-trailer-requires c κs = room-trailer (c .before .before .before .before .before .before .before .before .before .before .before .before .before .args .s .now) (c .before .before .before .before .before .before .before .before .before .parts-of .ensures) (c .before .before .before .before .before .before .before .before .before .before .before .before .before .pre) (c .before .before .before .put-cells .last .1 .1 .0) (c .before .before .before .put-cells .kept .1 .1 .0 ∙ c .before .before .before .before .before .before .before .put-start .kept .1 .1 .0) (c .before .before .before .before .before .before .before .put-start .ensures .0) (c .before .before .before .put-cells .ensures .0)
+put-trailer-requires c κs = room-trailer (c .before .before .before .before .before .before .before .before .before .before .before .before .before .before .args .s .now) (c .before .before .before .before .before .before .before .before .before .before .parts-of .ensures) (c .before .before .before .before .before .before .before .before .before .before .before .before .before .before .pre) (c .before .before .before .before .put-cells .last .1 .1 .0) (c .before .before .before .before .put-cells .kept .1 .1 .0 ∙ c .before .before .before .before .before .before .before .before .put-start .kept .1 .1 .0) (c .before .before .before .before .before .before .before .before .put-start .ensures .0) (c .before .before .before .before .put-cells .ensures .0)
 
 same-length : tie.Need-same-length
 same-length c = search needs
 
 returns : tie.Need-returns
-returns c = encodes (c .before .before .before .before .before .before .before .before .before .before .before .before .before .before .before .before .args .s .now) (c .before .before .before .before .before .before .before .before .before .before .before .before .parts-of .ensures) (c .before .before .before .before .before .before .before .before .before .before .before .before .before .before .before .before .pre) (c .before .before .before .before .before .before .before .before .before .before .put-start .ensures) (c .before .before .before .before .before .before .put-cells .ensures) (c .before .before .put-trailer .ensures)
+returns c = encodes (c .before .before .before .before .before .before .before .before .before .before .before .before .before .before .before .before .before .args .s .now) (c .before .before .before .before .before .before .before .before .before .before .before .before .before .parts-of .ensures) (c .before .before .before .before .before .before .before .before .before .before .before .before .before .before .before .before .before .pre) (c .before .before .before .before .before .before .before .before .before .before .before .put-start .ensures) (c .before .before .before .before .before .before .before .put-cells .ensures) (c .before .before .before .before .word-at .ensures .is) (c .before .before .put-trailer .ensures)
 
 pub encode-spec : {M : Type 1} → statement M
 encode-spec =
@@ -39,6 +45,8 @@ encode-spec =
     parts-of-requires
     put-start-requires
     put-cells-requires
+    sub-word-at
+    word-at-requires
     put-trailer-requires
     same-length
     returns)

@@ -23,6 +23,12 @@ mul-put-word c = search needs
 add-put-word : tie.Need-add-put-word
 add-put-word c = search needs
 
+mul-put-word-2 : tie.Need-mul-put-word-2
+mul-put-word-2 c = search needs
+
+add-put-word-2 : tie.Need-add-put-word-2
+add-put-word-2 c = search needs
+
 put-word-requires : tie.Need-put-word-requires
 put-word-requires c κs = search needs
 
@@ -41,6 +47,9 @@ put-word-requires-3 c κs = omega (arith, c .before .before .before .before .bef
 cast-put-word-5 : tie.Need-cast-put-word-5
 cast-put-word-5 c = search needs
 
+cast-put-word-6 : tie.Need-cast-put-word-6
+cast-put-word-6 c = search needs
+
 put-word-requires-4 : tie.Need-put-word-requires-4
 put-word-requires-4 c κs = omega (arith, c .before .before .before .before .before .before .before .before .before .before .before .before .before .before .put-word .ensures .0, c .before .before .before .before .before .before .before .before .before .before .before .before .before .before .put-word .kept .0, c .before .before .before .before .before .before .before .before .before .put-word2 .ensures .0, c .before .before .before .before .before .before .before .before .before .put-word2 .kept .0, c .before .before .before .before .put-word3 .ensures .0, c .before .before .before .before .put-word3 .kept .0)
 
@@ -48,7 +57,7 @@ same-length : tie.Need-same-length
 same-length c = search needs
 
 returns : tie.Need-returns
-returns c = cell-put (c .before .before .before .before .before .before .before .before .before .before .before .before .before .before .before .before .before .before .before .before .before .before .args .out .now) (c .before .before .before .before .before .before .before .before .before .before .before .before .before .before .before .before .before .before .before .before .before .before .args .at) (c .before .before .before .before .before .before .before .before .before .before .before .before .before .before .before .before .before .before .before .before .before .before .args .k) (c .before .before .before .before .before .before .before .before .before .before .before .before .before .before .before .before .before .before .before .before .before .before .pre .0) (c .before .before .before .before .before .before .before .before .before .before .before .before .before .before .before .before .before .before .before .before .before .before .pre .1) (c .before .before .before .before .before .before .before .before .before .before .before .before .before .before .before .before .before .put-word .ensures) (c .before .before .before .before .before .before .before .before .before .before .before .before .put-word2 .ensures) (c .before .before .before .before .before .before .before .put-word3 .ensures) (c .before .before .put-word4 .ensures)
+returns c = cell-put (c .before .before .before .before .before .before .before .before .before .before .before .before .before .before .before .before .before .before .before .before .before .before .before .args .out .now) (c .before .before .before .before .before .before .before .before .before .before .before .before .before .before .before .before .before .before .before .before .before .before .before .args .at) (c .before .before .before .before .before .before .before .before .before .before .before .before .before .before .before .before .before .before .before .before .before .before .before .args .k) (c .before .before .before .before .before .before .before .before .before .before .before .before .before .before .before .before .before .before .before .before .before .before .before .pre .0) (c .before .before .before .before .before .before .before .before .before .before .before .before .before .before .before .before .before .before .before .before .before .before .before .pre .1) (c .before .before .before .before .before .before .before .before .before .before .before .before .before .before .before .before .before .put-word .ensures) (c .before .before .before .before .before .before .before .before .before .before .before .before .put-word2 .ensures) (c .before .before .before .before .before .before .before .put-word3 .ensures) (c .before .before .put-word4 .ensures)
 
 pub put-cell-spec : {M : Type 1} → statement M
 put-cell-spec =
@@ -58,12 +67,15 @@ put-cell-spec =
     cast-put-word-2
     mul-put-word
     add-put-word
-    put-word-requires
     cast-put-word-3
-    put-word-requires-2
+    mul-put-word-2
+    add-put-word-2
+    put-word-requires
     cast-put-word-4
-    put-word-requires-3
+    put-word-requires-2
     cast-put-word-5
+    put-word-requires-3
+    cast-put-word-6
     put-word-requires-4
     same-length
     returns)

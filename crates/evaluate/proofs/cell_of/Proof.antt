@@ -25,7 +25,7 @@ constant-requires-2 : tie.Need-constant-requires-2
 constant-requires-2 c κs = search needs
 
 returns : tie.Need-returns
-returns c = λ text. rw (c .before .before .before .v .given .1, c .before .if1 .taken) (c .constant2 .ensures ∙ true-cell)
+returns c = λ text. rw (c .before .before .before .v .given .1, c .before .if1 .taken) (c .constant2 .ensures ∙ true-cell _)
 
 constant-requires-3 : tie.Need-constant-requires-3
 constant-requires-3 c κs = search needs
@@ -58,19 +58,19 @@ constant-requires-6 : tie.Need-constant-requires-6
 constant-requires-6 c κs = search needs
 
 returns-2 : tie.Need-returns-2
-returns-2 c = λ text. rw (c .before .enum-told .given .1) (c .constant .ensures ∙ null-cell)
+returns-2 c = λ text. rw (c .before .enum-told .given .1) (c .constant .ensures ∙ null-cell _)
 
 returns-3 : tie.Need-returns-3
-returns-3 c = λ text. rw (c .before .before .before .v .given .1, c .before .if1 .left) (c .constant3 .ensures ∙ false-cell)
+returns-3 c = λ text. rw (c .before .before .before .v .given .1, c .before .if1 .left) (c .constant3 .ensures ∙ false-cell _)
 
 returns-4 : tie.Need-returns-4
-returns-4 c = λ text. rw (c .before .before .before .v2 .given .1) (c .constant4 .ensures ∙ (ap (of-halves 3) (c .before .integer-bits .ensures) ∙ (integer-cell _ ∙ ap (λ (i : ℤ). cell (constant-cell (datum (integer i)))) (read-back (c .before .before .before .v2 .given .0 .0) (c .before .before .known-told2 .given .0 .1)))))
+returns-4 c = λ text. rw (c .before .before .before .v2 .given .1) (c .constant4 .ensures ∙ (ap (of-halves _ 3) (c .before .integer-bits .ensures) ∙ (integer-cell _ _ ∙ ap (λ (i : ℤ). cell (c .before .before .before .before .before .args .origin) (constant-cell (datum (integer i)))) (read-back (c .before .before .before .v2 .given .0 .0) (c .before .before .known-told2 .given .0 .1)))))
 
 returns-5 : tie.Need-returns-5
-returns-5 c = λ text. rw (c .before .before .before .v3 .given .1) (c .constant5 .ensures ∙ (ap (of-halves 4) (c .before .float-bits .ensures) ∙ float-cell _))
+returns-5 c = λ text. rw (c .before .before .before .v3 .given .1) (c .constant5 .ensures ∙ (ap (of-halves _ 4) (c .before .float-bits .ensures) ∙ float-cell _ _))
 
 returns-6 : tie.Need-returns-6
-returns-6 c = λ text. rw (c .before .before .v4 .given .1) (c .constant6 .ensures ∙ string-cell (c .before .before .v4 .given .0 .0) (bytes-at text (c .before .before .v4 .given .0 .0)) (c .before .known-told4 .given .0 .1))
+returns-6 c = λ text. rw (c .before .before .v4 .given .1) (c .constant6 .ensures ∙ string-cell _ (c .before .before .v4 .given .0 .0) (bytes-at text (c .before .before .v4 .given .0 .0)) (c .before .known-told4 .given .0 .1))
 
 pub cell-of-spec : {M : Type 1} → statement M
 cell-of-spec =

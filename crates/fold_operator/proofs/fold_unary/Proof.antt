@@ -20,7 +20,7 @@ same-length : tie.Need-same-length
 same-length c = search needs
 
 returns : tie.Need-returns
-returns c = let e = ap (λ (x : Cell). x .tag) (c .before .before .before .before .before .before .before .cell-at .ensures) in unary-kept (c .before .before .before .before .before .before .before .before .before .before .args .o) (c .before .before .before .before .before .before .before .before .before .before .args .place) (c .before .before .before .before .before .before .before .before .before .before .pre .few) (c .before .before .before .before .before .before .before .before .before .before .pre .room) (c .before .before .before .operator .ensures) (omega (arith, e, c .before .before .before .before .before .if1 .taken)) (c .before .before .put .ensures .0)
+returns c = let e = ap (λ (x : Cell). x .tag) (c .before .before .before .before .before .before .before .cell-at .ensures) in unary-kept (c .before .before .before .before .before .before .before .before .before .before .args .o) (c .before .before .before .before .before .before .before .before .before .before .args .place) (c .before .before .before .before .before .before .before .before .before .before .args .origin) (c .before .before .before .before .before .before .before .before .before .before .pre .few) (c .before .before .before .before .before .before .before .before .before .before .pre .room) (c .before .before .before .operator .ensures) (omega (arith, e, c .before .before .before .before .before .if1 .taken)) (c .before .before .put .ensures .0)
 
 value-of-requires : tie.Need-value-of-requires
 value-of-requires c κs = constant-here (c .before .before .before .before .before .before .pre .short) (c .before .before .before .before .before .before .pre .operand) (c .before .before .before .cell-at .ensures) (omega (arith, c .before .if1 .left))
@@ -35,7 +35,7 @@ same-length-2 : tie.Need-same-length-2
 same-length-2 c = search needs
 
 returns-2 : tie.Need-returns-2
-returns-2 c = let e = ap (λ (x : Cell). x .tag) (c .before .before .before .before .before .before .before .before .cell-at .ensures) in unary-constant (c .before .before .before .before .before .before .before .before .before .before .before .args .o) (c .before .before .before .before .before .before .before .before .before .before .before .args .place) (c .before .before .before .before .before .before .before .before .before .before .before .pre .few) (c .before .before .before .before .before .before .before .before .before .before .before .pre .room) (c .before .before .before .before .value-of .result) (c .before .before .before .evaluate-unary .result) (c .before .before .before .before .before .before .before .before .cell-at .ensures) (omega (arith, e, c .before .before .before .before .before .before .if1 .left)) (c .before .before .before .before .value-of .ensures) (c .before .before .before .evaluate-unary .ensures) (c .before .before .write .ensures)
+returns-2 c = let e = ap (λ (x : Cell). x .tag) (c .before .before .before .before .before .before .before .before .cell-at .ensures) in unary-constant (c .before .before .before .before .before .before .before .before .before .before .before .args .o) (c .before .before .before .before .before .before .before .before .before .before .before .args .place) (c .before .before .before .before .before .before .before .before .before .before .before .args .origin) (c .before .before .before .before .before .before .before .before .before .before .before .pre .few) (c .before .before .before .before .before .before .before .before .before .before .before .pre .room) (c .before .before .before .before .value-of .result) (c .before .before .before .evaluate-unary .result) (c .before .before .before .before .before .before .before .before .cell-at .ensures) (omega (arith, e, c .before .before .before .before .before .before .if1 .left)) (c .before .before .before .before .value-of .ensures) (c .before .before .before .evaluate-unary .ensures) (c .before .before .write .ensures)
 
 pub fold-unary-spec : {M : Type 1} → statement M
 fold-unary-spec =

@@ -23,10 +23,10 @@ same-length : tie.Need-same-length
 same-length c = search needs
 
 returns : tie.Need-returns
-returns c = value-written (c .before .before .before .before .before .before .before .before .before .args .place) (c .before .before .before .before .before .before .r .given .0 .0) (c .before .before .before .cell-of .ensures) (c .before .before .put .ensures .0) (c .before .before .before .before .before .before .before .before .before .args .r) (c .before .before .before .before .before .before .r .given .1)
+returns c = value-written (c .before .before .before .before .before .before .before .before .before .args .place) (c .before .before .before .before .before .before .before .before .before .args .origin) (c .before .before .before .before .before .before .r .given .0 .0) (c .before .before .before .cell-of .ensures) (c .before .before .put .ensures .0) (c .before .before .before .before .before .before .before .before .before .args .r) (c .before .before .before .before .before .before .r .given .1)
 
 returns-2 : tie.Need-returns-2
-returns-2 c = error-written (c .before .before .before .before .before .args .place) (c .before .before .r2 .given .0 .0) (c .number .ensures) (c .before .before .before .before .before .args .r) (c .before .before .r2 .given .1)
+returns-2 c = error-written (c .before .before .before .before .before .args .place) (c .before .before .before .before .before .args .origin) (c .before .before .r2 .given .0 .0) (c .number .ensures) (c .before .before .before .before .before .args .r) (c .before .before .r2 .given .1)
 
 pub write-spec : {M : Type 1} → statement M
 write-spec =

@@ -22,6 +22,7 @@ use Rattle.cells.proofs.cell_at.Reads as cell-at-reads
 use Rattle.cells.proofs.put.Reads as put-reads
 use Rattle.cells.proofs.start.Reads as start-reads
 use Rattle.cells.proofs.tag_at.Reads as tag-at-reads
+use Rattle.cells.proofs.origin_at.Reads as origin-at-reads
 use Rattle.folding.proofs.count.Reads as count-reads
 use Rattle.fold_operator.proofs.fold_binary.Reads as fold-binary-reads
 use Rattle.fold_operator.proofs.fold_neutral.Reads as fold-neutral-reads
@@ -82,7 +83,7 @@ abbrev fold-operand-claims : ℕ → fold-operand-lts.Claims
 fold-operand-claims t = (cell-at-reads.Asked, cell-at-reads.Learnt, put-reads.Asked, put-reads.Learnt, fold-expression-below t, fold-expression.Post)
 
 abbrev fold-right-claims : ℕ → fold-right-lts.Claims
-fold-right-claims t = (tag-at-reads.Asked, tag-at-reads.Learnt, count-reads.Asked, count-reads.Learnt, cell-at-reads.Asked, cell-at-reads.Learnt, is-neutral-reads.Asked, is-neutral-reads.Learnt, fold-operand-below t, fold-operand.Post, fold-neutral-reads.Asked, fold-neutral-reads.Learnt, fold-binary-reads.Asked, fold-binary-reads.Learnt)
+fold-right-claims t = (tag-at-reads.Asked, tag-at-reads.Learnt, origin-at-reads.Asked, origin-at-reads.Learnt, count-reads.Asked, count-reads.Learnt, cell-at-reads.Asked, cell-at-reads.Learnt, is-neutral-reads.Asked, is-neutral-reads.Learnt, fold-operand-below t, fold-operand.Post, fold-neutral-reads.Asked, fold-neutral-reads.Learnt, fold-binary-reads.Asked, fold-binary-reads.Learnt)
 
 fold-expression-cell-at-requires : (t : ℕ) → fold-expression-lts.Need-cell-at-requires (fold-expression-claims t) (fold-expression-at t) fold-expression.Post
 fold-expression-cell-at-requires t c κs = let (h, k) = foldable-in (c .before .before .before .pre .1 .0) in (omega arith, k)
@@ -121,7 +122,7 @@ fold-expression-same-length-2 : (t : ℕ) → fold-expression-lts.Need-same-leng
 fold-expression-same-length-2 t c = search needs
 
 fold-expression-returns-2 : (t : ℕ) → fold-expression-lts.Need-returns-2 (fold-expression-claims t) (fold-expression-at t) fold-expression.Post
-fold-expression-returns-2 t c = let e = ap (λ (x : Cell). x .tag) (c .before .before .before .before .before .before .before .before .before .before .before .before .before .before .before .before .cell-at .ensures) in unary-done (c .before .before .before .before .before .before .before .before .before .before .before .before .before .before .before .before .before .before .before .before .args .first) (omega (arith, e, c .before .before .before .before .before .before .before .before .before .before .before .before .if2 .taken)) e (c .before .before .before .count .ensures) (c .before .before .before .before .before .before .before .before .before .before .before .before .before .before .before .before .before .before .before .before .pre .1 .1 .0) (c .before .before .before .before .before .before .before .before .before .before .before .before .before .before .before .before .before .before .before .before .pre .1 .1 .1 .1) (c .before .before .before .before .before .before .before .before .before .before .fold-operand .kept .1 .1 .1 .1 .0) (as-answer (c .before .before .before .before .before .before .before .before .before .before .before .before .before .before .before .before .before .before .before .before .args .first) (c .before .before .before .before .before .before .n .given .1) (c .before .before .before .before .before .before .before .before .before .before .fold-operand .ensures)) (c .before .before .fold-unary .ensures)
+fold-expression-returns-2 t c = let e = ap (λ (x : Cell). x .tag) (c .before .before .before .before .before .before .before .before .before .before .before .before .before .before .before .before .cell-at .ensures) in unary-done (c .before .before .before .before .before .before .before .before .before .before .before .before .before .before .before .before .before .before .before .before .args .first) (omega (arith, e, c .before .before .before .before .before .before .before .before .before .before .before .before .if2 .taken)) e (ap (λ (x : Cell). x .origin) (c .before .before .before .before .before .before .before .before .before .before .before .before .before .before .before .before .cell-at .ensures)) (c .before .before .before .count .ensures) (c .before .before .before .before .before .before .before .before .before .before .before .before .before .before .before .before .before .before .before .before .pre .1 .1 .0) (c .before .before .before .before .before .before .before .before .before .before .before .before .before .before .before .before .before .before .before .before .pre .1 .1 .1 .1) (c .before .before .before .before .before .before .before .before .before .before .fold-operand .kept .1 .1 .1 .1 .0) (as-answer (c .before .before .before .before .before .before .before .before .before .before .before .before .before .before .before .before .before .before .before .before .args .first) (c .before .before .before .before .before .before .n .given .1) (c .before .before .before .before .before .before .before .before .before .before .fold-operand .ensures)) (c .before .before .fold-unary .ensures)
 
 fold-expression-same-length-3 : (t : ℕ) → fold-expression-lts.Need-same-length-3 (fold-expression-claims t) (fold-expression-at t) fold-expression.Post
 fold-expression-same-length-3 t c = search needs
@@ -180,35 +181,38 @@ fold-operand-returns-2 t c = c .before .before .fold-expression .ensures
 fold-right-tag-at-requires : (t : ℕ) → fold-right-lts.Need-tag-at-requires (fold-right-claims t) (fold-right-at t) fold-right.Post
 fold-right-tag-at-requires t c κs = let (h, k) = foldable-in (c .before .before .before .pre .1 .operator) in (omega arith, k)
 
+fold-right-origin-at-requires : (t : ℕ) → fold-right-lts.Need-origin-at-requires (fold-right-claims t) (fold-right-at t) fold-right.Post
+fold-right-origin-at-requires t c κs = let (h, k) = foldable-in (c .before .before .before .before .pre .1 .operator) in (omega arith, k)
+
 fold-right-sub-end : (t : ℕ) → fold-right-lts.Need-sub-end (fold-right-claims t) (fold-right-at t) fold-right.Post
-fold-right-sub-end t c = let (h, k) = foldable-in (c .before .before .before .before .pre .1 .operator) in omega arith
+fold-right-sub-end t c = let (h, k) = foldable-in (c .before .before .before .before .before .pre .1 .operator) in omega arith
 
 fold-right-count-requires : (t : ℕ) → fold-right-lts.Need-count-requires (fold-right-claims t) (fold-right-at t) fold-right.Post
-fold-right-count-requires t c κs = let (h, k) = foldable-in (the-left (c .before .before .before .before .pre .1)) in omega arith
+fold-right-count-requires t c κs = let (h, k) = foldable-in (the-left (c .before .before .before .before .before .pre .1)) in omega arith
 
 fold-right-add-next : (t : ℕ) → fold-right-lts.Need-add-next (fold-right-claims t) (fold-right-at t) fold-right.Post
-fold-right-add-next t c = let (h, k) = foldable-in (the-right (c .before .before .before .before .before .pre .1)) in record { fits = omega (arith, c .before .before .before .before .before .fits .hi .fits, c .before .before .before .before .before .pre .1 .numbered, operand-count (the-left (c .before .before .before .before .before .pre .1)) (c .count .ensures)) }
+fold-right-add-next t c = let (h, k) = foldable-in (the-right (c .before .before .before .before .before .before .pre .1)) in record { fits = omega (arith, c .before .before .before .before .before .before .fits .hi .fits, c .before .before .before .before .before .before .pre .1 .numbered, operand-count (the-left (c .before .before .before .before .before .before .pre .1)) (c .count .ensures)) }
 
 fold-right-count-requires-2 : (t : ℕ) → fold-right-lts.Need-count-requires-2 (fold-right-claims t) (fold-right-at t) fold-right.Post
-fold-right-count-requires-2 t c κs = let (h, k) = foldable-in (c .before .before .before .before .before .pre .1 .operator) in omega arith
+fold-right-count-requires-2 t c κs = let (h, k) = foldable-in (c .before .before .before .before .before .before .pre .1 .operator) in omega arith
 
 fold-right-add-place : (t : ℕ) → fold-right-lts.Need-add-place (fold-right-claims t) (fold-right-at t) fold-right.Post
-fold-right-add-place t c = record { fits = omega (arith, c .before .before .before .before .before .before .fits .hi .fits, c .before .before .before .before .before .before .pre .1 .numbered, operands-count (c .before .before .before .before .before .before .pre .1 .low-tag) (c .before .before .before .before .before .before .pre .1 .high-tag) (c .before .before .before .before .before .before .pre .1 .operator) (c .count2 .ensures)) }
+fold-right-add-place t c = record { fits = omega (arith, c .before .before .before .before .before .before .before .fits .hi .fits, c .before .before .before .before .before .before .before .pre .1 .numbered, operands-count (c .before .before .before .before .before .before .before .pre .1 .low-tag) (c .before .before .before .before .before .before .before .pre .1 .high-tag) (c .before .before .before .before .before .before .before .pre .1 .operator) (c .count2 .ensures)) }
 
 fold-right-cell-at-requires : (t : ℕ) → fold-right-lts.Need-cell-at-requires (fold-right-claims t) (fold-right-at t) fold-right.Post
-fold-right-cell-at-requires t c κs = let (h, k) = left-in (c .before .before .before .before .before .before .before .pre .1) in (omega arith, k)
+fold-right-cell-at-requires t c κs = let (h, k) = left-in (c .before .before .before .before .before .before .before .before .pre .1) in (omega arith, k)
 
 fold-right-is-neutral-requires : (t : ℕ) → fold-right-lts.Need-is-neutral-requires (fold-right-claims t) (fold-right-at t) fold-right.Post
-fold-right-is-neutral-requires t c κs = left-operand (c .before .before .before .before .before .before .before .before .pre .1) (c .before .before .before .before .tag-at .ensures) (c .cell-at .ensures)
+fold-right-is-neutral-requires t c κs = left-operand (c .before .before .before .before .before .before .before .before .before .pre .1) (c .before .before .before .before .before .tag-at .ensures) (c .cell-at .ensures)
 
 fold-right-fold-operand-requires : (t : ℕ) → fold-right-lts.Need-fold-operand-requires (fold-right-claims t) (fold-right-at t) fold-right.Post
-fold-right-fold-operand-requires t c κs = let (h, k) = foldable-in (the-right (c .before .before .before .before .before .before .before .before .before .before .before .pre .1)) in let (h′, k′) = foldable-in (the-left (c .before .before .before .before .before .before .before .before .before .before .before .pre .1)) in let (i, j) = left-in (c .before .before .before .before .before .before .before .before .before .before .before .pre .1) in (omega (arith, c .before .before .before .before .before .before .before .before .before .before .before .pre .0), (the-right (c .before .before .before .before .before .before .before .before .before .before .before .pre .1), (omega (arith, c .before .before .before .before .before .before .before .before .before .before .before .pre .1 .room), (omega (arith, c .before .before .before .before .before .before .before .before .before .before .before .pre .1 .numbered, operand-count (the-left (c .before .before .before .before .before .before .before .before .before .before .before .pre .1)) (c .before .before .before .before .before .before .count .ensures)), omega (arith, c .before .before .before .before .before .before .before .before .before .before .before .pre .1 .few)))))
+fold-right-fold-operand-requires t c κs = let (h, k) = foldable-in (the-right (c .before .before .before .before .before .before .before .before .before .before .before .before .pre .1)) in let (h′, k′) = foldable-in (the-left (c .before .before .before .before .before .before .before .before .before .before .before .before .pre .1)) in let (i, j) = left-in (c .before .before .before .before .before .before .before .before .before .before .before .before .pre .1) in (omega (arith, c .before .before .before .before .before .before .before .before .before .before .before .before .pre .0), (the-right (c .before .before .before .before .before .before .before .before .before .before .before .before .pre .1), (omega (arith, c .before .before .before .before .before .before .before .before .before .before .before .before .pre .1 .room), (omega (arith, c .before .before .before .before .before .before .before .before .before .before .before .before .pre .1 .numbered, operand-count (the-left (c .before .before .before .before .before .before .before .before .before .before .before .before .pre .1)) (c .before .before .before .before .before .before .count .ensures)), omega (arith, c .before .before .before .before .before .before .before .before .before .before .before .before .pre .1 .few)))))
 
 fold-right-enum-known-n : (t : ℕ) → fold-right-lts.Need-enum-known-n (fold-right-claims t) (fold-right-at t) fold-right.Post
 fold-right-enum-known-n t c = search needs
 
 fold-right-fold-neutral-requires : (t : ℕ) → fold-right-lts.Need-fold-neutral-requires (fold-right-claims t) (fold-right-at t) fold-right.Post
-fold-right-fold-neutral-requires t c κs = let (i, j) = left-in (c .before .before .before .before .before .before .before .before .before .before .before .before .before .before .before .before .before .before .pre .1) in neutral-ready (c .before .before .before .before .before .before .before .before .before .before .before .before .before .before .before .before .before .before .pre .1) (c .before .before .before .before .before .before .before .before .before .before .before .before .before .before .before .before .before .before .args .first + c .before .before .before .before .before .before .before .before .before .before .before .before .before .count .result) (omega arith) (c .before .before .before .before .before .before .fold-operand .kept .1 .1 .1 .1 .0) (as-answer (c .before .before .before .before .before .before .before .before .before .before .before .before .before .before .before .before .before .before .args .first + c .before .before .before .before .before .before .before .before .before .before .before .before .before .count .result) (c .before .before .n .given .1) (c .before .before .before .before .before .before .fold-operand .ensures))
+fold-right-fold-neutral-requires t c κs = let (i, j) = left-in (c .before .before .before .before .before .before .before .before .before .before .before .before .before .before .before .before .before .before .before .pre .1) in neutral-ready (c .before .before .before .before .before .before .before .before .before .before .before .before .before .before .before .before .before .before .before .pre .1) (c .before .before .before .before .before .before .before .before .before .before .before .before .before .before .before .before .before .before .before .args .first + c .before .before .before .before .before .before .before .before .before .before .before .before .before .count .result) (omega arith) (c .before .before .before .before .before .before .fold-operand .kept .1 .1 .1 .1 .0) (as-answer (c .before .before .before .before .before .before .before .before .before .before .before .before .before .before .before .before .before .before .before .args .first + c .before .before .before .before .before .before .before .before .before .before .before .before .before .count .result) (c .before .before .n .given .1) (c .before .before .before .before .before .before .fold-operand .ensures))
 
 fold-right-enum-known-number : (t : ℕ) → fold-right-lts.Need-enum-known-number (fold-right-claims t) (fold-right-at t) fold-right.Post
 fold-right-enum-known-number t c = search needs
@@ -217,22 +221,22 @@ fold-right-same-length : (t : ℕ) → fold-right-lts.Need-same-length (fold-rig
 fold-right-same-length t c = search needs
 
 fold-right-returns : (t : ℕ) → fold-right-lts.Need-returns (fold-right-claims t) (fold-right-at t) fold-right.Post
-fold-right-returns t c = right-alone (c .before .before .before .before .before .before .before .before .before .before .before .before .before .before .before .before .before .before .before .pre .1) (c .before .before .before .before .before .before .before .before .before .before .before .before .before .before .count .ensures) (c .before .before .before .before .before .before .before .before .before .before .before .before .before .count2 .ensures) (c .before .before .before .before .before .before .before .before .before .before .before .before .before .before .before .tag-at .ensures) (c .before .before .before .before .before .before .before .before .before .before .before .cell-at .ensures) (c .before .before .before .before .before .before .before .before .before .before .is-neutral .ensures) (c .before .before .before .before .before .before .before .before .before .if1 .taken) (c .before .before .before .before .before .before .before .fold-operand .kept .1 .1 .1 .1 .0) (as-answer (c .before .before .before .before .before .before .before .before .before .before .before .before .before .before .before .before .before .before .before .args .first + c .before .before .before .before .before .before .before .before .before .before .before .before .before .before .count .result) (c .before .before .before .n .given .1) (c .before .before .before .before .before .before .before .fold-operand .ensures)) (c .fold-neutral .ensures)
+fold-right-returns t c = right-alone (c .before .before .before .before .before .before .before .before .before .before .before .before .before .before .before .before .before .before .before .before .before .before .pre .1) (c .before .before .before .before .before .before .before .before .before .before .before .before .before .before .before .before .count .ensures) (c .before .before .before .before .before .before .before .before .before .before .before .before .before .before .before .count2 .ensures) (c .before .before .before .before .before .before .before .before .before .before .before .before .before .before .before .before .before .before .tag-at .ensures) (c .before .before .before .before .before .before .before .before .before .before .before .before .before .before .before .before .before .origin-at .ensures) (c .before .before .before .before .before .before .before .before .before .before .before .before .before .cell-at .ensures) (c .before .before .before .before .before .before .before .before .before .before .before .before .is-neutral .ensures) (c .before .before .before .before .before .before .before .before .before .before .before .if1 .taken) (c .before .before .before .before .before .before .before .before .before .fold-operand .kept .1 .1 .1 .1 .0) (as-answer (c .before .before .before .before .before .before .before .before .before .before .before .before .before .before .before .before .before .before .before .before .before .before .args .first + c .before .before .before .before .before .before .before .before .before .before .before .before .before .before .before .before .count .result) (c .before .before .before .before .before .n .given .1) (c .before .before .before .before .before .before .before .before .before .fold-operand .ensures)) (c .before .before .fold-neutral .ensures)
 
 fold-right-same-length-2 : (t : ℕ) → fold-right-lts.Need-same-length-2 (fold-right-claims t) (fold-right-at t) fold-right.Post
 fold-right-same-length-2 t c = search needs
 
 fold-right-returns-2 : (t : ℕ) → fold-right-lts.Need-returns-2 (fold-right-claims t) (fold-right-at t) fold-right.Post
-fold-right-returns-2 t c = right-refused (c .before .before .before .before .before .before .before .before .before .before .before .before .before .before .before .before .before .pre .1) (c .before .before .before .before .before .before .before .before .before .before .before .before .count .ensures) (c .before .before .before .before .before .before .before .before .before .before .before .count2 .ensures) (as-answer (c .before .before .before .before .before .before .before .before .before .before .before .before .before .before .before .before .before .args .first + c .before .before .before .before .before .before .before .before .before .before .before .before .count .result) (c .before .number .given .1) (c .before .before .before .before .before .fold-operand .ensures))
+fold-right-returns-2 t c = right-refused (c .before .before .before .before .before .before .before .before .before .before .before .before .before .before .before .before .before .before .pre .1) (c .before .before .before .before .before .before .before .before .before .before .before .before .count .ensures) (c .before .before .before .before .before .before .before .before .before .before .before .count2 .ensures) (as-answer (c .before .before .before .before .before .before .before .before .before .before .before .before .before .before .before .before .before .before .args .first + c .before .before .before .before .before .before .before .before .before .before .before .before .count .result) (c .before .number .given .1) (c .before .before .before .before .before .fold-operand .ensures))
 
 fold-right-fold-operand-requires-2 : (t : ℕ) → fold-right-lts.Need-fold-operand-requires-2 (fold-right-claims t) (fold-right-at t) fold-right.Post
-fold-right-fold-operand-requires-2 t c κs = let (h, k) = foldable-in (the-right (c .before .before .before .before .before .before .before .before .before .before .before .pre .1)) in let (h′, k′) = foldable-in (the-left (c .before .before .before .before .before .before .before .before .before .before .before .pre .1)) in (omega (arith, c .before .before .before .before .before .before .before .before .before .before .before .pre .0), (the-right (c .before .before .before .before .before .before .before .before .before .before .before .pre .1), (omega (arith, c .before .before .before .before .before .before .before .before .before .before .before .pre .1 .room), (omega (arith, c .before .before .before .before .before .before .before .before .before .before .before .pre .1 .numbered, operand-count (the-left (c .before .before .before .before .before .before .before .before .before .before .before .pre .1)) (c .before .before .before .before .before .before .count .ensures)), omega (arith, c .before .before .before .before .before .before .before .before .before .before .before .pre .1 .few)))))
+fold-right-fold-operand-requires-2 t c κs = let (h, k) = foldable-in (the-right (c .before .before .before .before .before .before .before .before .before .before .before .before .pre .1)) in let (h′, k′) = foldable-in (the-left (c .before .before .before .before .before .before .before .before .before .before .before .before .pre .1)) in (omega (arith, c .before .before .before .before .before .before .before .before .before .before .before .before .pre .0), (the-right (c .before .before .before .before .before .before .before .before .before .before .before .before .pre .1), (omega (arith, c .before .before .before .before .before .before .before .before .before .before .before .before .pre .1 .room), (omega (arith, c .before .before .before .before .before .before .before .before .before .before .before .before .pre .1 .numbered, operand-count (the-left (c .before .before .before .before .before .before .before .before .before .before .before .before .pre .1)) (c .before .before .before .before .before .before .count .ensures)), omega (arith, c .before .before .before .before .before .before .before .before .before .before .before .before .pre .1 .few)))))
 
 fold-right-enum-known-n-2 : (t : ℕ) → fold-right-lts.Need-enum-known-n-2 (fold-right-claims t) (fold-right-at t) fold-right.Post
 fold-right-enum-known-n-2 t c = search needs
 
 fold-right-fold-binary-requires : (t : ℕ) → fold-right-lts.Need-fold-binary-requires (fold-right-claims t) (fold-right-at t) fold-right.Post
-fold-right-fold-binary-requires t c κs = binary-ready (c .before .before .before .before .before .before .before .before .before .before .before .before .before .before .before .before .before .before .pre .1) (c .before .before .before .before .before .before .before .before .before .before .before .before .before .before .before .before .before .before .args .first + c .before .before .before .before .before .before .before .before .before .before .before .before .before .count .result) (c .before .before .before .before .before .before .before .before .before .before .before .before .before .before .tag-at .ensures) (c .before .before .before .before .before .before .before .before .before .before .cell-at .ensures) (c .before .before .before .before .before .before .before .before .before .is-neutral .ensures) (c .before .before .before .before .before .before .before .before .if1 .left) (c .before .before .before .before .before .before .fold-operand2 .kept .1 .1 .1 .1 .0) (as-answer (c .before .before .before .before .before .before .before .before .before .before .before .before .before .before .before .before .before .before .args .first + c .before .before .before .before .before .before .before .before .before .before .before .before .before .count .result) (c .before .before .n2 .given .1) (c .before .before .before .before .before .before .fold-operand2 .ensures))
+fold-right-fold-binary-requires t c κs = binary-ready (c .before .before .before .before .before .before .before .before .before .before .before .before .before .before .before .before .before .before .before .pre .1) (c .before .before .before .before .before .before .before .before .before .before .before .before .before .before .before .before .before .before .before .args .first + c .before .before .before .before .before .before .before .before .before .before .before .before .before .count .result) (c .before .before .before .before .before .before .before .before .before .before .before .before .before .before .before .tag-at .ensures) (c .before .before .before .before .before .before .before .before .before .before .cell-at .ensures) (c .before .before .before .before .before .before .before .before .before .is-neutral .ensures) (c .before .before .before .before .before .before .before .before .if1 .left) (c .before .before .before .before .before .before .fold-operand2 .kept .1 .1 .1 .1 .0) (as-answer (c .before .before .before .before .before .before .before .before .before .before .before .before .before .before .before .before .before .before .before .args .first + c .before .before .before .before .before .before .before .before .before .before .before .before .before .count .result) (c .before .before .n2 .given .1) (c .before .before .before .before .before .before .fold-operand2 .ensures))
 
 fold-right-enum-known-number-2 : (t : ℕ) → fold-right-lts.Need-enum-known-number-2 (fold-right-claims t) (fold-right-at t) fold-right.Post
 fold-right-enum-known-number-2 t c = search needs
@@ -241,13 +245,13 @@ fold-right-same-length-3 : (t : ℕ) → fold-right-lts.Need-same-length-3 (fold
 fold-right-same-length-3 t c = search needs
 
 fold-right-returns-3 : (t : ℕ) → fold-right-lts.Need-returns-3 (fold-right-claims t) (fold-right-at t) fold-right.Post
-fold-right-returns-3 t c = right-done (c .before .before .before .before .before .before .before .before .before .before .before .before .before .before .before .before .before .before .before .before .before .pre .1) (c .before .before .before .before .before .before .before .before .before .before .before .before .before .before .before .before .count .ensures) (c .before .before .before .before .before .before .before .before .before .before .before .before .before .before .before .count2 .ensures) (c .before .before .before .before .before .before .before .before .before .before .before .before .before .before .before .before .before .tag-at .ensures) (c .before .before .before .before .before .before .before .before .before .before .before .before .before .cell-at .ensures) (c .before .before .before .before .before .before .before .before .before .before .before .before .is-neutral .ensures) (c .before .before .before .before .before .before .before .before .before .before .before .if1 .left) (c .before .before .before .before .before .before .before .before .before .fold-operand2 .kept .1 .1 .1 .1 .0) (as-answer (c .before .before .before .before .before .before .before .before .before .before .before .before .before .before .before .before .before .before .before .before .before .args .first + c .before .before .before .before .before .before .before .before .before .before .before .before .before .before .before .before .count .result) (c .before .before .before .before .before .n2 .given .1) (c .before .before .before .before .before .before .before .before .before .fold-operand2 .ensures)) (c .before .before .fold-binary .ensures)
+fold-right-returns-3 t c = right-done (c .before .before .before .before .before .before .before .before .before .before .before .before .before .before .before .before .before .before .before .before .before .before .pre .1) (c .before .before .before .before .before .before .before .before .before .before .before .before .before .before .before .before .count .ensures) (c .before .before .before .before .before .before .before .before .before .before .before .before .before .before .before .count2 .ensures) (c .before .before .before .before .before .before .before .before .before .before .before .before .before .before .before .before .before .before .tag-at .ensures) (c .before .before .before .before .before .before .before .before .before .before .before .before .before .before .before .before .before .origin-at .ensures) (c .before .before .before .before .before .before .before .before .before .before .before .before .before .cell-at .ensures) (c .before .before .before .before .before .before .before .before .before .before .before .before .is-neutral .ensures) (c .before .before .before .before .before .before .before .before .before .before .before .if1 .left) (c .before .before .before .before .before .before .before .before .before .fold-operand2 .kept .1 .1 .1 .1 .0) (as-answer (c .before .before .before .before .before .before .before .before .before .before .before .before .before .before .before .before .before .before .before .before .before .before .args .first + c .before .before .before .before .before .before .before .before .before .before .before .before .before .before .before .before .count .result) (c .before .before .before .before .before .n2 .given .1) (c .before .before .before .before .before .before .before .before .before .fold-operand2 .ensures)) (c .before .before .fold-binary .ensures)
 
 fold-right-same-length-4 : (t : ℕ) → fold-right-lts.Need-same-length-4 (fold-right-claims t) (fold-right-at t) fold-right.Post
 fold-right-same-length-4 t c = search needs
 
 fold-right-returns-4 : (t : ℕ) → fold-right-lts.Need-returns-4 (fold-right-claims t) (fold-right-at t) fold-right.Post
-fold-right-returns-4 t c = right-refused (c .before .before .before .before .before .before .before .before .before .before .before .before .before .before .before .before .before .pre .1) (c .before .before .before .before .before .before .before .before .before .before .before .before .count .ensures) (c .before .before .before .before .before .before .before .before .before .before .before .count2 .ensures) (as-answer (c .before .before .before .before .before .before .before .before .before .before .before .before .before .before .before .before .before .args .first + c .before .before .before .before .before .before .before .before .before .before .before .before .count .result) (c .before .number2 .given .1) (c .before .before .before .before .before .fold-operand2 .ensures))
+fold-right-returns-4 t c = right-refused (c .before .before .before .before .before .before .before .before .before .before .before .before .before .before .before .before .before .before .pre .1) (c .before .before .before .before .before .before .before .before .before .before .before .before .count .ensures) (c .before .before .before .before .before .before .before .before .before .before .before .count2 .ensures) (as-answer (c .before .before .before .before .before .before .before .before .before .before .before .before .before .before .before .before .before .before .args .first + c .before .before .before .before .before .before .before .before .before .before .before .before .count .result) (c .before .number2 .given .1) (c .before .before .before .before .before .fold-operand2 .ensures))
 
 pub +fold-expression+fold-operand+fold-right-spec : {M : Type 1} → statement M
 +fold-expression+fold-operand+fold-right-spec =
@@ -286,6 +290,7 @@ pub +fold-expression+fold-operand+fold-right-spec : {M : Type 1} → statement M
     (fold-operand-returns-2 t))
     λ t. fold-right-lts.spec (fold-right-claims t) (fold-right-at t) fold-right.Post
     (fold-right-tag-at-requires t)
+    (fold-right-origin-at-requires t)
     (fold-right-sub-end t)
     (fold-right-count-requires t)
     (fold-right-add-next t)

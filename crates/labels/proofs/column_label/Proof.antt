@@ -15,28 +15,28 @@ use Rattle.labels.proofs.trace.Reads as trace-reads
 trace-requires : tie.Need-trace-requires
 trace-requires c κs = (c .before .before .before .before .pre .0, c .before .before .before .before .pre .1 .0)
 
-enum-known-origin : tie.Need-enum-known-origin
-enum-known-origin c = search needs
+enum-known-traced : tie.Need-enum-known-traced
+enum-known-traced c = search needs
 
-enum-known-origin-2 : tie.Need-enum-known-origin-2
-enum-known-origin-2 c = search needs
+enum-known-traced-2 : tie.Need-enum-known-traced-2
+enum-known-traced-2 c = search needs
 
 table-label-requires : tie.Need-table-label-requires
 table-label-requires c κs = c .before .before .before .before .before .before .before .before .pre .1 .1
 
 returns : tie.Need-returns
-returns c = label-said-here (c .before .before .before .trace .ensures) (c .before .origin .given .0 .0) (c .before .origin .given .1)
+returns c = label-said-here (c .before .before .before .trace .ensures) (c .before .traced .given .0 .0) (c .before .traced .given .1)
 
 returns-2 : tie.Need-returns-2
-returns-2 c = label-of-column (c .before .before .before .before .trace .ensures) (c .before .before .origin2 .given .0 .0) (c .before .before .origin2 .given .0 .1 .0) (c .before .before .origin2 .given .0 .1 .1 .0) (c .before .before .origin2 .given .0 .1 .1 .1 .0) (c .before .before .origin2 .given .1) (c .table-label .result) (c .table-label .ensures)
+returns-2 c = label-of-column (c .before .before .before .before .trace .ensures) (c .before .before .traced2 .given .0 .0) (c .before .before .traced2 .given .0 .1 .0) (c .before .before .traced2 .given .0 .1 .1 .0) (c .before .before .traced2 .given .0 .1 .1 .1 .0) (c .before .before .traced2 .given .1) (c .table-label .result) (c .table-label .ensures)
 
 pub column-label-spec : {M : Type 1} → statement M
 column-label-spec =
     tie.close
     (tie.spec
     trace-requires
-    enum-known-origin
-    enum-known-origin-2
+    enum-known-traced
+    enum-known-traced-2
     table-label-requires
     returns
     returns-2)

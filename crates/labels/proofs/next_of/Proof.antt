@@ -10,7 +10,7 @@ use Rattle.labels.proofs.next_of.Statement.{statement}
 use Rattle.labels.proofs.next_of.Tie as tie
 use Rattle.labels.proofs.next_of.Reads as reads
 use Rattle.labels.proofs.next_of.Lts as lts
-use Rattle.labels.proofs.leaf_origin.Reads as leaf-origin-reads
+use Rattle.labels.proofs.leaf_traced.Reads as leaf-traced-reads
 use Rattle.labels.proofs.next_join.Reads as next-join-reads
 use Rattle.labels.proofs.next_over.Reads as next-over-reads
 use Rattle.nodes.proofs.own_start.Reads as own-start-reads
@@ -19,11 +19,11 @@ use Rattle.nodes.proofs.source_count.Reads as source-count-reads
 source-count-requires : tie.Need-source-count-requires
 source-count-requires c κs = columns-node (c .before .before .pre .at)
 
-leaf-origin-requires : tie.Need-leaf-origin-requires
-leaf-origin-requires c κs = (columns-node (c .before .before .before .before .pre .at), counted-as (c .before .source-count .ensures) (c .if1 .taken))
+leaf-traced-requires : tie.Need-leaf-traced-requires
+leaf-traced-requires c κs = (columns-node (c .before .before .before .before .pre .at), counted-as (c .before .source-count .ensures) (c .if1 .taken))
 
 returns : tie.Need-returns
-returns c = ends-leaf (c .before .before .before .before .before .args .i) (counted-as (c .before .before .source-count .ensures) (c .before .if1 .taken)) (c .leaf-origin .result) (c .leaf-origin .ensures)
+returns c = ends-leaf (c .before .before .before .before .before .args .i) (counted-as (c .before .before .source-count .ensures) (c .before .if1 .taken)) (c .leaf-traced .result) (c .leaf-traced .ensures)
 
 own-start-requires : tie.Need-own-start-requires
 own-start-requires c κs = columns-node (c .before .before .before .before .pre .at)
@@ -45,7 +45,7 @@ next-of-spec =
     tie.close
     (tie.spec
     source-count-requires
-    leaf-origin-requires
+    leaf-traced-requires
     returns
     own-start-requires
     next-over-requires

@@ -17,7 +17,7 @@ use Rattle.cells.proofs.cell_at.Reads as cell-at-reads
 use Rattle.labels.proofs.hits.Reads as hits-reads
 
 abbrev Inv-loop : tie.InvT-loop
-Inv-loop s lo hi i from₀ at₀ from at = (from ≤ at) × ((ts : List (Option ℕ)) → Part s lo hi (all-words target-words ts) → Untried s hi at from i ts)
+Inv-loop s lo hi i from₀ at₀ from at = (from ≤ at) × ((ts : List (Option ℕ × ℕ)) → Part s lo hi (all-words target-words ts) → Untried s hi at from i ts)
 
 abbrev μ-loop : tie.MeasureT-loop
 μ-loop s lo hi i from₀ at₀ from at = hi - at

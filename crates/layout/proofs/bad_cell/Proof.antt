@@ -8,13 +8,16 @@ use Rattle.layout.proofs.bad_cell.Statement.{statement}
 use Rattle.layout.proofs.bad_cell.Tie as tie
 
 abbrev Inv-loop : tie.InvT-loop
-Inv-loop s p count i₀ i = Passed (cell-test s) count i
+Inv-loop s p count origins i₀ i = Passed (cell-test s) count i
 
 abbrev μ-loop : tie.MeasureT-loop
-μ-loop s p count i₀ i = count - i
+μ-loop s p count origins i₀ i = count - i
 
 parts-of-requires : tie.Need-parts-of-requires Inv-loop μ-loop
 parts-of-requires c κs = search needs
+
+origins-of-requires : tie.Need-origins-of-requires Inv-loop μ-loop
+origins-of-requires c κs = search needs
 
 loop-holds : tie.Need-loop-holds Inv-loop μ-loop
 loop-holds c = passed-none _ _
@@ -33,8 +36,8 @@ cell-ok-requires c κs = search needs
 
 returns : tie.Need-returns Inv-loop μ-loop
 returns c =
-    cells-walked (c .before .before .before .before .before .before .parts-of .ensures)
-    (passed-but _ (c .before .before .before .before .before .loop .inv) (c .before .before .before .before .loop-test .taken) (tested (c .before .before .before .before .before .before .parts-of .ensures) _ (c .before .before .cell-from .ensures) (c .before .cell-ok .ensures) (not-true _ (c .if1 .taken))))
+    cells-walked (c .before .before .before .before .before .before .before .parts-of .ensures)
+    (passed-but _ (c .before .before .before .before .before .loop .inv) (c .before .before .before .before .loop-test .taken) (tested (c .before .before .before .before .before .before .before .parts-of .ensures) _ (c .before .before .before .before .before .before .origins-of .ensures) (c .before .before .cell-from .ensures) (c .before .cell-ok .ensures) (not-true _ (c .if1 .taken))))
 
 add-i : tie.Need-add-i Inv-loop μ-loop
 add-i c = search needs
@@ -45,10 +48,10 @@ loop-less c = search needs
 loop-again : tie.Need-loop-again Inv-loop μ-loop
 loop-again c =
     passed-more _ (c .before .before .before .before .before .loop .inv) (c .before .before .before .before .loop-test .taken)
-    (tested (c .before .before .before .before .before .before .parts-of .ensures) _ (c .before .before .cell-from .ensures) (c .before .cell-ok .ensures) (not-false _ (c .if1 .left)))
+    (tested (c .before .before .before .before .before .before .before .parts-of .ensures) _ (c .before .before .before .before .before .before .origins-of .ensures) (c .before .before .cell-from .ensures) (c .before .cell-ok .ensures) (not-false _ (c .if1 .left)))
 
 returns-2 : tie.Need-returns-2 Inv-loop μ-loop
-returns-2 c = cells-walked (c .before .before .parts-of .ensures) (passed-all _ (c .before .loop .inv) (c .loop-test .left))
+returns-2 c = cells-walked (c .before .before .before .parts-of .ensures) (passed-all _ (c .before .loop .inv) (c .loop-test .left))
 
 pub bad-cell-spec : {M : Type 1} → statement M
 bad-cell-spec =
@@ -57,6 +60,7 @@ bad-cell-spec =
     Inv-loop
     μ-loop
     parts-of-requires
+    origins-of-requires
     loop-holds
     mul-cell-from
     add-cell-from

@@ -14,7 +14,7 @@ both-requires : tie.Need-both-requires
 both-requires c κs = search needs
 
 returns : tie.Need-returns
-returns c = cell-tested _ _ _ (c .before .before .fields-ok .ensures) (c .before .float-ok .ensures) (c .both .ensures)
+returns c = cell-tested _ _ _ _ (c .before .before .fields-ok .ensures) (c .before .float-ok .ensures) (c .both .ensures)
 
 pub cell-ok-spec : {M : Type 1} → statement M
 cell-ok-spec = tie.close (tie.spec fields-ok-requires float-ok-requires both-requires returns)

@@ -30,7 +30,7 @@ both-requires-4 c κs = search needs
 
 returns : tie.Need-returns
 returns c =
-    fields-tested _ _ _ _ (c .before .before .before .before .before .before .before .before .before .row-of .ensures)
+    fields-tested _ _ _ _ _ (c .before .before .before .before .before .before .before .before .before .row-of .ensures)
     (c .before .before .before .before .before .before .before .before .field-ok .ensures)
     (c .before .before .before .before .before .before .before .field-ok2 .ensures)
     (c .before .before .before .before .before .before .field-ok3 .ensures) (c .before .before .before .both .ensures) (c .before .before .both2 .ensures)

@@ -15,13 +15,13 @@ use Rattle.labels.proofs.first_column.Reads as first-column-reads
 use Rattle.lookup_or_scan.proofs.lookup_or_scan.Reads as lookup-or-scan-reads
 
 cell-at-requires : tie.Need-cell-at-requires
-cell-at-requires c κs = let (h, k) = node-in (leaf (scan (c .before .before .before .before .before .before .pre .table) (c .before .before .before .before .before .before .pre .alias) (some (c .before .before .before .before .before .before .pre .predicate)))) (c .before .before .before .before .before .before .pre .here) in (omega arith, k)
+cell-at-requires c κs = let (h, k) = node-in (leaf (c .before .before .before .before .before .before .pre .og) (scan (c .before .before .before .before .before .before .pre .table) (c .before .before .before .before .before .before .pre .alias) (some (c .before .before .before .before .before .before .pre .predicate)))) (c .before .before .before .before .before .before .pre .here) in (omega arith, k)
 
 cast-t : tie.Need-cast-t
 cast-t c = search needs
 
 copy-requires : tie.Need-copy-requires
-copy-requires c κs = let (h, k) = node-in (leaf (scan (c .before .before .before .before .before .before .before .before .before .before .pre .table) (c .before .before .before .before .before .before .before .before .before .before .pre .alias) (some (c .before .before .before .before .before .before .before .before .before .before .pre .predicate)))) (c .before .before .before .before .before .before .before .before .before .before .pre .here) in (omega arith, k)
+copy-requires c κs = let (h, k) = node-in (leaf (c .before .before .before .before .before .before .before .before .before .before .pre .og) (scan (c .before .before .before .before .before .before .before .before .before .before .pre .table) (c .before .before .before .before .before .before .before .before .before .before .pre .alias) (some (c .before .before .before .before .before .before .before .before .before .before .pre .predicate)))) (c .before .before .before .before .before .before .before .before .before .before .pre .here) in (omega arith, k)
 
 same-length : tie.Need-same-length
 same-length c = search needs

@@ -29,6 +29,7 @@ use Rattle.cells.proofs.cell_at.Reads as cell-at-reads
 use Rattle.cells.proofs.put.Reads as put-reads
 use Rattle.cells.proofs.start.Reads as start-reads
 use Rattle.cells.proofs.tag_at.Reads as tag-at-reads
+use Rattle.cells.proofs.origin_at.Reads as origin-at-reads
 use Rattle.nnf.proofs.+into_nnf_expression+into_nnf_not+into_nnf_operands+negate_both.{statement}
 use Rattle.nnf.proofs.+into_nnf_expression+into_nnf_not+into_nnf_operands+negate_both.Tie.{close}
 
@@ -88,7 +89,7 @@ negate-both-below t =
     and 2 negate-both-kinds.ps (falls 2 negate-both-kinds.ps _<_ μ-negate-both t) negate-both.Pre
 
 abbrev into-nnf-expression-claims : ℕ → into-nnf-expression-lts.Claims
-into-nnf-expression-claims t = (tag-at-reads.Asked, tag-at-reads.Learnt, into-nnf-not-below t, into-nnf-not.Post, into-nnf-operands-below t, into-nnf-operands.Post)
+into-nnf-expression-claims t = (tag-at-reads.Asked, tag-at-reads.Learnt, origin-at-reads.Asked, origin-at-reads.Learnt, into-nnf-not-below t, into-nnf-not.Post, into-nnf-operands-below t, into-nnf-operands.Post)
 
 abbrev into-nnf-not-claims : ℕ → into-nnf-not-lts.Claims
 into-nnf-not-claims t = (tag-at-reads.Asked, tag-at-reads.Learnt, into-nnf-operands-below t, into-nnf-operands.Post, negate-both-below t, negate-both.Post, put-reads.Asked, put-reads.Learnt)
@@ -105,14 +106,17 @@ into-nnf-expression-tag-at-requires t c κs = let (h, k) = at-in (c .before .bef
 into-nnf-expression-sub-into-nnf-not : (t : ℕ) → into-nnf-expression-lts.Need-sub-into-nnf-not (into-nnf-expression-claims t) (into-nnf-expression-at t) into-nnf-expression.Post
 into-nnf-expression-sub-into-nnf-not t c = let (h, k) = at-in (c .before .before .before .before .pre .1) in omega arith
 
+into-nnf-expression-origin-at-requires : (t : ℕ) → into-nnf-expression-lts.Need-origin-at-requires (into-nnf-expression-claims t) (into-nnf-expression-at t) into-nnf-expression.Post
+into-nnf-expression-origin-at-requires t c κs = let (h, k) = at-in (c .before .before .before .before .before .pre .1) in (omega arith, k)
+
 into-nnf-expression-into-nnf-not-requires : (t : ℕ) → into-nnf-expression-lts.Need-into-nnf-not-requires (into-nnf-expression-claims t) (into-nnf-expression-at t) into-nnf-expression.Post
-into-nnf-expression-into-nnf-not-requires t c κs = let (h, k) = at-in (c .before .before .before .before .before .pre .1) in (omega (arith, c .before .before .before .before .before .pre .0), at-operand (omega (arith, c .before .before .tag-at .ensures, c .before .if1 .taken)) (c .before .before .before .before .before .pre .1))
+into-nnf-expression-into-nnf-not-requires t c κs = let (h, k) = at-in (c .before .before .before .before .before .before .pre .1) in (omega (arith, c .before .before .before .before .before .before .pre .0), at-operand (omega (arith, c .before .before .before .tag-at .ensures, c .before .before .if1 .taken)) (c .before .before .before .before .before .before .pre .1))
 
 into-nnf-expression-same-length : (t : ℕ) → into-nnf-expression-lts.Need-same-length (into-nnf-expression-claims t) (into-nnf-expression-at t) into-nnf-expression.Post
 into-nnf-expression-same-length t c = search needs
 
 into-nnf-expression-returns : (t : ℕ) → into-nnf-expression-lts.Need-returns (into-nnf-expression-claims t) (into-nnf-expression-at t) into-nnf-expression.Post
-into-nnf-expression-returns t c = nnf-as-not (sym (c .before .before .before .before .before .tag-at .ensures) ∙ c .before .before .before .before .if1 .taken) (c .before .before .into-nnf-not .ensures)
+into-nnf-expression-returns t c = nnf-as-not (c .before .before .before .origin-at .ensures) (sym (c .before .before .before .before .before .before .tag-at .ensures) ∙ c .before .before .before .before .before .if1 .taken) (c .before .before .into-nnf-not .ensures)
 
 into-nnf-expression-into-nnf-operands-requires : (t : ℕ) → into-nnf-expression-lts.Need-into-nnf-operands-requires (into-nnf-expression-claims t) (into-nnf-expression-at t) into-nnf-expression.Post
 into-nnf-expression-into-nnf-operands-requires t c κs = search needs
@@ -136,7 +140,7 @@ into-nnf-not-same-length : (t : ℕ) → into-nnf-not-lts.Need-same-length (into
 into-nnf-not-same-length t c = search needs
 
 into-nnf-not-returns : (t : ℕ) → into-nnf-not-lts.Need-returns (into-nnf-not-claims t) (into-nnf-not-at t) into-nnf-not.Post
-into-nnf-not-returns t c = not-as-operands (sym (c .before .before .before .before .before .tag-at .ensures) ∙ c .before .before .before .before .if1 .taken) (c .before .before .into-nnf-operands .ensures)
+into-nnf-not-returns t c = not-as-operands (c .before .before .before .before .before .before .before .before .args .origin) (sym (c .before .before .before .before .before .tag-at .ensures) ∙ c .before .before .before .before .if1 .taken) (c .before .before .into-nnf-operands .ensures)
 
 into-nnf-not-negate-both-requires : (t : ℕ) → into-nnf-not-lts.Need-negate-both-requires (into-nnf-not-claims t) (into-nnf-not-at t) into-nnf-not.Post
 into-nnf-not-negate-both-requires t c κs = (omega (arith, c .before .before .before .before .before .before .pre .0), (c .before .before .before .before .before .before .pre .1, ((omega (arith, c .before .before .before .tag-at .ensures, c .before .if2 .taken), omega (arith, c .before .before .before .tag-at .ensures, c .before .if2 .taken)), inr refl)))
@@ -145,7 +149,7 @@ into-nnf-not-same-length-2 : (t : ℕ) → into-nnf-not-lts.Need-same-length-2 (
 into-nnf-not-same-length-2 t c = search needs
 
 into-nnf-not-returns-2 : (t : ℕ) → into-nnf-not-lts.Need-returns-2 (into-nnf-not-claims t) (into-nnf-not-at t) into-nnf-not.Post
-into-nnf-not-returns-2 t c = not-as-or (sym (c .before .before .before .before .before .before .tag-at .ensures) ∙ c .before .before .before .before .if2 .taken) (c .before .before .negate-both .ensures)
+into-nnf-not-returns-2 t c = not-as-or (c .before .before .before .before .before .before .before .before .before .args .origin) (sym (c .before .before .before .before .before .before .tag-at .ensures) ∙ c .before .before .before .before .if2 .taken) (c .before .before .negate-both .ensures)
 
 into-nnf-not-negate-both-requires-2 : (t : ℕ) → into-nnf-not-lts.Need-negate-both-requires-2 (into-nnf-not-claims t) (into-nnf-not-at t) into-nnf-not.Post
 into-nnf-not-negate-both-requires-2 t c κs = (omega (arith, c .before .before .before .before .before .before .before .pre .0), (c .before .before .before .before .before .before .before .pre .1, ((omega (arith, c .before .before .before .before .tag-at .ensures, c .before .if3 .taken), omega (arith, c .before .before .before .before .tag-at .ensures, c .before .if3 .taken)), inl refl)))
@@ -154,7 +158,7 @@ into-nnf-not-same-length-3 : (t : ℕ) → into-nnf-not-lts.Need-same-length-3 (
 into-nnf-not-same-length-3 t c = search needs
 
 into-nnf-not-returns-3 : (t : ℕ) → into-nnf-not-lts.Need-returns-3 (into-nnf-not-claims t) (into-nnf-not-at t) into-nnf-not.Post
-into-nnf-not-returns-3 t c = not-as-and (sym (c .before .before .before .before .before .before .before .tag-at .ensures) ∙ c .before .before .before .before .if3 .taken) (c .before .before .negate-both2 .ensures)
+into-nnf-not-returns-3 t c = not-as-and (c .before .before .before .before .before .before .before .before .before .before .args .origin) (sym (c .before .before .before .before .before .before .before .tag-at .ensures) ∙ c .before .before .before .before .if3 .taken) (c .before .before .negate-both2 .ensures)
 
 into-nnf-not-into-nnf-operands-requires-2 : (t : ℕ) → into-nnf-not-lts.Need-into-nnf-operands-requires-2 (into-nnf-not-claims t) (into-nnf-not-at t) into-nnf-not.Post
 into-nnf-not-into-nnf-operands-requires-2 t c κs = search needs
@@ -166,7 +170,7 @@ into-nnf-not-same-length-4 : (t : ℕ) → into-nnf-not-lts.Need-same-length-4 (
 into-nnf-not-same-length-4 t c = search needs
 
 into-nnf-not-returns-4 : (t : ℕ) → into-nnf-not-lts.Need-returns-4 (into-nnf-not-claims t) (into-nnf-not-at t) into-nnf-not.Post
-into-nnf-not-returns-4 t c = not-else (c .before .before .before .before .before .before .into-nnf-operands2 .kept .1 .1 .1 .0) (λ z. c .before .before .before .before .before .before .before .before .before .before .if1 .left (c .before .before .before .before .before .before .before .before .before .before .before .tag-at .ensures ∙ z)) (λ z. c .before .before .before .before .before .before .before .before .before .if2 .left (c .before .before .before .before .before .before .before .before .before .before .before .tag-at .ensures ∙ z)) (λ z. c .before .before .before .before .before .before .before .before .if3 .left (c .before .before .before .before .before .before .before .before .before .before .before .tag-at .ensures ∙ z)) (c .before .before .before .before .before .before .into-nnf-operands2 .ensures) (c .before .before .put .ensures .0)
+into-nnf-not-returns-4 t c = not-else (c .before .before .before .before .before .before .into-nnf-operands2 .kept .1 .1 .1 .0) (c .before .before .before .before .before .before .before .before .before .before .before .before .before .before .args .origin) (λ z. c .before .before .before .before .before .before .before .before .before .before .if1 .left (c .before .before .before .before .before .before .before .before .before .before .before .tag-at .ensures ∙ z)) (λ z. c .before .before .before .before .before .before .before .before .before .if2 .left (c .before .before .before .before .before .before .before .before .before .before .before .tag-at .ensures ∙ z)) (λ z. c .before .before .before .before .before .before .before .before .if3 .left (c .before .before .before .before .before .before .before .before .before .before .before .tag-at .ensures ∙ z)) (c .before .before .before .before .before .before .into-nnf-operands2 .ensures) (c .before .before .put .ensures .0)
 
 into-nnf-operands-cell-at-requires : (t : ℕ) → into-nnf-operands-lts.Need-cell-at-requires (into-nnf-operands-claims t) (into-nnf-operands-at t) into-nnf-operands.Post
 into-nnf-operands-cell-at-requires t c κs = let (h, k) = at-in (c .before .before .pre .1) in (omega arith, k)
@@ -232,13 +236,14 @@ negate-both-same-length : (t : ℕ) → negate-both-lts.Need-same-length (negate
 negate-both-same-length t c = search needs
 
 negate-both-returns : (t : ℕ) → negate-both-lts.Need-returns (negate-both-claims t) (negate-both-at t) negate-both.Post
-negate-both-returns t c = negated-both (c .before .before .before .before .before .before .before .before .before .before .into-nnf-not .kept .1 .1 .1 .0) (c .before .before .before .before .before .before .into-nnf-not2 .kept .1 .1 .1 .0) (c .before .before .before .before .before .before .before .before .before .before .before .before .start .ensures) (c .before .before .before .before .before .before .before .before .before .before .before .before .before .before .before .pre .1 .1 .0 .0) (c .before .before .before .before .before .before .before .before .before .before .before .before .before .before .before .pre .1 .1 .0 .1) (c .before .before .before .before .before .before .before .before .before .before .before .before .before .before .before .args .o) (c .before .before .before .before .before .before .before .before .before .before .before .before .before .before .before .pre .1 .1 .1) (c .before .before .before .before .before .before .before .before .before .before .into-nnf-not .ensures) (c .before .before .before .before .before .before .into-nnf-not2 .ensures) (c .before .before .put .ensures .0)
+negate-both-returns t c = negated-both (c .before .before .before .before .before .before .before .before .before .before .into-nnf-not .kept .1 .1 .1 .0) (c .before .before .before .before .before .before .into-nnf-not2 .kept .1 .1 .1 .0) (c .before .before .before .before .before .before .before .before .before .before .before .before .start .ensures) (c .before .before .before .before .before .before .before .before .before .before .before .before .before .before .before .pre .1 .1 .0 .0) (c .before .before .before .before .before .before .before .before .before .before .before .before .before .before .before .pre .1 .1 .0 .1) (c .before .before .before .before .before .before .before .before .before .before .before .before .before .before .before .args .origin) (c .before .before .before .before .before .before .before .before .before .before .before .before .before .before .before .args .o) (c .before .before .before .before .before .before .before .before .before .before .before .before .before .before .before .pre .1 .1 .1) (c .before .before .before .before .before .before .before .before .before .before .into-nnf-not .ensures) (c .before .before .before .before .before .before .into-nnf-not2 .ensures) (c .before .before .put .ensures .0)
 
 pub +into-nnf-expression+into-nnf-not+into-nnf-operands+negate-both-spec : {M : Type 1} → statement M
 +into-nnf-expression+into-nnf-not+into-nnf-operands+negate-both-spec =
     close μ-into-nnf-expression μ-into-nnf-not μ-into-nnf-operands μ-negate-both (λ t. into-nnf-expression-lts.spec (into-nnf-expression-claims t) (into-nnf-expression-at t) into-nnf-expression.Post
     (into-nnf-expression-tag-at-requires t)
     (into-nnf-expression-sub-into-nnf-not t)
+    (into-nnf-expression-origin-at-requires t)
     (into-nnf-expression-into-nnf-not-requires t)
     (into-nnf-expression-same-length t)
     (into-nnf-expression-returns t)

@@ -16,7 +16,7 @@ use Rattle.cells.proofs.cell_at.Reads as cell-at-reads
 use Rattle.nodes.proofs.past_target.Reads as past-target-reads
 
 abbrev Inv-loop : tie.InvT-loop
-Inv-loop s lo hi n₀ i₀ n i = (ts : List (Option ℕ)) → Part s lo hi (all-words target-words ts) → Remaining s hi i n ts
+Inv-loop s lo hi n₀ i₀ n i = (ts : List (Option ℕ × ℕ)) → Part s lo hi (all-words target-words ts) → Remaining s hi i n ts
 
 abbrev μ-loop : tie.MeasureT-loop
 μ-loop s lo hi n₀ i₀ n i = hi - i

@@ -12,6 +12,7 @@ use Rattle.push_filters.proofs.+maybe_push_filter+push_filters.Lts-mayb
 use Rattle.push_filters.proofs.push_filters.Reads as push-filters
 use Rattle.push_filters.proofs.push_filters.Kinds as push-filters-kinds
 use Rattle.push_filters.proofs.+maybe_push_filter+push_filters.Lts-push_filters as push-filters-lts
+use Rattle.cells.proofs.origin_at.Reads as origin-at-reads
 use Rattle.cells.proofs.tag_at.Reads as tag-at-reads
 use Rattle.nodes.proofs.own_start.Reads as own-start-reads
 use Rattle.push_filters.proofs.filter_over.Reads as filter-over-reads
@@ -57,7 +58,7 @@ push-filters-below t =
     push-filters.Pre
 
 abbrev maybe-push-filter-claims : ℕ → maybe-push-filter-lts.Claims
-maybe-push-filter-claims t = (filter-over-reads.Asked, filter-over-reads.Learnt, tag-at-reads.Asked, tag-at-reads.Learnt, own-start-reads.Asked, own-start-reads.Learnt, gather-reads.Asked, gather-reads.Learnt, push-filters-below t, push-filters.Post, takes-reads.Asked, takes-reads.Learnt, push-into-reads.Asked, push-into-reads.Learnt)
+maybe-push-filter-claims t = (filter-over-reads.Asked, filter-over-reads.Learnt, tag-at-reads.Asked, tag-at-reads.Learnt, own-start-reads.Asked, own-start-reads.Learnt, gather-reads.Asked, gather-reads.Learnt, origin-at-reads.Asked, origin-at-reads.Learnt, push-filters-below t, push-filters.Post, takes-reads.Asked, takes-reads.Learnt, push-into-reads.Asked, push-into-reads.Learnt)
 
 abbrev push-filters-claims : ℕ → push-filters-lts.Claims
 push-filters-claims t = (maybe-push-filter-below t, maybe-push-filter.Post, maybe-push-join-reads.Asked, maybe-push-join-reads.Learnt)
@@ -89,17 +90,20 @@ maybe-push-filter-sub-gather t c = node-at-in (tried-below (c .before .before .b
 maybe-push-filter-gather-requires : (t : ℕ) → maybe-push-filter-lts.Need-gather-requires (maybe-push-filter-claims t) (maybe-push-filter-at t) maybe-push-filter.Post
 maybe-push-filter-gather-requires t c κs = own-ends (c .before .before .own-start .ensures) (tried-below (c .before .before .before .before .before .before .before .before .if1 .left) (c .before .before .before .before .before .before .before .before .before .before .before .before .before .before .pre .1 .0))
 
+maybe-push-filter-origin-at-requires : (t : ℕ) → maybe-push-filter-lts.Need-origin-at-requires (maybe-push-filter-claims t) (maybe-push-filter-at t) maybe-push-filter.Post
+maybe-push-filter-origin-at-requires t c κs = node-at-in (tried-below (c .before .before .before .before .before .before .before .before .before .before .before .before .if1 .left) (c .before .before .before .before .before .before .before .before .before .before .before .before .before .before .before .before .before .before .pre .1 .0))
+
 maybe-push-filter-sub-push-filters : (t : ℕ) → maybe-push-filter-lts.Need-sub-push-filters (maybe-push-filter-claims t) (maybe-push-filter-at t) maybe-push-filter.Post
-maybe-push-filter-sub-push-filters t c = omega (arith, c .before .before .before .before .before .before .before .before .before .before .before .before .before .before .if2 .left)
+maybe-push-filter-sub-push-filters t c = omega (arith, c .before .before .before .before .before .before .before .before .before .before .before .before .before .before .before .before .if2 .left)
 
 maybe-push-filter-push-filters-requires : (t : ℕ) → maybe-push-filter-lts.Need-push-filters-requires (maybe-push-filter-claims t) (maybe-push-filter-at t) maybe-push-filter.Post
-maybe-push-filter-push-filters-requires t c κs = (omega (arith, c .before .before .before .before .before .before .before .before .before .before .before .before .before .before .before .before .before .before .before .before .before .pre .0, c .before .before .before .before .before .before .before .before .before .before .before .before .before .before .if2 .left), (merged-at (c .before .before .before .before .before .before .before .before .before .before .before .before .before .before .before .if1 .left) refl (merges-filter (c .before .before .before .before .before .before .before .before .before .before .before .before .before .before .before .if1 .left) (sym (c .before .before .before .before .before .before .before .before .before .before .before .before .tag-at .ensures) ∙ c .before .before .before .before .before .before .before .before .before .before .before .if3 .taken) (c .before .before .before .before .before .before .before .before .before .own-start .ensures) (c .before .before .before .before .before .before .before .before .before .before .before .before .before .before .before .before .before .before .before .before .before .pre .1 .1 .first) (c .before .before .before .before .before .before .gather .ensures)) (c .before .before .before .before .before .before .before .before .before .before .before .before .before .before .before .before .before .before .before .before .before .pre .1 .0), buffers-next (c .before .before .before .before .before .before .before .before .before .before .before .before .before .before .before .before .before .before .before .before .before .pre .1 .1) refl (c .before .before .before .before .before .before .gather .kept .1 .1 .1 .0) refl refl))
+maybe-push-filter-push-filters-requires t c κs = (omega (arith, c .before .before .before .before .before .before .before .before .before .before .before .before .before .before .before .before .before .before .before .before .before .before .before .pre .0, c .before .before .before .before .before .before .before .before .before .before .before .before .before .before .before .before .if2 .left), (merged-at (c .before .before .before .before .before .before .before .before .before .before .before .before .before .before .before .before .before .if1 .left) refl (merges-filter (c .before .before .before .before .before .before .before .before .before .before .before .before .before .before .before .before .before .if1 .left) (sym (c .before .before .before .before .before .before .before .before .before .before .before .before .before .before .tag-at .ensures) ∙ c .before .before .before .before .before .before .before .before .before .before .before .before .before .if3 .taken) (c .before .before .before .before .before .before .before .before .before .before .before .own-start .ensures) (c .before .before .before .before .before .before .before .before .before .before .before .before .before .before .before .before .before .before .before .before .before .before .before .pre .1 .1 .first) (c .before .before .before .before .before .before .before .before .gather .ensures) (c .before .before .before .before .origin-at .ensures)) (c .before .before .before .before .before .before .before .before .before .before .before .before .before .before .before .before .before .before .before .before .before .before .before .pre .1 .0), buffers-next (c .before .before .before .before .before .before .before .before .before .before .before .before .before .before .before .before .before .before .before .before .before .before .before .pre .1 .1) refl (c .before .before .before .before .before .before .before .before .gather .kept .1 .1 .1 .0) refl refl))
 
 maybe-push-filter-same-length-3 : (t : ℕ) → maybe-push-filter-lts.Need-same-length-3 (maybe-push-filter-claims t) (maybe-push-filter-at t) maybe-push-filter.Post
 maybe-push-filter-same-length-3 t c = c .before .before .before .before .before .before .before .before .push-filters .kept .0
 
 maybe-push-filter-same-length-4 : (t : ℕ) → maybe-push-filter-lts.Need-same-length-4 (maybe-push-filter-claims t) (maybe-push-filter-at t) maybe-push-filter.Post
-maybe-push-filter-same-length-4 t c = c .before .before .before .before .before .before .before .before .push-filters .kept .1 .0 ∙ c .before .before .before .before .before .before .before .before .before .before .before .before .before .before .before .gather .kept .1 .1 .1 .0
+maybe-push-filter-same-length-4 t c = c .before .before .before .before .before .before .before .before .push-filters .kept .1 .0 ∙ c .before .before .before .before .before .before .before .before .before .before .before .before .before .before .before .before .before .gather .kept .1 .1 .1 .0
 
 maybe-push-filter-same-length-5 : (t : ℕ) → maybe-push-filter-lts.Need-same-length-5 (maybe-push-filter-claims t) (maybe-push-filter-at t) maybe-push-filter.Post
 maybe-push-filter-same-length-5 t c = c .before .before .before .before .before .before .before .before .push-filters .kept .1 .1 .0
@@ -108,7 +112,7 @@ maybe-push-filter-same-length-6 : (t : ℕ) → maybe-push-filter-lts.Need-same-
 maybe-push-filter-same-length-6 t c = c .before .before .before .before .before .before .before .before .push-filters .kept .1 .1 .1 .0
 
 maybe-push-filter-returns-3 : (t : ℕ) → maybe-push-filter-lts.Need-returns-3 (maybe-push-filter-claims t) (maybe-push-filter-at t) maybe-push-filter.Post
-maybe-push-filter-returns-3 t c = merged-tries (c .before .before .before .before .before .before .before .before .before .before .before .before .before .before .before .before .before .before .before .before .before .before .before .before .if1 .left) refl (merges-filter (c .before .before .before .before .before .before .before .before .before .before .before .before .before .before .before .before .before .before .before .before .before .before .before .before .if1 .left) (sym (c .before .before .before .before .before .before .before .before .before .before .before .before .before .before .before .before .before .before .before .before .before .tag-at .ensures) ∙ c .before .before .before .before .before .before .before .before .before .before .before .before .before .before .before .before .before .before .before .before .if3 .taken) (c .before .before .before .before .before .before .before .before .before .before .before .before .before .before .before .before .before .before .own-start .ensures) (c .before .before .before .before .before .before .before .before .before .before .before .before .before .before .before .before .before .before .before .before .before .before .before .before .before .before .before .before .before .before .pre .1 .1 .first) (c .before .before .before .before .before .before .before .before .before .before .before .before .before .before .before .gather .ensures)) (c .before .before .before .before .before .before .before .before .before .before .before .before .before .before .before .before .before .before .before .before .before .before .before .before .before .before .before .before .before .before .args .n) (c .before .before .before .before .before .before .before .before .before .before .before .before .before .before .before .before .before .before .before .before .before .before .before .if2 .left) (c .before .before .before .before .before .before .before .before .push-filters .ensures)
+maybe-push-filter-returns-3 t c = merged-tries (c .before .before .before .before .before .before .before .before .before .before .before .before .before .before .before .before .before .before .before .before .before .before .before .before .before .before .if1 .left) refl (merges-filter (c .before .before .before .before .before .before .before .before .before .before .before .before .before .before .before .before .before .before .before .before .before .before .before .before .before .before .if1 .left) (sym (c .before .before .before .before .before .before .before .before .before .before .before .before .before .before .before .before .before .before .before .before .before .before .before .tag-at .ensures) ∙ c .before .before .before .before .before .before .before .before .before .before .before .before .before .before .before .before .before .before .before .before .before .before .if3 .taken) (c .before .before .before .before .before .before .before .before .before .before .before .before .before .before .before .before .before .before .before .before .own-start .ensures) (c .before .before .before .before .before .before .before .before .before .before .before .before .before .before .before .before .before .before .before .before .before .before .before .before .before .before .before .before .before .before .before .before .pre .1 .1 .first) (c .before .before .before .before .before .before .before .before .before .before .before .before .before .before .before .before .before .gather .ensures) (c .before .before .before .before .before .before .before .before .before .before .before .before .before .origin-at .ensures)) (c .before .before .before .before .before .before .before .before .before .before .before .before .before .before .before .before .before .before .before .before .before .before .before .before .before .before .before .before .before .before .before .before .args .n) (c .before .before .before .before .before .before .before .before .before .before .before .before .before .before .before .before .before .before .before .before .before .before .before .before .before .if2 .left) (c .before .before .before .before .before .before .before .before .push-filters .ensures)
 
 maybe-push-filter-takes-requires : (t : ℕ) → maybe-push-filter-lts.Need-takes-requires (maybe-push-filter-claims t) (maybe-push-filter-at t) maybe-push-filter.Post
 maybe-push-filter-takes-requires t c κs = tried-below (c .before .before .before .before .before .if1 .left) (c .before .before .before .before .before .before .before .before .before .before .before .pre .1 .0)
@@ -120,7 +124,7 @@ maybe-push-filter-sub-push-filters-2 : (t : ℕ) → maybe-push-filter-lts.Need-
 maybe-push-filter-sub-push-filters-2 t c = omega (arith, c .before .before .before .before .before .before .before .before .before .before .before .before .before .before .before .before .before .if2 .left)
 
 maybe-push-filter-push-filters-requires-2 : (t : ℕ) → maybe-push-filter-lts.Need-push-filters-requires-2 (maybe-push-filter-claims t) (maybe-push-filter-at t) maybe-push-filter.Post
-maybe-push-filter-push-filters-requires-2 t c κs = (omega (arith, c .before .before .before .before .before .before .before .before .before .before .before .before .before .before .before .before .before .before .before .before .before .before .before .before .pre .0, c .before .before .before .before .before .before .before .before .before .before .before .before .before .before .before .before .before .if2 .left), (merged-at (c .before .before .before .before .before .before .before .before .before .before .before .before .before .before .before .before .before .before .if1 .left) (c .before .before .before .before .before .before .before .before .push-into .kept .0) (merges-into (c .before .before .before .before .before .before .before .before .before .before .before .before .before .before .before .before .before .before .if1 .left) (λ i. c .before .before .before .before .before .before .before .before .before .before .before .before .before .before .if3 .left (c .before .before .before .before .before .before .before .before .before .before .before .before .before .before .before .tag-at .ensures ∙ i)) (c .before .before .before .before .before .before .before .before .before .before .before .before .takes .ensures) (c .before .before .before .before .before .before .before .before .before .before .before .if4 .taken) (c .before .before .before .before .before .before .before .before .push-into .kept .0) (c .before .before .before .before .before .before .before .before .push-into .ensures) _ _) (c .before .before .before .before .before .before .before .before .before .before .before .before .before .before .before .before .before .before .before .before .before .before .before .before .pre .1 .0), buffers-next (c .before .before .before .before .before .before .before .before .before .before .before .before .before .before .before .before .before .before .before .before .before .before .before .before .pre .1 .1) (c .before .before .before .before .before .before .before .before .push-into .kept .0) (c .before .before .before .before .before .before .before .before .push-into .kept .1 .0) refl refl))
+maybe-push-filter-push-filters-requires-2 t c κs = (omega (arith, c .before .before .before .before .before .before .before .before .before .before .before .before .before .before .before .before .before .before .before .before .before .before .before .before .pre .0, c .before .before .before .before .before .before .before .before .before .before .before .before .before .before .before .before .before .if2 .left), (merged-at (c .before .before .before .before .before .before .before .before .before .before .before .before .before .before .before .before .before .before .if1 .left) (c .before .before .before .before .before .before .before .before .push-into .kept .0) (merges-into (c .before .before .before .before .before .before .before .before .before .before .before .before .before .before .before .before .before .before .if1 .left) (λ i. c .before .before .before .before .before .before .before .before .before .before .before .before .before .before .if3 .left (c .before .before .before .before .before .before .before .before .before .before .before .before .before .before .before .tag-at .ensures ∙ i)) (c .before .before .before .before .before .before .before .before .before .before .before .before .takes .ensures) (c .before .before .before .before .before .before .before .before .before .before .before .if4 .taken) (c .before .before .before .before .before .before .before .before .push-into .kept .0) (c .before .before .before .before .before .before .before .before .push-into .ensures) _ _ _) (c .before .before .before .before .before .before .before .before .before .before .before .before .before .before .before .before .before .before .before .before .before .before .before .before .pre .1 .0), buffers-next (c .before .before .before .before .before .before .before .before .before .before .before .before .before .before .before .before .before .before .before .before .before .before .before .before .pre .1 .1) (c .before .before .before .before .before .before .before .before .push-into .kept .0) (c .before .before .before .before .before .before .before .before .push-into .kept .1 .0) refl refl))
 
 maybe-push-filter-same-length-7 : (t : ℕ) → maybe-push-filter-lts.Need-same-length-7 (maybe-push-filter-claims t) (maybe-push-filter-at t) maybe-push-filter.Post
 maybe-push-filter-same-length-7 t c = c .before .before .before .before .before .before .before .before .push-filters2 .kept .0 ∙ c .before .before .before .before .before .before .before .before .before .before .before .before .before .before .before .before .before .push-into .kept .0
@@ -135,7 +139,7 @@ maybe-push-filter-same-length-10 : (t : ℕ) → maybe-push-filter-lts.Need-same
 maybe-push-filter-same-length-10 t c = c .before .before .before .before .before .before .before .before .push-filters2 .kept .1 .1 .1 .0
 
 maybe-push-filter-returns-4 : (t : ℕ) → maybe-push-filter-lts.Need-returns-4 (maybe-push-filter-claims t) (maybe-push-filter-at t) maybe-push-filter.Post
-maybe-push-filter-returns-4 t c = merged-tries (c .before .before .before .before .before .before .before .before .before .before .before .before .before .before .before .before .before .before .before .before .before .before .before .before .before .before .before .if1 .left) (c .before .before .before .before .before .before .before .before .before .before .before .before .before .before .before .before .before .push-into .kept .0) (merges-into (c .before .before .before .before .before .before .before .before .before .before .before .before .before .before .before .before .before .before .before .before .before .before .before .before .before .before .before .if1 .left) (λ i. c .before .before .before .before .before .before .before .before .before .before .before .before .before .before .before .before .before .before .before .before .before .before .before .if3 .left (c .before .before .before .before .before .before .before .before .before .before .before .before .before .before .before .before .before .before .before .before .before .before .before .before .tag-at .ensures ∙ i)) (c .before .before .before .before .before .before .before .before .before .before .before .before .before .before .before .before .before .before .before .before .before .takes .ensures) (c .before .before .before .before .before .before .before .before .before .before .before .before .before .before .before .before .before .before .before .before .if4 .taken) (c .before .before .before .before .before .before .before .before .before .before .before .before .before .before .before .before .before .push-into .kept .0) (c .before .before .before .before .before .before .before .before .before .before .before .before .before .before .before .before .before .push-into .ensures) _ _) (c .before .before .before .before .before .before .before .before .before .before .before .before .before .before .before .before .before .before .before .before .before .before .before .before .before .before .before .before .before .before .before .before .before .args .n) (c .before .before .before .before .before .before .before .before .before .before .before .before .before .before .before .before .before .before .before .before .before .before .before .before .before .before .if2 .left) (c .before .before .before .before .before .before .before .before .push-filters2 .ensures)
+maybe-push-filter-returns-4 t c = merged-tries (c .before .before .before .before .before .before .before .before .before .before .before .before .before .before .before .before .before .before .before .before .before .before .before .before .before .before .before .if1 .left) (c .before .before .before .before .before .before .before .before .before .before .before .before .before .before .before .before .before .push-into .kept .0) (merges-into (c .before .before .before .before .before .before .before .before .before .before .before .before .before .before .before .before .before .before .before .before .before .before .before .before .before .before .before .if1 .left) (λ i. c .before .before .before .before .before .before .before .before .before .before .before .before .before .before .before .before .before .before .before .before .before .before .before .if3 .left (c .before .before .before .before .before .before .before .before .before .before .before .before .before .before .before .before .before .before .before .before .before .before .before .before .tag-at .ensures ∙ i)) (c .before .before .before .before .before .before .before .before .before .before .before .before .before .before .before .before .before .before .before .before .before .takes .ensures) (c .before .before .before .before .before .before .before .before .before .before .before .before .before .before .before .before .before .before .before .before .if4 .taken) (c .before .before .before .before .before .before .before .before .before .before .before .before .before .before .before .before .before .push-into .kept .0) (c .before .before .before .before .before .before .before .before .before .before .before .before .before .before .before .before .before .push-into .ensures) _ _ _) (c .before .before .before .before .before .before .before .before .before .before .before .before .before .before .before .before .before .before .before .before .before .before .before .before .before .before .before .before .before .before .before .before .before .args .n) (c .before .before .before .before .before .before .before .before .before .before .before .before .before .before .before .before .before .before .before .before .before .before .before .before .before .before .if2 .left) (c .before .before .before .before .before .before .before .before .push-filters2 .ensures)
 
 maybe-push-filter-filter-over-requires-2 : (t : ℕ) → maybe-push-filter-lts.Need-filter-over-requires-2 (maybe-push-filter-claims t) (maybe-push-filter-at t) maybe-push-filter.Post
 maybe-push-filter-filter-over-requires-2 t c κs = let (a, b) = tried-in (c .before .before .before .before .before .before .before .before .before .if1 .left) (c .before .before .before .before .before .before .before .before .before .before .before .before .before .before .before .pre .1 .0) in (a, (b, c .before .before .before .before .before .before .before .before .before .before .before .before .before .before .before .pre .1 .1 .first))
@@ -197,6 +201,7 @@ pub +maybe-push-filter+push-filters-spec : {M : Type 1} → statement M
     (maybe-push-filter-own-start-requires t)
     (maybe-push-filter-sub-gather t)
     (maybe-push-filter-gather-requires t)
+    (maybe-push-filter-origin-at-requires t)
     (maybe-push-filter-sub-push-filters t)
     (maybe-push-filter-push-filters-requires t)
     (maybe-push-filter-same-length-3 t)

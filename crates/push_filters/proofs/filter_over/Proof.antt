@@ -11,7 +11,7 @@ put-requires : tie.Need-put-requires
 put-requires c κs = search needs
 
 replace-own-requires : tie.Need-replace-own-requires
-replace-own-requires c κs = (c .before .before .before .before .before .before .before .before .pre .1 .0, ((c .before .before .before .before .before .before .before .before .pre .0, λ z. put-long (plain 51) (c .before .before .before .before .put .ensures .0) (omega (arith, c .before .before .before .before .put .kept .0))), c .before .before .before .before .put .kept .0 ∙ c .before .before .before .before .before .before .before .before .pre .1 .1))
+replace-own-requires c κs = (c .before .before .before .before .before .before .before .before .pre .1 .0, ((c .before .before .before .before .before .before .before .before .pre .0, λ z. put-long (plain (c .before .before .before .before .before .before .before .before .args .origin) 51) (c .before .before .before .before .put .ensures .0) (omega (arith, c .before .before .before .before .put .kept .0))), c .before .before .before .before .put .kept .0 ∙ c .before .before .before .before .before .before .before .before .pre .1 .1))
 
 same-length : tie.Need-same-length
 same-length c = c .before .before .before .before .replace-own .kept .0
@@ -20,7 +20,7 @@ same-length-2 : tie.Need-same-length-2
 same-length-2 c = c .before .before .before .before .replace-own .kept .1 .0 ∙ c .before .before .before .before .before .before .before .before .before .put .kept .0
 
 returns : tie.Need-returns
-returns c = filtered (c .before .before .before .before .before .before .before .before .before .before .before .before .before .args .x .now) (c .before .before .before .before .before .before .before .before .before .before .before .before .before .args .t) (c .before .before .before .before .before .before .before .before .before .put .kept .0) (c .before .before .before .before .before .before .before .before .before .put .ensures .0) (c .before .before .before .before .replace-own .ensures)
+returns c = filtered (c .before .before .before .before .before .before .before .before .before .before .before .before .before .args .origin) (c .before .before .before .before .before .before .before .before .before .before .before .before .before .args .x .now) (c .before .before .before .before .before .before .before .before .before .before .before .before .before .args .t) (c .before .before .before .before .before .before .before .before .before .put .kept .0) (c .before .before .before .before .before .before .before .before .before .put .ensures .0) (c .before .before .before .before .replace-own .ensures)
 
 pub filter-over-spec : {M : Type 1} → statement M
 filter-over-spec =

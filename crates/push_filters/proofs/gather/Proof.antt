@@ -14,7 +14,7 @@ same-length : tie.Need-same-length
 same-length c = c .before .before .put .kept .0 ∙ c .before .before .before .before .before .before .copy .kept .1 .1 .1 .0
 
 returns : tie.Need-returns
-returns c = gathers (c .before .before .before .before .before .before .copy .kept .1 .1 .1 .0) (c .before .before .before .before .before .before .copy .ensures) (c .before .before .put .ensures .0)
+returns c = gathers (c .before .before .before .before .before .before .before .before .before .before .args .origin) (c .before .before .before .before .before .before .copy .kept .1 .1 .1 .0) (c .before .before .before .before .before .before .copy .ensures) (c .before .before .put .ensures .0)
 
 pub gather-spec : {M : Type 1} → statement M
 gather-spec = tie.close (tie.spec copy-requires put-requires same-length returns)

@@ -21,7 +21,7 @@ same-length-2 : tie.Need-same-length-2
 same-length-2 c = search needs
 
 returns : tie.Need-returns
-returns c = pushed-in (c .before .before .before .before .before .before .before .before .before .before .before .before .own-start .ensures) (c .before .before .before .before .before .before .before .before .before .before .before .before .before .before .before .before .args .t) (c .before .before .before .before .before .before .before .before .before .with-predicate .kept .1 .1 .1 .0) (c .before .before .before .before .before .before .before .before .before .with-predicate .ensures) (c .before .before .before .before .replace-own .ensures)
+returns c = pushed-in (c .before .before .before .before .before .before .before .before .before .before .before .before .own-start .ensures) (c .before .before .before .before .before .before .before .before .before .before .before .before .before .before .before .before .args .origin) (c .before .before .before .before .before .before .before .before .before .before .before .before .before .before .before .before .args .t) (c .before .before .before .before .before .before .before .before .before .with-predicate .kept .1 .1 .1 .0) (c .before .before .before .before .before .before .before .before .before .with-predicate .ensures) (c .before .before .before .before .replace-own .ensures)
 
 pub push-into-spec : {M : Type 1} → statement M
 push-into-spec =

@@ -13,8 +13,8 @@ own-start-requires c κs = taker-at (c .before .before .before .pre .0)
 sub-end : tie.Need-sub-end
 sub-end c = let (h, k) = taker-in (c .before .before .before .before .pre .0) in omega arith
 
-add-t16 : tie.Need-add-t16
-add-t16 c = omega (arith, flag-small (c .before .before .before .before .before .before .before .pre .0) (c .before .before .before .before .cell-at .ensures))
+add-t17 : tie.Need-add-t17
+add-t17 c = omega (arith, flag-small (c .before .before .before .before .before .before .before .pre .0) (c .before .before .before .before .cell-at .ensures))
 
 put-requires : tie.Need-put-requires
 put-requires c κs = search needs
@@ -23,7 +23,7 @@ same-length : tie.Need-same-length
 same-length c = search needs
 
 returns : tie.Need-returns
-returns c = pushes-alone (c .before .before .before .before .before .before .before .cell-at .ensures) (c .before .before .before .before .before .before .own-start .ensures) (c .before .before .before .before .before .if1 .taken) (c .before .before .put .ensures .0)
+returns c = pushes-alone (c .before .before .before .before .before .before .before .cell-at .ensures) (c .before .before .before .before .before .before .own-start .ensures) (c .before .before .before .before .before .before .before .before .before .before .args .origin) (c .before .before .before .before .before .if1 .taken) (c .before .before .put .ensures .0)
 
 copy-requires : tie.Need-copy-requires
 copy-requires c κs = copies-own (c .before .before .before .cell-at .ensures) (c .before .before .own-start .ensures) (c .before .before .before .before .before .before .pre .0)
@@ -38,7 +38,7 @@ same-length-2 : tie.Need-same-length-2
 same-length-2 c = search needs
 
 returns-2 : tie.Need-returns-2
-returns-2 c = pushes-both (c .before .before .before .before .before .before .before .before .before .before .before .before .before .before .cell-at .ensures) (c .before .before .before .before .before .before .before .before .before .before .before .before .before .own-start .ensures) (c .before .before .before .before .before .before .before .before .before .before .before .before .if1 .left) (c .before .before .before .before .before .before .before .before .before .before .copy .kept .1 .1 .1 .0) (c .before .before .before .before .before .before .put2 .kept .0) (c .before .before .before .before .before .before .before .before .before .before .copy .ensures) (c .before .before .before .before .before .before .put2 .ensures .0) (c .before .before .put3 .ensures .0)
+returns-2 c = pushes-both (c .before .before .before .before .before .before .before .before .before .before .before .before .before .before .cell-at .ensures) (c .before .before .before .before .before .before .before .before .before .before .before .before .before .own-start .ensures) (c .before .before .before .before .before .before .before .before .before .before .before .before .before .before .before .before .before .args .origin) (c .before .before .before .before .before .before .before .before .before .before .before .before .if1 .left) (c .before .before .before .before .before .before .before .before .before .before .copy .kept .1 .1 .1 .0) (c .before .before .before .before .before .before .put2 .kept .0) (c .before .before .before .before .before .before .before .before .before .before .copy .ensures) (c .before .before .before .before .before .before .put2 .ensures .0) (c .before .before .put3 .ensures .0)
 
 pub with-predicate-spec : {M : Type 1} → statement M
 with-predicate-spec =
@@ -47,7 +47,7 @@ with-predicate-spec =
     cell-at-requires
     own-start-requires
     sub-end
-    add-t16
+    add-t17
     put-requires
     same-length
     returns

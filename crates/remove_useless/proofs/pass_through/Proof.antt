@@ -1,3 +1,4 @@
+use Prim.Native.Nat.{ℕ}
 use Rattle.sql.specs.Plan.{Label}
 use Rattle.sql.specs.Expression.{Expression}
 use Rattle.cells.specs.Cells.{Part}
@@ -11,7 +12,7 @@ use Rattle.remove_useless.proofs.pass_through.Statement.{statement}
 use Rattle.remove_useless.proofs.pass_through.Tie as tie
 
 abbrev Inv-loop : tie.InvT-loop
-Inv-loop s lo hi n end₀ i₀ end i = (items : List (Expression × Label)) → Part s lo hi (all-words item-words items) → n ≡ length items → Unasked s lo end i items
+Inv-loop s lo hi n end₀ i₀ end i = (items : List (Expression × Label × ℕ)) → Part s lo hi (all-words item-words items) → n ≡ length items → Unasked s lo end i items
 
 abbrev μ-loop : tie.MeasureT-loop
 μ-loop s lo hi n end₀ i₀ end i = i

@@ -27,14 +27,17 @@ same-length c = search needs
 returns : tie.Need-returns
 returns c = let (h, k) = at-in (columns-node (c .before .before .before .before .before .before .before .before .pre .0)) in no-room (c .before .columns .ensures) (omega (arith, c .if1 .taken, c .before .before .before .before .before .before .before .before .pre .1 .1 .1 .0)) (omega (arith, c .before .before .before .before .before .before .before .before .pre .1 .1 .1 .1))
 
+origin-at-requires : tie.Need-origin-at-requires
+origin-at-requires c κs = let (h, k) = at-in (columns-node (c .before .before .before .before .before .before .before .before .before .pre .0)) in (omega arith, k)
+
 write-labels-requires : tie.Need-write-labels-requires
-write-labels-requires c κs = (c .before .before .before .before .before .before .before .before .before .before .pre .0, c .before .before .before .before .before .before .before .before .before .before .pre .1 .0)
+write-labels-requires c κs = (c .before .before .before .before .before .before .before .before .before .before .before .before .pre .0, c .before .before .before .before .before .before .before .before .before .before .before .before .pre .1 .0)
 
 copy-requires : tie.Need-copy-requires
-copy-requires c κs = (omega arith, labels-end (c .before .before .before .before .before .before .before .before .columns .ensures) (c .before .before .before .before .write-labels .kept .1 .1 .1 .0) (c .before .before .before .before .write-labels .ensures) (omega (arith, c .before .before .before .before .before .before .before .if1 .left, c .before .before .before .before .before .before .before .before .before .before .before .before .before .before .before .pre .1 .1 .0)) (omega (arith, c .before .before .before .before .before .before .before .before .before .before .before .before .before .before .before .pre .1 .1 .0, c .before .before .before .before .before .before .before .before .before .before .before .before .before .before .before .pre .1 .1 .1 .1)) (c .before .before .before .before .before .before .before .before .before .before .before .before .before .before .before .pre .1 .0) (c .before .before .before .before .before .before .before .before .before .before .before .before .before .before .before .pre .0))
+copy-requires c κs = (omega arith, labels-end (c .before .before .before .before .before .before .before .before .before .before .columns .ensures) (c .before .before .before .before .before .before .before .origin-at .ensures) (c .before .before .before .before .write-labels .kept .1 .1 .1 .0) (c .before .before .before .before .write-labels .ensures) (omega (arith, c .before .before .before .before .before .before .before .before .before .if1 .left, c .before .before .before .before .before .before .before .before .before .before .before .before .before .before .before .before .before .pre .1 .1 .0)) (omega (arith, c .before .before .before .before .before .before .before .before .before .before .before .before .before .before .before .before .before .pre .1 .1 .0, c .before .before .before .before .before .before .before .before .before .before .before .before .before .before .before .before .before .pre .1 .1 .1 .1)) (c .before .before .before .before .before .before .before .before .before .before .before .before .before .before .before .before .before .pre .1 .0) (c .before .before .before .before .before .before .before .before .before .before .before .before .before .before .before .before .before .pre .0))
 
-cast-t29 : tie.Need-cast-t29
-cast-t29 c = search needs
+cast-t32 : tie.Need-cast-t32
+cast-t32 c = search needs
 
 put-requires : tie.Need-put-requires
 put-requires c κs = search needs
@@ -46,7 +49,7 @@ same-length-3 : tie.Need-same-length-3
 same-length-3 c = search needs
 
 returns-2 : tie.Need-returns-2
-returns-2 c = let (h, k) = at-in (columns-node (c .before .before .before .before .before .before .before .before .before .before .before .before .before .before .before .before .before .before .before .before .before .before .pre .0)) in emptied (c .before .before .before .before .before .before .before .before .before .before .before .before .before .before .before .columns .ensures) (c .before .before .before .before .before .before .before .before .before .before .before .write-labels .kept .1 .1 .1 .0) (c .before .before .before .before .before .before .before .before .before .before .before .write-labels .ensures) (omega (arith, c .before .before .before .before .before .before .before .before .before .before .before .before .before .before .if1 .left, c .before .before .before .before .before .before .before .before .before .before .before .before .before .before .before .before .before .before .before .before .before .before .pre .1 .1 .0)) (omega (arith, c .before .before .before .before .before .before .before .before .before .before .before .before .before .before .before .before .before .before .before .before .before .before .pre .1 .1 .0, c .before .before .before .before .before .before .before .before .before .before .before .before .before .before .before .before .before .before .before .before .before .before .pre .1 .1 .1 .1)) (omega (arith, c .before .before .before .before .before .before .before .before .before .before .before .before .before .before .if1 .left, c .before .before .before .before .before .before .before .before .before .before .before .before .before .before .before .before .before .before .before .before .before .before .pre .1 .1 .1 .0)) (c .before .before .before .before .before .before .before .before .before .before .before .before .before .before .before .before .before .before .before .before .before .before .pre .1 .1 .1 .1) (c .before .before .before .before .before .before .copy .kept .1 .1 .1 .0) (c .before .before .before .before .before .before .copy .ensures) (c .before .before .put .ensures .0)
+returns-2 c = let (h, k) = at-in (columns-node (c .before .before .before .before .before .before .before .before .before .before .before .before .before .before .before .before .before .before .before .before .before .before .before .before .pre .0)) in emptied (c .before .before .before .before .before .before .before .before .before .before .before .before .before .before .before .before .before .columns .ensures) (c .before .before .before .before .before .before .before .before .before .before .before .before .before .before .origin-at .ensures) (c .before .before .before .before .before .before .before .before .before .before .before .write-labels .kept .1 .1 .1 .0) (c .before .before .before .before .before .before .before .before .before .before .before .write-labels .ensures) (omega (arith, c .before .before .before .before .before .before .before .before .before .before .before .before .before .before .before .before .if1 .left, c .before .before .before .before .before .before .before .before .before .before .before .before .before .before .before .before .before .before .before .before .before .before .before .before .pre .1 .1 .0)) (omega (arith, c .before .before .before .before .before .before .before .before .before .before .before .before .before .before .before .before .before .before .before .before .before .before .before .before .pre .1 .1 .0, c .before .before .before .before .before .before .before .before .before .before .before .before .before .before .before .before .before .before .before .before .before .before .before .before .pre .1 .1 .1 .1)) (omega (arith, c .before .before .before .before .before .before .before .before .before .before .before .before .before .before .before .before .if1 .left, c .before .before .before .before .before .before .before .before .before .before .before .before .before .before .before .before .before .before .before .before .before .before .before .before .pre .1 .1 .1 .0)) (c .before .before .before .before .before .before .before .before .before .before .before .before .before .before .before .before .before .before .before .before .before .before .before .before .pre .1 .1 .1 .1) (c .before .before .before .before .before .before .copy .kept .1 .1 .1 .0) (c .before .before .before .before .before .before .copy .ensures) (c .before .before .put .ensures .0)
 
 pub into-nothing-spec : {M : Type 1} → statement M
 into-nothing-spec =
@@ -59,9 +62,10 @@ into-nothing-spec =
     add-if1
     same-length
     returns
+    origin-at-requires
     write-labels-requires
     copy-requires
-    cast-t29
+    cast-t32
     put-requires
     same-length-2
     same-length-3

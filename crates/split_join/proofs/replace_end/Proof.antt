@@ -26,7 +26,7 @@ same-length-3 : tie.Need-same-length-3
 same-length-3 c = c .before .before .before .before .before .before .before .before .before .before .before .before .before .before .before .before .joined-predicate .kept .1 .1 .1 .1 .1 .1 .0
 
 returns : tie.Need-returns
-returns c = end-replaced (c .before .before .before .before .before .before .before .before .before .before .before .before .before .before .before .before .before .before .before .before .before .before .before .before .args .n) (c .before .before .before .before .before .before .before .before .before .before .before .before .before .before .before .before .joined-predicate .kept .1 .1 .1 .1 .1 .1 .1 .0) (c .before .before .before .before .before .before .before .before .before .rejoin .kept .1 .1 .1 .0) (c .before .before .before .before .before .before .before .before .before .before .before .before .before .before .before .before .joined-predicate .ensures) (c .before .before .before .before .before .before .before .before .before .rejoin .ensures) (c .before .before .before .before .replace-own .ensures)
+returns c = end-replaced (c .before .before .before .before .before .before .before .before .before .before .before .before .before .before .before .before .before .before .before .before .before .before .before .before .args .origin) (c .before .before .before .before .before .before .before .before .before .before .before .before .before .before .before .before .before .before .before .before .before .before .before .before .args .n) (c .before .before .before .before .before .before .before .before .before .before .before .before .before .before .before .before .joined-predicate .kept .1 .1 .1 .1 .1 .1 .1 .0) (c .before .before .before .before .before .before .before .before .before .rejoin .kept .1 .1 .1 .0) (c .before .before .before .before .before .before .before .before .before .before .before .before .before .before .before .before .joined-predicate .ensures) (c .before .before .before .before .before .before .before .before .before .rejoin .ensures) (c .before .before .before .before .replace-own .ensures)
 
 pub replace-end-spec : {M : Type 1} → statement M
 replace-end-spec =

@@ -1,4 +1,4 @@
-use Rattle.split_join.proofs.Placing.{right-sized, left-columns, join-at, split-whole}
+use Rattle.split_join.proofs.Placing.{split-in, right-sized, left-columns, join-at, split-whole}
 use Rattle.split_join.proofs.split.Statement.{statement}
 use Rattle.split_join.proofs.split.Tie as tie
 
@@ -8,8 +8,14 @@ start-requires c κs = right-sized (c .before .before .before .before .before .b
 columns-requires : tie.Need-columns-requires
 columns-requires c κs = left-columns (c .before .before .before .before .before .before .before .before .pre .1 .0) (c .before .start .ensures) (c .before .before .before .before .before .before .before .before .pre .0)
 
+sub-origin-at : tie.Need-sub-origin-at
+sub-origin-at c = split-in (c .before .before .before .before .before .before .before .before .before .before .pre .0) .0
+
+origin-at-requires : tie.Need-origin-at-requires
+origin-at-requires c κs = split-in (c .before .before .before .before .before .before .before .before .before .before .pre .0) .1
+
 split-both-requires : tie.Need-split-both-requires
-split-both-requires c κs = (join-at (c .before .before .before .before .before .before .before .before .before .before .before .before .pre .1 .0) (c .before .before .before .before .before .start .ensures) (c .before .before .before .before .before .before .before .before .before .before .before .before .pre .0), c .before .before .before .before .before .before .before .before .before .before .before .before .pre .1 .1)
+split-both-requires c κs = (join-at (c .before .before .before .before .before .before .before .before .before .before .before .before .before .before .pre .1 .0) (c .before .before .before .before .before .before .before .start .ensures) (c .before .before .before .before .before .before .before .before .before .before .before .before .before .before .pre .0) (c .before .before .before .origin-at .ensures), c .before .before .before .before .before .before .before .before .before .before .before .before .before .before .pre .1 .1)
 
 same-length : tie.Need-same-length
 same-length c = c .before .before .before .before .before .before .split-both .kept .0
@@ -21,7 +27,7 @@ same-length-3 : tie.Need-same-length-3
 same-length-3 c = c .before .before .before .before .before .before .split-both .kept .1 .1 .1 .1 .0
 
 returns : tie.Need-returns
-returns c = split-whole (c .before .before .before .before .before .before .before .before .before .before .before .before .before .before .before .before .before .before .before .pre .1 .0) (c .before .before .before .before .before .before .before .before .before .before .before .before .start .ensures) (c .before .before .before .before .before .before .before .before .before .before .columns .ensures) (c .before .before .before .before .before .before .split-both .ensures)
+returns c = split-whole (c .before .before .before .before .before .before .before .before .before .before .before .before .before .before .before .before .before .before .before .before .before .pre .1 .0) (c .before .before .before .before .before .before .before .before .before .before .before .before .before .before .start .ensures) (c .before .before .before .before .before .before .before .before .before .before .before .before .columns .ensures) (c .before .before .before .before .before .before .before .before .before .before .origin-at .ensures) (c .before .before .before .before .before .before .split-both .ensures)
 
 pub split-spec : {M : Type 1} → statement M
 split-spec =
@@ -29,6 +35,8 @@ split-spec =
     (tie.spec
     start-requires
     columns-requires
+    sub-origin-at
+    origin-at-requires
     split-both-requires
     same-length
     same-length-2

@@ -41,6 +41,44 @@ pub fn over_table(columns: u32, cells: &[[u8; 16]]) -> Vec<u8> {
     sheet_with(&[], &table, &vec![0; 16 * columns as usize], cells)
 }
 
+/// Where the cells of a sheet stand.
+fn cells_at(sheet: &[u8]) -> std::iter::StepBy<std::ops::Range<usize>> {
+    let end = sheet.len() - 20;
+    let start = u32::from_le_bytes(sheet[end + 8..end + 12].try_into().unwrap()) as usize;
+    (start..end).step_by(16)
+}
+
+/// The sheet in this edition, with an origin for each cell number.
+fn in_edition(sheet: &[u8], edition: u32, origin: impl Fn(usize) -> u16) -> Vec<u8> {
+    let mut out = sheet.to_vec();
+    for (i, at) in cells_at(sheet).enumerate() {
+        out[at + 2..at + 4].copy_from_slice(&origin(i).to_le_bytes());
+    }
+    let at = out.len() - 8;
+    out[at..at + 4].copy_from_slice(&edition.to_le_bytes());
+    out
+}
+
+/// The sheet in edition 2, with an origin for each cell number.
+pub fn up(sheet: &[u8], origin: impl Fn(usize) -> u16) -> Vec<u8> {
+    in_edition(sheet, 2, origin)
+}
+
+/// The sheet in edition 1.
+pub fn down(sheet: &[u8]) -> Vec<u8> {
+    in_edition(sheet, 1, |_| 0)
+}
+
+/// The edition of a sheet.
+pub fn edition(sheet: &[u8]) -> u8 {
+    sheet[sheet.len() - 8]
+}
+
+/// The origins of its cells.
+pub fn origins(sheet: &[u8]) -> Vec<u16> {
+    cells_at(sheet).map(|at| u16::from_le_bytes([sheet[at + 2], sheet[at + 3]])).collect()
+}
+
 /// An output as long as the largest sheet, filled.
 pub fn output() -> Vec<u8> {
     vec![FILLER; LARGEST]

@@ -6,10 +6,10 @@ use mathlib.Core.Path.{_≡_, refl, sym, ap, _∙_, subst}
 use mathlib.Core.List.{List, [], _∷_, _++_}
 use lib.ListN.{length, take, drop}
 use borrow.Author.Needs.{needs}
-use Rattle.labels.proofs.leaf_origin.Statement.{statement}
-use Rattle.labels.proofs.leaf_origin.Tie as tie
-use Rattle.labels.proofs.leaf_origin.Reads as reads
-use Rattle.labels.proofs.leaf_origin.Lts as lts
+use Rattle.labels.proofs.leaf_traced.Statement.{statement}
+use Rattle.labels.proofs.leaf_traced.Tie as tie
+use Rattle.labels.proofs.leaf_traced.Reads as reads
+use Rattle.labels.proofs.leaf_traced.Lts as lts
 use Rattle.cells.proofs.cell_at.Reads as cell-at-reads
 use Rattle.labels.proofs.aliased.Reads as aliased-reads
 use Rattle.labels.proofs.label_in.Reads as label-in-reads
@@ -53,8 +53,8 @@ aliased-requires c κs = search needs
 returns-4 : tie.Need-returns-4
 returns-4 c = table-says (c .before .before .before .before .before .before .cell-at .ensures) (c .before .before .before .before .if1 .left) (c .before .before .if3 .left) (c .before .before .before .before .before .before .before .before .args .i) (c .aliased .result) (c .aliased .ensures)
 
-pub leaf-origin-spec : {M : Type 1} → statement M
-leaf-origin-spec =
+pub leaf-traced-spec : {M : Type 1} → statement M
+leaf-traced-spec =
     tie.close
     (tie.spec
     cell-at-requires
