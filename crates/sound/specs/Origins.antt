@@ -14,6 +14,7 @@ use Rattle.sheet.specs.Cell.{Cell}
 use Rattle.sheet.specs.Content.{Content, marked, unary-cell, binary-cell, item-cell, key-cell, agg-cell, filter-cell, row-cell, nothing-cell, order-cell, projection-cell, remap-cell, values-cell, aggregate-cell, scan-cell, nested-loop-join-cell}
 use Rattle.sheet.specs.Cells.{all-cells, alone, expression-cells, optional-cells, present, constant-cells, label-cells, target-cells, item-cells, key-cells, agg-cells, row-cells, lookup-content, leaf-cells, other-cells, over-cells, join-cells, cells}
 use Rattle.sheet_laws.specs.Fits.{All, Origins-below}
+use Rattle.sheet_laws.specs.Counts.{all-map}
 use Rattle.origins.specs.Origins.{map-origins, map-mark, map-row, map-part, map-aggregate, map-leaf, map-other, map-over, map-join, map-node-origins}
 use Rattle.origins.specs.Lists.{map-append}
 
@@ -216,10 +217,6 @@ module _ (h : ℕ → ℕ) where
 
 -- ---- origins below a bound
 
-all-weaker : {A : Type 0} (P Q : A → Type 0) → ((x : A) → P x → Q x) → (xs : List A) → All P xs → All Q xs
-all-weaker P Q f [] h = tt
-all-weaker P Q f (x ∷ xs) h = (f x (h .0), all-weaker P Q f xs (h .1))
-
 all-remarked : (h : ℕ → ℕ) (bound : ℕ) → ((og : ℕ) → h og < bound) → (cs : List Cell) → All (λ c. c .origin < bound) (map (remarked h) cs)
 all-remarked h bound b [] = tt
 all-remarked h bound b (c ∷ cs) = (b (c .origin), all-remarked h bound b cs)
@@ -228,7 +225,7 @@ all-remarked h bound b (c ∷ cs) = (b (c .origin), all-remarked h bound b cs)
 module _ (bound : ℕ) (some : 0 < bound) where
   pub below-left : (n : Node) → Origins-below bound n → map-node-origins (λ og. og % bound) n ≡ n
   below-left n b =
-      node-left (λ og. og % bound) n (all-weaker (λ c. c .origin < bound) (λ c. c .origin % bound ≡ c .origin) (λ c k. mod-eq-of-lt k) (cells n) b)
+      node-left (λ og. og % bound) n (all-map (λ c. c .origin < bound) (λ c. c .origin % bound ≡ c .origin) (λ c k. mod-eq-of-lt k) (cells n) b)
 
   pub left-below : (n : Node) → map-node-origins (λ og. og % bound) n ≡ n → Origins-below bound n
   left-below n e =
