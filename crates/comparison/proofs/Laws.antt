@@ -1,5 +1,5 @@
 -- Laws of comparisons that the proofs of the functions share.
-use Prim.Native.Nat.{ℕ, _-_}
+use Prim.Native.Nat.{ℕ}
 use mathlib.Core.Path.{_≡_, refl}
 use mathlib.Core.Bool.{Bool, true, false}
 use mathlib.Core.List.{List}
@@ -7,10 +7,8 @@ use lib.Dec.{T}
 use mir.Val.{hasKey}
 use types.Run.{OneOf}
 use denote.Enum.Declared.{tagOf}
-use Rattle.value.specs.Value as Defined
-use Rattle.value.specs.Value.{ofBool, truth, datum, null, boolean, ok, err, mismatch}
-use Rattle.value.specs.Comparison as Defined-comparison
-use Rattle.value.specs.Comparison.{answer, against-datum, compare-booleans, compared}
+use Rattle.value.specs.Value.{Datum, datum, null, boolean}
+use Rattle.value.specs.Comparison.{Null, Found, NotComparable, compare}
 use Rattle.comparison.proofs.Finding.{the-type}
 use Rattle.comparison.specs.declared.Finding.{Finding}
 use Rattle.comparison.specs.declared.Finding.the-variants as Finding
@@ -30,20 +28,15 @@ at-finding-places places P l e g u n Finding.Greater h = g (key places 2 h)
 at-finding-places places P l e g u n Finding.Unordered h = u (key places 3 h)
 at-finding-places places P l e g u n Finding.NotComparable h = n (key places 4 h)
 
-pub null-first : (test : Defined-comparison.Finding → Bool) (w : Defined.Value) → ok null ≡ compared test null w
-null-first test (truth t) = refl
-null-first test (datum g) = refl
+pub null-boolean : (a : Bool) → Null ≡ compare (boolean a) null
+null-boolean false = refl
+null-boolean true = refl
 
-pub null-second : (test : Defined-comparison.Finding → Bool) (a : Bool) → ok null ≡ compared test (boolean a) null
-null-second test false = refl
-null-second test true = refl
+-- a Boolean with what is neither Null nor a Boolean
+pub boolean-datum : (a : Bool) (g : Datum) → Found NotComparable ≡ compare (boolean a) (datum g)
+boolean-datum false g = refl
+boolean-datum true g = refl
 
-pub booleans : (test : Defined-comparison.Finding → Bool) (a b : Bool) → answer test (compare-booleans a b) ≡ compared test (boolean a) (boolean b)
-booleans test false false = refl
-booleans test false true = refl
-booleans test true false = refl
-booleans test true true = refl
-
-pub against-boolean : (b : Bool) → err mismatch ≡ against-datum (ofBool b)
-against-boolean false = refl
-against-boolean true = refl
+pub datum-boolean : (f : Datum) (b : Bool) → Found NotComparable ≡ compare (datum f) (boolean b)
+datum-boolean f false = refl
+datum-boolean f true = refl

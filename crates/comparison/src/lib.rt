@@ -1,18 +1,17 @@
-// Comparisons: Equal, GreaterThan and LessThan.
+// One comparison of two values, and Equal, GreaterThan and LessThan, which take their answer from it.
 use value::Error;
 use value::Result;
 use value::Value;
 ghost use Prim.Native.Nat.{ℕ};
 ghost use mathlib.Core.Path.{_≡_};
 ghost use mathlib.Core.List.{List};
-ghost use mathlib.Core.Bool.{Bool};
 ghost use lib.Ieee as Ieee;
 ghost use lib.Ieee.{binary64};
 ghost use Rattle.value.specs.Meaning.{meaning, result, bytes-at};
-ghost use Rattle.comparison.specs.Findings.{finding, found, answered, Compares};
+ghost use Rattle.comparison.specs.Findings.{finding, comparison};
 ghost use Rattle.value.specs.Value.{boolean, datum, integer, float, string};
 ghost use Rattle.value.specs.Comparison as Defined;
-ghost use Rattle.value.specs.Comparison.{compare-booleans, compare-integers, compare-floats, compare-bytes, is-less, is-equal, is-greater, equal, greater-than, less-than};
+ghost use Rattle.value.specs.Comparison.{Found, compare-integers, compare-floats, compare-bytes, compare, is-less, is-equal, is-greater, equal, greater-than, less-than};
 
 // What comparing two values finds.
 pub enum Finding {
@@ -25,6 +24,7 @@ pub enum Finding {
     NotComparable,
 }
 
+// Null is apart from the findings, and comes before kinds.
 pub enum Comparison {
     // one of the values is Null
     Null,
@@ -53,7 +53,7 @@ pub fn less_than(text: &[u8], lhs: Value, rhs: Value) -> Result
 }
 
 fn is_less(c: Comparison) -> bool
-    ensures { λ r. ⌜ r ≡ found is-less c ⌝ }
+    ensures { λ r. ⌜ r ≡ is-less (comparison c) ⌝ }
 {
     match c {
         Comparison::Found(f) => match f {
@@ -65,7 +65,7 @@ fn is_less(c: Comparison) -> bool
 }
 
 fn is_equal(c: Comparison) -> bool
-    ensures { λ r. ⌜ r ≡ found is-equal c ⌝ }
+    ensures { λ r. ⌜ r ≡ is-equal (comparison c) ⌝ }
 {
     match c {
         Comparison::Found(f) => match f {
@@ -77,7 +77,7 @@ fn is_equal(c: Comparison) -> bool
 }
 
 fn is_greater(c: Comparison) -> bool
-    ensures { λ r. ⌜ r ≡ found is-greater c ⌝ }
+    ensures { λ r. ⌜ r ≡ is-greater (comparison c) ⌝ }
 {
     match c {
         Comparison::Found(f) => match f {
@@ -90,7 +90,7 @@ fn is_greater(c: Comparison) -> bool
 
 // Null gives Null, and kinds that don't fit are an error; else the answer is `holds`.
 fn answer(c: Comparison, holds: bool) -> Result
-    ensures { λ r. ⌜ ((text : List ℕ) (test : Defined.Finding → Bool) → holds ≡ found test c → result text r ≡ answered test c) ⌝ }
+    ensures { λ r. ⌜ ((text : List ℕ) → result text r ≡ Defined.answer (comparison c) holds) ⌝ }
 {
     match c {
         Comparison::Null => Result::Ok(Value::Null),
@@ -101,9 +101,9 @@ fn answer(c: Comparison, holds: bool) -> Result
     }
 }
 
-// Compares two values: Null apart from all others, Booleans, numbers, and strings by their bytes in `text`.
+// Compares two values, strings by their bytes in `text`.
 pub fn compare(text: &[u8], lhs: Value, rhs: Value) -> Comparison
-    ensures { λ r. ⌜ Compares (meaning (now (text .entry)) lhs) (meaning (now (text .entry)) rhs) r ⌝ }
+    ensures { λ r. ⌜ comparison r ≡ compare (meaning (now (text .entry)) lhs) (meaning (now (text .entry)) rhs) ⌝ }
 {
     match lhs {
         Value::Null => Comparison::Null,
@@ -115,7 +115,7 @@ pub fn compare(text: &[u8], lhs: Value, rhs: Value) -> Comparison
 }
 
 fn compare_boolean(a: bool, rhs: Value) -> Comparison
-    ensures { λ r. ⌜ ((text : List ℕ) → Compares (boolean a) (meaning text rhs) r) ⌝ }
+    ensures { λ r. ⌜ ((text : List ℕ) → comparison r ≡ compare (boolean a) (meaning text rhs)) ⌝ }
 {
     match rhs {
         Value::Null => Comparison::Null,
@@ -125,7 +125,7 @@ fn compare_boolean(a: bool, rhs: Value) -> Comparison
 }
 
 fn compare_integer(a: i64, rhs: Value) -> Comparison
-    ensures { λ r. ⌜ ((text : List ℕ) → Compares (datum (integer a)) (meaning text rhs) r) ⌝ }
+    ensures { λ r. ⌜ ((text : List ℕ) → comparison r ≡ compare (datum (integer a)) (meaning text rhs)) ⌝ }
 {
     match rhs {
         Value::Null => Comparison::Null,
@@ -137,7 +137,7 @@ fn compare_integer(a: i64, rhs: Value) -> Comparison
 }
 
 fn compare_float(x: f64, rhs: Value) -> Comparison
-    ensures { λ r. ⌜ ((text : List ℕ) → Compares (datum (float (Ieee.toBits binary64 x))) (meaning text rhs) r) ⌝ }
+    ensures { λ r. ⌜ ((text : List ℕ) → comparison r ≡ compare (datum (float (Ieee.toBits binary64 x))) (meaning text rhs)) ⌝ }
 {
     match rhs {
         Value::Null => Comparison::Null,
@@ -149,7 +149,7 @@ fn compare_float(x: f64, rhs: Value) -> Comparison
 }
 
 fn compare_string(text: &[u8], a: u32, rhs: Value) -> Comparison
-    ensures { λ r. ⌜ Compares (datum (string a (bytes-at (now (text .entry)) a))) (meaning (now (text .entry)) rhs) r ⌝ }
+    ensures { λ r. ⌜ comparison r ≡ compare (datum (string a (bytes-at (now (text .entry)) a))) (meaning (now (text .entry)) rhs) ⌝ }
 {
     match rhs {
         Value::Null => Comparison::Null,
@@ -162,7 +162,7 @@ fn compare_string(text: &[u8], a: u32, rhs: Value) -> Comparison
 
 // false is less than true
 fn compare_booleans(a: bool, b: bool) -> Finding
-    ensures { λ r. ⌜ finding r ≡ compare-booleans a b ⌝ }
+    ensures { λ r. ⌜ Found (finding r) ≡ compare (boolean a) (boolean b) ⌝ }
 {
     if a == b {
         return Finding::Equal;

@@ -11,7 +11,7 @@ use Rattle.sql.specs.Expression.{Binary, logical, Equal, function, Expression, 
 use Rattle.sql.specs.Plan.{Leaf, scan, lookup, nothing, values, limit, offset, order, projection, remap, aggregate, Over, filter, other, Join, nested-loop, hash, Node, leaf, over, join, columns}
 use Rattle.sql.specs.Optimizer.{flat-map}
 use Rattle.rows.specs.Database.{Database}
-use Rattle.rows.specs.Reading.{is-true-result, joined-rows, expressions, read}
+use Rattle.rows.specs.Reading.{is-true, joined-rows, expressions, read}
 
 -- the two values that are compared
 abbrev pub Compared : Type 0
@@ -82,6 +82,11 @@ kind-number (truth True) = 1
 kind-number (datum (integer i)) = 2
 kind-number (datum (float bits)) = 3
 kind-number (datum (string reference text)) = 4
+
+abbrev pub is-true-result : Result Value → Bool
+is-true-result (ok (truth t)) = is-true t
+is-true-result (ok (datum d)) = false
+is-true-result (err e) = false
 
 -- If the equality comes out true, it compares values of one kind.
 abbrev pub of-one-kind : Compared → Bool

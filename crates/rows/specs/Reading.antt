@@ -5,7 +5,7 @@ use mathlib.Core.List.{List, [], _∷_, _++_, map}
 use mathlib.Core.Option.{Option, none, some}
 use lib.ListN.{length, getD, take, drop, replicate}
 use Rattle.value.specs.Value.{Truth, False, Unknown, True, Datum, Value, truth, datum, null, Result, ok, err, mismatch}
-use Rattle.value.specs.Comparison.{equal}
+use Rattle.value.specs.Comparison.{compare, is-equal}
 use Rattle.value.specs.Undefined.{is-unknown, is-nan-datum}
 use Rattle.sql.specs.Schema.{Schema, table-of}
 use Rattle.sql.specs.Expression.{Marked, Expression, column, binary, Equal, Row, bind, evaluate}
@@ -65,7 +65,8 @@ abbrev pub read-join : (outer : Bool) → (Row → Result Bool) → ℕ → List
 read-join false f n left right = keep-each f (joined-rows left right)
 read-join true f n left right = outer-rows f n left right
 
--- ---- A lookup takes a row if a listed constant is Null and so is the row's value, both are NaN, or Equal is true. It never fails.
+-- ---- A lookup takes a row if a listed constant is Null and so is the row's value, both are NaN, or the two are found equal, which is where Equal is true
+-- (Lookups.antt). It never fails.
 
 abbrev pub is-null-value : Value → Bool
 is-null-value (truth t) = is-unknown t
@@ -75,13 +76,8 @@ abbrev pub is-nan-value : Value → Bool
 is-nan-value (truth t) = false
 is-nan-value (datum d) = is-nan-datum d
 
-abbrev pub is-true-result : Result Value → Bool
-is-true-result (ok (truth t)) = is-true t
-is-true-result (ok (datum d)) = false
-is-true-result (err e) = false
-
 abbrev pub takes : Value → Value → Bool
-takes constant v = (is-null-value constant && is-null-value v) || ((is-nan-value constant && is-nan-value v) || is-true-result (equal constant v))
+takes constant v = (is-null-value constant && is-null-value v) || ((is-nan-value constant && is-nan-value v) || is-equal (compare constant v))
 
 abbrev pub any : {A : Type 0} → (A → Bool) → List A → Bool
 any f [] = false

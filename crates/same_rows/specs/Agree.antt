@@ -7,20 +7,20 @@ use mathlib.Core.List.{List, [], _∷_, _++_, map}
 use mathlib.Core.Option.{Option, none, some}
 use native.Mathlib.Omega.{arith}
 use lib.ListN.{getD}
-use Rattle.value.specs.Value.{Truth, False, Unknown, True, Datum, integer, float, string, Value, truth, datum, null, Result, ok, err, Error}
+use Rattle.value.specs.Value.{False, Unknown, True, Datum, integer, float, string, Value, truth, datum, null, Result, ok, err, Error}
 use Rattle.value.specs.Logic as Logic
 use Rattle.value.specs.Logic.{logical-not}
-use Rattle.value.specs.Comparison.{Finding, Less, Greater, Unordered, NotComparable, compare, is-equal, answer, against-datum, equal}
+use Rattle.value.specs.Comparison.{Comparison, Null, Found, Less, Greater, Unordered, NotComparable, compare, is-equal, answer, equal}
 use Rattle.value.specs.Comparison
 use Rattle.sql.specs.Expression.{Logical, And, Or, Function1, Function2, Unary, Not, function, Binary, logical, Equal, Expression, constant, column, unary, binary, Row, bind, evaluate-unary, evaluate-binary, evaluate, is-column}
 use Rattle.sql.specs.Plan.{Leaf, scan, lookup, nothing, values, limit, offset, order, projection, remap, aggregate, Over, filter, other, Join, nested-loop, hash, Node, leaf, over, join, columns, values-columns}
 use Rattle.sql.specs.Optimizer.{cons-if, keep, flat-map}
 use Rattle.rows.specs.Database.{Database}
-use Rattle.rows.specs.Reading.{each, keep-each, is-true, is-true-result, kept, holds, optional-holds, join-holds, joined-rows, evaluate-all, fit, values-row, pick-all, expressions, directions, read-leaf, read-over, read}
-use Rattle.rows.specs.Equalities.{Compared, of-columns, of-binary, of-expression, of-optional, of-join, of-list, of-over, in-rows, of-leaf, equalities, of-one-kind, all}
+use Rattle.rows.specs.Reading.{each, keep-each, is-true, kept, holds, optional-holds, join-holds, joined-rows, evaluate-all, fit, values-row, pick-all, expressions, directions, read-leaf, read-over, read}
+use Rattle.rows.specs.Equalities.{Compared, is-true-result, of-columns, of-binary, of-expression, of-optional, of-join, of-list, of-over, in-rows, of-leaf, equalities, of-one-kind, all}
 use Rattle.rows.specs.Premises.{no-outer}
 use Rattle.same_rows.specs.Booleans.{false≢true, and-left, and-right}
-use Rattle.same_rows.specs.Total.{at, Total, known, figure, Shape, even-nots, odd-nots, no-column, valued, total-of, from-value, or-null, plain, turn, as-truth, mixed, found, equal-totals, is-even, total-unary, total-binary, total, true-at, optional-true-at, to-value, value-at}
+use Rattle.same_rows.specs.Total.{at, Total, known, figure, Shape, even-nots, odd-nots, no-column, valued, total-of, from-value, or-null, plain, turn, as-truth, mixed, truth-of, equal-totals, is-even, total-unary, total-binary, total, true-at, optional-true-at, to-value, value-at}
 use Rattle.same_rows.specs.Normal.{all-append}
 use Rattle.same_rows.specs.TotalRows.{join-true, values-at, total-leaf, total-over, total-table, total-columns}
 
@@ -89,36 +89,33 @@ function2-agrees f s r a b v h =
     ap (λ z. valued no-column (or-null (bind z (λ x. bind (plain (from-value b)) (evaluate-binary (function f) x))))) (plain-from a)
     ∙ (ap (λ z. valued no-column (or-null (bind z (evaluate-binary (function f) a)))) (plain-from b) ∙ ap (λ z. valued no-column (or-null z)) h)
 
-against-agrees : (a : Truth) (v : Value) → against-datum a ≡ ok v → known Unknown ≡ from-value v
-against-agrees False v h = no-value h
-against-agrees Unknown v h = ap from-value (ok-same h)
-against-agrees True v h = no-value h
-
-answer-agrees : (f : Finding) (v : Value) → answer is-equal f ≡ ok v → known (found false f) ≡ from-value v
-answer-agrees Less v h = ap from-value (ok-same h)
-answer-agrees Comparison.Equal v h = ap from-value (ok-same h)
-answer-agrees Greater v h = ap from-value (ok-same h)
-answer-agrees Unordered v h = ap from-value (ok-same h)
-answer-agrees NotComparable v h = no-value h
+answer-agrees : (c : Comparison) (v : Value) → answer c (is-equal c) ≡ ok v → known (truth-of false c) ≡ from-value v
+answer-agrees Null v h = ap from-value (ok-same h)
+answer-agrees (Found Less) v h = ap from-value (ok-same h)
+answer-agrees (Found Comparison.Equal) v h = ap from-value (ok-same h)
+answer-agrees (Found Greater) v h = ap from-value (ok-same h)
+answer-agrees (Found Unordered) v h = ap from-value (ok-same h)
+answer-agrees (Found NotComparable) v h = no-value h
 
 -- two kinds that are not found equal
-mixed-agrees : (f : Finding) (v : Value) → (not (is-true-result (answer is-equal f)) || false) ≡ true → answer is-equal f ≡ ok v → known (found true f) ≡ from-value v
-mixed-agrees Less v k h = ap from-value (ok-same h)
-mixed-agrees Comparison.Equal v k h = false≢true k
-mixed-agrees Greater v k h = ap from-value (ok-same h)
-mixed-agrees Unordered v k h = ap from-value (ok-same h)
-mixed-agrees NotComparable v k h = no-value h
+mixed-agrees : (c : Comparison) (v : Value) → (not (is-true-result (answer c (is-equal c))) || false) ≡ true → answer c (is-equal c) ≡ ok v → known (truth-of true c) ≡ from-value v
+mixed-agrees Null v k h = ap from-value (ok-same h)
+mixed-agrees (Found Less) v k h = ap from-value (ok-same h)
+mixed-agrees (Found Comparison.Equal) v k h = false≢true k
+mixed-agrees (Found Greater) v k h = ap from-value (ok-same h)
+mixed-agrees (Found Unordered) v k h = ap from-value (ok-same h)
+mixed-agrees (Found NotComparable) v k h = no-value h
 
-columns-agree : (f g : Datum) (v : Value) → of-one-kind (datum f, datum g) ≡ true → answer is-equal (compare f g) ≡ ok v → known (found (mixed f g) (compare f g)) ≡ from-value v
-columns-agree (integer a) (integer b) v k h = answer-agrees (compare (integer a) (integer b)) v h
-columns-agree (integer a) (float b) v k h = mixed-agrees (compare (integer a) (float b)) v k h
+columns-agree : (f g : Datum) (v : Value) → of-one-kind (datum f, datum g) ≡ true → equal (datum f) (datum g) ≡ ok v → known (truth-of (mixed f g) (compare (datum f) (datum g))) ≡ from-value v
+columns-agree (integer a) (integer b) v k h = answer-agrees (compare (datum (integer a)) (datum (integer b))) v h
+columns-agree (integer a) (float b) v k h = mixed-agrees (compare (datum (integer a)) (datum (float b))) v k h
 columns-agree (integer a) (string r t) v k h = no-value h
-columns-agree (float a) (integer b) v k h = mixed-agrees (compare (float a) (integer b)) v k h
-columns-agree (float a) (float b) v k h = answer-agrees (compare (float a) (float b)) v h
+columns-agree (float a) (integer b) v k h = mixed-agrees (compare (datum (float a)) (datum (integer b))) v k h
+columns-agree (float a) (float b) v k h = answer-agrees (compare (datum (float a)) (datum (float b))) v h
 columns-agree (float a) (string r t) v k h = no-value h
 columns-agree (string r t) (integer b) v k h = no-value h
 columns-agree (string r t) (float b) v k h = no-value h
-columns-agree (string r t) (string q u) v k h = answer-agrees (compare (string r t) (string q u)) v h
+columns-agree (string r t) (string q u) v k h = answer-agrees (compare (datum (string r t)) (datum (string q u))) v h
 
 -- a datum under an even number of Nots stands under none
 abbrev is-some : {A : Type 0} → Option A → Bool
@@ -137,24 +134,28 @@ even-column row (unary og (function f) x) d h = refl
 even-column row (binary og o l r) d h = refl
 
 data-agree : (row : Row) (l r : Expression) (f g : Datum) (v : Value) → evaluate row l ≡ ok (datum f) → evaluate row r ≡ ok (datum g)
-    → OneKind (of-columns row (is-column l) (is-column r)) → answer is-equal (compare f g) ≡ ok v
-    → known (found ((is-some (is-column l) && is-some (is-column r)) && mixed f g) (compare f g)) ≡ from-value v
-data-agree row (constant og u) r f g v i j k h = answer-agrees (compare f g) v h
-data-agree row (column og c) (constant og′ u) f g v i j k h = answer-agrees (compare f g) v h
+    → OneKind (of-columns row (is-column l) (is-column r)) → equal (datum f) (datum g) ≡ ok v
+    → known (truth-of ((is-some (is-column l) && is-some (is-column r)) && mixed f g) (compare (datum f) (datum g))) ≡ from-value v
+data-agree row (constant og u) r f g v i j k h = answer-agrees (compare (datum f) (datum g)) v h
+data-agree row (column og c) (constant og′ u) f g v i j k h = answer-agrees (compare (datum f) (datum g)) v h
 data-agree row (column og c) (column og′ d) f g v i j k h =
     columns-agree f g v (rw (ok-same i, ok-same j) at (and-left (of-one-kind (getD row c null, getD row d null)) true k)) h
-data-agree row (column og c) (unary og′ o x) f g v i j k h = answer-agrees (compare f g) v h
-data-agree row (column og c) (binary og′ o x y) f g v i j k h = answer-agrees (compare f g) v h
-data-agree row (unary og o x) r f g v i j k h = answer-agrees (compare f g) v h
-data-agree row (binary og o x y) r f g v i j k h = answer-agrees (compare f g) v h
+data-agree row (column og c) (unary og′ o x) f g v i j k h = answer-agrees (compare (datum f) (datum g)) v h
+data-agree row (column og c) (binary og′ o x y) f g v i j k h = answer-agrees (compare (datum f) (datum g)) v h
+data-agree row (unary og o x) r f g v i j k h = answer-agrees (compare (datum f) (datum g)) v h
+data-agree row (binary og o x y) r f g v i j k h = answer-agrees (compare (datum f) (datum g)) v h
 
 equal-agrees : (row : Row) (l r : Expression) (a b v : Value) → evaluate row l ≡ ok a → evaluate row r ≡ ok b → OneKind (of-columns row (is-column l) (is-column r)) → equal a b ≡ ok v
     → known (equal-totals (is-even (shape l) && is-even (shape r)) (from-value a) (from-value b)) ≡ from-value v
-equal-agrees row l r (truth a) (truth b) v i j k h = ap from-value (ok-same h)
-equal-agrees row l r (truth a) (datum g) v i j k h = against-agrees a v h
-equal-agrees row l r (datum f) (truth b) v i j k h = against-agrees b v h
+equal-agrees row l r (truth a) (truth b) v i j k h = answer-agrees (compare (truth a) (truth b)) v h
+equal-agrees row l r (truth False) (datum g) v i j k h = no-value h
+equal-agrees row l r (truth Unknown) (datum g) v i j k h = ap from-value (ok-same h)
+equal-agrees row l r (truth True) (datum g) v i j k h = no-value h
+equal-agrees row l r (datum f) (truth False) v i j k h = no-value h
+equal-agrees row l r (datum f) (truth Unknown) v i j k h = ap from-value (ok-same h)
+equal-agrees row l r (datum f) (truth True) v i j k h = no-value h
 equal-agrees row l r (datum f) (datum g) v i j k h =
-    ap₂ (λ x y. known (found ((x && y) && mixed f g) (compare f g))) (even-column row l f i) (even-column row r g j) ∙ data-agree row l r f g v i j k h
+    ap₂ (λ x y. known (truth-of ((x && y) && mixed f g) (compare (datum f) (datum g)))) (even-column row l f i) (even-column row r g j) ∙ data-agree row l r f g v i j k h
 
 module _ (row : Row) where
   binary-agrees : (o : Binary) (l r : Expression) (a b v : Value) → evaluate row l ≡ ok a → evaluate row r ≡ ok b → OneKind (of-binary row o l r) → evaluate-binary o a b ≡ ok v

@@ -44,9 +44,6 @@ eqb-eq m n h = eqb→eq m n (subst T (sym h) tt)
 pub eqb-self : (n : ℕ) → eqb n n ≡ true
 eqb-self n = T-true (eqb n n) (eqb-refl n)
 
-pub eqb-sym : (m n : ℕ) → eqb m n ≡ eqb n m
-eqb-sym m n = iff (eqb m n) (eqb n m) (λ h. rw (eqb-eq m n h) (eqb-self n)) (λ h. rw (eqb-eq n m h) (eqb-self m))
-
 pub lt-is : (m n : ℕ) → ltb m n ≡ true → m < n
 lt-is m n h = ltb→lt m n (subst T (sym h) tt)
 

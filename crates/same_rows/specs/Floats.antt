@@ -1,4 +1,4 @@
--- IEEE equality is symmetric, and doubles that are equal compare alike with every third.
+-- Doubles that are equal compare alike with every third.
 use Prim.Native.Nat.{ℕ, zero, suc, _+_, _*_, _<_, _≤_}
 use mathlib.Core.Bool.{Bool, true, false, not, _&&_, _||_, Bool·beq, or-true}
 use mathlib.Core.Path.{_≡_, refl, sym, ap, ap₂, _∙_}
@@ -7,32 +7,7 @@ use lib.Ieee.Fits.{down-pos}
 use lib.Dec.{eqb}
 use lib.Ieee
 use lib.Ieee.{Float, nan, inf, fin, up, down, level, isNan}
-use Rattle.same_rows.specs.Booleans.{false≢true, and-left, and-right, iff, eqb-eq, eqb-self, eqb-sym}
-
-beq-sym : (s t : Bool) → Bool·beq s t ≡ Bool·beq t s
-beq-sym true true = refl
-beq-sym true false = refl
-beq-sym false true = refl
-beq-sym false false = refl
-
-level-sym : (s : Bool) (a : ℕ) (t : Bool) (b : ℕ) → level s a t b ≡ level t b s a
-level-sym s a t b = go (eqb a b) refl
-  where
-    go : (x : Bool) → eqb a b ≡ x → level s a t b ≡ level t b s a
-    go true h = rw (eqb-eq a b h) (ap (λ z. eqb b b && (z || eqb b 0)) (beq-sym s t))
-    go false h = rw (h, sym (eqb-sym a b) ∙ h)
-
-pub eq-sym : (x y : Float) → Ieee.eq x y ≡ Ieee.eq y x
-unfolding Ieee.eq
-eq-sym nan nan = refl
-eq-sym nan (inf t) = refl
-eq-sym nan (fin t n d) = refl
-eq-sym (inf s) nan = refl
-eq-sym (inf s) (inf t) = beq-sym s t
-eq-sym (inf s) (fin t n d) = refl
-eq-sym (fin s m e) nan = refl
-eq-sym (fin s m e) (inf t) = refl
-eq-sym (fin s m e) (fin t n d) = level-sym s (m * up e * down d) t (n * up d * down e)
+use Rattle.same_rows.specs.Booleans.{false≢true, and-left, and-right, iff, eqb-eq, eqb-self}
 
 -- X / a ≡ Y / b and X / a ≡ Z / g give Y / b ≡ Z / g
 cross : (X Y Z a b g : ℕ) → 0 < a → X * b ≡ Y * a → X * g ≡ Z * a → Y * g ≡ Z * b
@@ -83,9 +58,6 @@ eq-left (fin s m e) (inf t) z h = false≢true h
 eq-left (fin s m e) (fin t n d) nan h = refl
 eq-left (fin s m e) (fin t n d) (inf q) h = refl
 eq-left (fin s m e) (fin t n d) (fin q k c) h = level-left s t q (m * up e) (n * up d) (k * up c) (down e) (down d) (down c) (down-pos e) (down-pos d) h
-
-pub eq-right : (x y z : Float) → Ieee.eq x y ≡ true → Ieee.eq z x ≡ Ieee.eq z y
-eq-right x y z h = eq-sym z x ∙ (eq-left x y z h ∙ eq-sym y z)
 
 pub eq-nan : (x y : Float) → Ieee.eq x y ≡ true → isNan x ≡ isNan y
 unfolding Ieee.eq isNan

@@ -8,17 +8,17 @@ use native.Mathlib.Omega.{arith}
 use lib.Dec.{eqb}
 use lib.Ieee
 use lib.Ieee.{Float, isNan}
-use Rattle.value.specs.Value.{Truth, False, Unknown, True, Datum, integer, float, string, Value, truth, datum, null, Result, ok, err, ofBool, boolean, the-nan}
-use Rattle.value.specs.Comparison.{Finding, Less, Greater, Unordered, NotComparable, rounded, number-of, compare-floats, compare, compared-truths, is-equal, answer, against-datum, equal}
+use Rattle.value.specs.Value.{Truth, False, Unknown, True, Datum, integer, float, string, Value, truth, datum, null, ok, ofBool, the-nan}
+use Rattle.value.specs.Comparison.{Comparison, Null, Found, Less, Greater, Unordered, NotComparable, rounded, number-of, compare-floats, compare, is-equal}
 use Rattle.value.specs.Comparison
 use Rattle.value.specs.Undefined.{is-undefined}
 use Rattle.sql.specs.Expression.{origin, Logical, And, Or, Function1, IsNull, IsNaN, Identity, Negate, Unary, Not, function, Binary, logical, Equal, Expression, constant, column, unary, binary, or, contains-column, is-column, is-equal-lookup, is-function-lookup, same-column, is-column-lookup, equal-values, into-column-values}
-use Rattle.rows.specs.Reading.{is-true, is-nan-value, is-true-result, takes, any}
+use Rattle.rows.specs.Reading.{is-true, is-nan-value, takes, any}
 use Rattle.same_rows.specs.Booleans.{false≢true, eqb-eq, eqb-self}
 use Rattle.same_rows.specs.Floats.{nan-unequal}
-use Rattle.same_rows.specs.Total.{Columns, Total, known, figure, no-column, valued, from-value, or-null, plain, found, equal-totals, total-binary, total, true-at}
+use Rattle.same_rows.specs.Total.{Columns, Total, known, figure, no-column, valued, from-value, or-null, plain, truth-of, equal-totals, total-binary, total, true-at}
 use Rattle.same_rows.specs.Normal.{true-or}
-use Rattle.same_rows.specs.Comparing.{found-floats, equal-sym, Alike}
+use Rattle.same_rows.specs.Comparing.{truth-floats, equal-sym, Alike}
 
 -- ---- what a lookup of column c is
 
@@ -94,24 +94,25 @@ lookup-alike these those (either l r) a = ap₂ (total-binary (logical Or)) (loo
 
 -- ---- a lookup is the Or of its equalities
 
-answer-true : (f : Finding) → is-true-result (answer is-equal f) ≡ is-true (found false f)
-answer-true Less = refl
-answer-true Comparison.Equal = refl
-answer-true Greater = refl
-answer-true Unordered = refl
-answer-true NotComparable = refl
+equal-true : (c : Comparison) → is-equal c ≡ is-true (truth-of false c)
+equal-true Null = refl
+equal-true (Found Less) = refl
+equal-true (Found Comparison.Equal) = refl
+equal-true (Found Greater) = refl
+equal-true (Found Unordered) = refl
+equal-true (Found NotComparable) = refl
 
-against-false : (b : Truth) → is-true-result (against-datum b) ≡ false
-against-false False = refl
-against-false Unknown = refl
-against-false True = refl
+truth-unequal : (f : Datum) (b : Truth) → is-equal (compare (datum f) (truth b)) ≡ false
+truth-unequal f False = refl
+truth-unequal f Unknown = refl
+truth-unequal f True = refl
 
-equal-datum : (f : Datum) (x : Value) → is-true-result (equal (datum f) x) ≡ is-true (equal-totals false (figure false f) (from-value x))
-equal-datum f (truth b) = against-false b
-equal-datum f (datum g) = answer-true (compare f g)
+equal-datum : (f : Datum) (x : Value) → is-equal (compare (datum f) x) ≡ is-true (equal-totals false (figure false f) (from-value x))
+equal-datum f (truth b) = truth-unequal f b
+equal-datum f (datum g) = equal-true (compare (datum f) (datum g))
 
-nan-finds : (x y : Float) → isNan x ≡ true → is-true (found false (compare-floats x y)) ≡ false
-nan-finds x y h = ap is-true (found-floats false x y) ∙ ap (λ b. is-true (found false (cond b Comparison.Equal Less))) (nan-unequal x y h)
+nan-finds : (x y : Float) → isNan x ≡ true → is-true (truth-of false (Found (compare-floats x y))) ≡ false
+nan-finds x y h = ap is-true (truth-floats false x y) ∙ ap (λ b. is-true (truth-of false (Found (cond b Comparison.Equal Less)))) (nan-unequal x y h)
 
 float-taken : (p a : ℕ) (b : Bool) → isNan (number-of a) ≡ b → (x : Value)
     → any (λ (u : Value × ℕ). takes (u .0) x) (cond b [] ((datum (float a), p) ∷ [])) ≡ is-true (equal-totals false (figure false (float a)) (from-value x))
@@ -120,19 +121,19 @@ float-taken p a true h (datum (integer c)) = sym (nan-finds (number-of a) (round
 float-taken p a true h (datum (float c)) = sym (nan-finds (number-of a) (number-of c) h)
 float-taken p a true h (datum (string r t)) = refl
 float-taken p a false h x =
-    ap (λ z. ((z && is-nan-value x) || is-true-result (equal (datum (float a)) x)) || false) h
-    ∙ (or-false (is-true-result (equal (datum (float a)) x)) ∙ equal-datum (float a) x)
+    ap (λ z. ((z && is-nan-value x) || is-equal (compare (datum (float a)) x)) || false) h
+    ∙ (or-false (is-equal (compare (datum (float a)) x)) ∙ equal-datum (float a) x)
 
 equal-taken : (p : ℕ) (v x : Value) → any (λ (u : Value × ℕ). takes (u .0) x) (equal-values (some (v, p))) ≡ is-true (equal-totals false (from-value v) (from-value x))
 equal-taken p (truth Unknown) (truth b) = refl
 equal-taken p (truth Unknown) (datum g) = refl
-equal-taken p (truth False) (truth b) = or-false (is-true (compared-truths is-equal False b))
+equal-taken p (truth False) (truth b) = or-false (is-equal (compare (truth False) (truth b))) ∙ equal-true (compare (truth False) (truth b))
 equal-taken p (truth False) (datum g) = refl
-equal-taken p (truth True) (truth b) = or-false (is-true (compared-truths is-equal True b))
+equal-taken p (truth True) (truth b) = or-false (is-equal (compare (truth True) (truth b))) ∙ equal-true (compare (truth True) (truth b))
 equal-taken p (truth True) (datum g) = refl
-equal-taken p (datum (integer a)) x = or-false (is-true-result (equal (datum (integer a)) x)) ∙ equal-datum (integer a) x
+equal-taken p (datum (integer a)) x = or-false (is-equal (compare (datum (integer a)) x)) ∙ equal-datum (integer a) x
 equal-taken p (datum (float a)) x = float-taken p a (isNan (number-of a)) refl x
-equal-taken p (datum (string r t)) x = or-false (is-true-result (equal (datum (string r t)) x)) ∙ equal-datum (string r t) x
+equal-taken p (datum (string r t)) x = or-false (is-equal (compare (datum (string r t)) x)) ∙ equal-datum (string r t) x
 
 any-append : {A : Type 0} (f : A → Bool) (xs ys : List A) → any f (xs ++ ys) ≡ (any f xs || any f ys)
 any-append f [] ys = refl
@@ -148,15 +149,15 @@ the-nan-is-nan : isNan (number-of the-nan) ≡ true
 unfolding isNan Ieee.ofBits
 the-nan-is-nan = refl
 
-nan-equals-none : (x : Value) → is-true-result (equal (datum (float the-nan)) x) ≡ false
-nan-equals-none (truth b) = against-false b
+nan-equals-none : (x : Value) → is-equal (compare (datum (float the-nan)) x) ≡ false
+nan-equals-none (truth b) = truth-unequal (float the-nan) b
 nan-equals-none (datum (integer c)) = equal-datum (float the-nan) (datum (integer c)) ∙ nan-finds (number-of the-nan) (rounded c) the-nan-is-nan
 nan-equals-none (datum (float c)) = equal-datum (float the-nan) (datum (float c)) ∙ nan-finds (number-of the-nan) (number-of c) the-nan-is-nan
 nan-equals-none (datum (string r t)) = refl
 
 nan-takes : (x : Value) → (takes (datum (float the-nan)) x || false) ≡ is-nan-value x
 nan-takes x =
-    ap (λ z. ((z && is-nan-value x) || is-true-result (equal (datum (float the-nan)) x)) || false) the-nan-is-nan
+    ap (λ z. ((z && is-nan-value x) || is-equal (compare (datum (float the-nan)) x)) || false) the-nan-is-nan
     ∙ (ap (λ z. (is-nan-value x || z) || false) (nan-equals-none x) ∙ (or-false (is-nan-value x || false) ∙ or-false (is-nan-value x)))
 
 nan-true : (og p : ℕ) (x : Value) (columns : Columns) (c : ℕ) → columns c ≡ x → true-at columns (unary og (function IsNaN) (column p c)) ≡ is-nan-value x

@@ -8,7 +8,7 @@ use mathlib.Core.Option.{Option, none, some}
 use lib.ListN.{getD}
 use Rattle.value.specs.Value.{Truth, False, Unknown, True, Datum, integer, float, string, Value, truth, datum, null, Result, ok, err, mismatch}
 use Rattle.value.specs.Logic as Logic
-use Rattle.value.specs.Comparison.{Finding, Less, Equal, Greater, Unordered, NotComparable, compare, compared-truths, is-equal}
+use Rattle.value.specs.Comparison.{Comparison, Null, Found, Less, Equal, Greater, Unordered, NotComparable, compare}
 use Rattle.sql.specs.Expression.{Logical, And, Or, Function1, Function2, Unary, Not, Binary, Expression, constant, column, unary, binary, Row, bind, evaluate-unary, evaluate-binary}
 use Rattle.sql.specs.Expression
 use Rattle.rows.specs.Reading.{is-true}
@@ -78,22 +78,24 @@ mixed (string r t) (integer b) = true
 mixed (string r t) (float b) = true
 mixed (string r t) (string q u) = false
 
--- `columns-of-two-kinds`: this is an equality of two columns, of values of two kinds; then it isn't true
-abbrev pub found : (columns-of-two-kinds : Bool) → Finding → Truth
-found k Less = False
-found false Equal = True
-found true Equal = False
-found k Greater = False
-found k Unordered = False
-found k NotComparable = Unknown
+-- What Equal says of a comparison; kinds that don't fit give Null. `columns-of-two-kinds`: this is an equality of two columns, of values of two kinds; then it
+-- isn't true.
+abbrev pub truth-of : (columns-of-two-kinds : Bool) → Comparison → Truth
+truth-of k Null = Unknown
+truth-of k (Found Less) = False
+truth-of false (Found Equal) = True
+truth-of true (Found Equal) = False
+truth-of k (Found Greater) = False
+truth-of k (Found Unordered) = False
+truth-of k (Found NotComparable) = Unknown
 
 abbrev pub equal-totals : (columns : Bool) → Total → Total → Truth
-equal-totals k (known a) (known b) = compared-truths is-equal a b
+equal-totals k (known a) (known b) = truth-of false (compare (truth a) (truth b))
 equal-totals k (known a) (figure n g) = Unknown
 equal-totals k (figure n f) (known b) = Unknown
 equal-totals k (figure true f) (figure n g) = Unknown
 equal-totals k (figure false f) (figure true g) = Unknown
-equal-totals k (figure false f) (figure false g) = found (k && mixed f g) (compare f g)
+equal-totals k (figure false f) (figure false g) = truth-of (k && mixed f g) (compare (datum f) (datum g))
 
 abbrev pub is-even : Shape → Bool
 is-even even-nots = true

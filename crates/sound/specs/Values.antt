@@ -13,7 +13,7 @@ use lib.Ieee.{Float, nan, inf, fin, binary64}
 use lib.Ieee.Fits.{add-fits, div-fits, neg-fits}
 use lib.Ieee.Bits.{toBits-lt, ofBits-toBits, ofBits-fits, nanBits-is}
 use Rattle.value.specs.Value.{Truth, False, Unknown, True, Datum, integer, float, string, Value, truth, datum, Result, ok, err, overflow, the-nan}
-use Rattle.value.specs.Comparison.{Finding, Less, Equal, Greater, Unordered, NotComparable, compare, compared, against-datum, answer, number-of, rounded, is-equal, is-greater, is-less}
+use Rattle.value.specs.Comparison.{Comparison, Null, Found, Less, Equal, Greater, Unordered, NotComparable, compare, compared, answer, number-of, rounded, is-equal, is-greater, is-less}
 use Rattle.value.specs.Arithmetic.{checked, written, add-integers, divide-integers, of-data, with-datum, of-truths, arithmetic, of-truth}
 use Rattle.value.specs.Logic as Logic
 use Rattle.sql.specs.Expression.{And, Or, IsNull, IsNaN, Identity, Negate, GreaterThan, LessThan, Add, Divide, Unary, Not, Binary, logical, function, Expression, constant, column, unary, binary, evaluate-unary, evaluate-binary, evaluate}
@@ -91,23 +91,16 @@ module _ (text : List ℕ) (bytes : ℕ) where
   logical-fits table (truth a) (datum g) = tt
   logical-fits table (datum f) w = tt
 
-  against-fits : (a : Truth) → R (against-datum a)
-  against-fits False = tt
-  against-fits Unknown = tt
-  against-fits True = tt
+  answer-fits : (c : Comparison) (holds : Bool) → R (answer c holds)
+  answer-fits Null holds = tt
+  answer-fits (Found Less) holds = tt
+  answer-fits (Found Equal) holds = tt
+  answer-fits (Found Greater) holds = tt
+  answer-fits (Found Unordered) holds = tt
+  answer-fits (Found NotComparable) holds = tt
 
-  answer-fits : (test : Finding → Bool) (f : Finding) → R (answer test f)
-  answer-fits test Less = tt
-  answer-fits test Equal = tt
-  answer-fits test Greater = tt
-  answer-fits test Unordered = tt
-  answer-fits test NotComparable = tt
-
-  compared-fits : (test : Finding → Bool) (v w : Value) → R (compared test v w)
-  compared-fits test (truth a) (truth b) = tt
-  compared-fits test (truth a) (datum g) = against-fits a
-  compared-fits test (datum f) (truth b) = against-fits b
-  compared-fits test (datum f) (datum g) = answer-fits test (compare f g)
+  compared-fits : (test : Comparison → Bool) (v w : Value) → R (compared test v w)
+  compared-fits test v w = answer-fits (compare v w) (test (compare v w))
 
   with-fits : (a : Truth) (d : Datum) → R (with-datum a d)
   with-fits False d = tt

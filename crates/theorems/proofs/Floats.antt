@@ -2,17 +2,17 @@
 -- comparison says of doubles (crate value, proofs/Comparison.antt).
 use Prim.Native.Nat.{ℕ, zero, suc, _<_}
 use native.Mathlib.Nat.{le-refl, zero-lt-suc}
-use mathlib.Core.Path.{_≡_, refl, sym, ap, _∙_, subst}
-use mathlib.Core.Bool.{Bool, true, false, Bool·beq, cond}
+use mathlib.Core.Path.{_≡_, refl, sym, ap, ap₂, _∙_, subst}
+use mathlib.Core.Bool.{Bool, true, false, _||_, Bool·beq, cond}
 use lib.Dec.{ltb}
 use lib.IntN.{ℤ}
 use lib.Ieee as Ieee
 use lib.Ieee.{binary64, ofBits, toBits, ofInt}
 use Rattle.value.specs.Value.{Value, boolean, Result, ok}
 use Rattle.value.specs.Arithmetic.{written}
-use Rattle.value.specs.Comparison as Defined
-use Rattle.value.specs.Comparison.{Finding, Less, Greater, Unordered, compare-floats, answer, is-equal, is-greater, is-less}
-use Rattle.value.proofs.Comparison.{equal-floats, less-floats, greater-floats}
+use Rattle.value.specs.Comparison.{Comparison, Found, compare-floats, compare, answer, is-equal, is-greater, is-less}
+use Rattle.value.proofs.Comparison.{by-tests, is-unordered, equal-floats, less-floats, greater-floats, unordered-floats}
+use Rattle.value.proofs.ComparisonLaws.{less-where, equal-where, greater-where, unordered-where}
 use Rattle.sql.specs.Expression.{Binary, function, Equal, GreaterThan, LessThan, Add, Divide, evaluate-binary}
 use Rattle.ieee754.specs.Ieee754 as Ieee754
 use Rattle.ieee754.specs.Ieee754.{exactly, rounded, Double, nan, infinite, finite, read, Is, infinity, without-sign, unlike, sum, quotient-of, quotient, negation, of-integer}
@@ -20,7 +20,7 @@ use Rattle.ieee754.proofs.Nearest.{rounded-unique}
 use Rattle.ieee754.proofs.Reading.{Stands, a-nan, an-infinity, a-number, reads}
 use Rattle.ieee754.proofs.Conversion.{converted}
 use Rattle.ieee754.proofs.Agreement.{add-is-sum, div-is-quotient, neg-is-negation, ofInt-is-integer, lt-is-less, eq-is-equal}
-use Rattle.theorems.specs.Floats.{Integer, Float, Exactly-one, Gives, Says, is-nan, Pairs, Float-results}
+use Rattle.theorems.specs.Floats.{Integer, Float, Exactly-one, Gives, Says, is-nan, Relation, Pairs, Float-results}
 
 -- ======== What is asked for is one pattern
 
@@ -73,40 +73,37 @@ quotient-proper (finite s u) (finite t v) = quotient-of-proper (unlike s t) u v
 abbrev double : ℕ → Ieee.Float
 double x = ofBits binary64 x
 
--- where a Float is met, the operator gives `f` of the number that the Float's pattern stands for and of the Integer rounded
-record Works-by (operator : Binary) (f : Ieee.Float → Ieee.Float → Result Value) : Type 0 where
-  float-float : (x y : ℕ) → evaluate-binary operator (Float x) (Float y) ≡ f (double x) (double y)
-  integer-float : (i : ℤ) (y : ℕ) → evaluate-binary operator (Integer i) (Float y) ≡ f (ofInt binary64 i) (double y)
-  float-integer : (x : ℕ) (j : ℤ) → evaluate-binary operator (Float x) (Integer j) ≡ f (double x) (ofInt binary64 j)
+-- where a Float is met, the result is `f` of the number that the Float's pattern stands for and of the Integer rounded
+record Works-by {A : Type 0} (result : Value → Value → A) (f : Ieee.Float → Ieee.Float → A) : Type 0 where
+  float-float : (x y : ℕ) → result (Float x) (Float y) ≡ f (double x) (double y)
+  integer-float : (i : ℤ) (y : ℕ) → result (Integer i) (Float y) ≡ f (ofInt binary64 i) (double y)
+  float-integer : (x : ℕ) (j : ℤ) → result (Float x) (Integer j) ≡ f (double x) (ofInt binary64 j)
 
 -- what is right of two Floats is so of the other pairs: the double nearest to an Integer is the Integer rounded
-pairs : (operator : Binary) (f : Ieee.Float → Ieee.Float → Result Value) (Right : Double → Double → Result Value → Type 0) → Works-by operator f
-    → ((x y : ℕ) → Right (read x) (read y) (f (double x) (double y))) → Pairs operator Right
-pairs operator f Right by right = record {
+pairs : {A : Type 0} (result : Value → Value → A) (f : Ieee.Float → Ieee.Float → A) (Right : Double → Double → A → Type 0) → Works-by result f
+    → ((x y : ℕ) → Right (read x) (read y) (f (double x) (double y))) → Pairs result Right
+pairs result f Right by right = record {
   float-float = λ x y. subst (Right (read x) (read y)) (sym (by .float-float x y)) (right x y);
   integer-float = λ i x y h. subst (Right (read x) (read y)) (ap (λ z. f z (double y)) (converted i x h .of-int) ∙ sym (by .integer-float i y)) (right x y);
   float-integer = λ x j y h. subst (Right (read x) (read y)) (ap (f (double x)) (converted j y h .of-int) ∙ sym (by .float-integer x j)) (right x y);
 }
 
--- what compare-floats makes of ==, < and >
-abbrev found : Bool → Bool → Bool → Finding
-found e l g = cond e Defined.Equal (cond l Less (cond g Greater Unordered))
-
 -- two doubles are always comparable
-answered : (test : Finding → Bool) (x y : Ieee.Float) → answer test (compare-floats x y) ≡ ok (boolean (test (compare-floats x y)))
+answered : (test : Comparison → Bool) (x y : Ieee.Float) → answer (Found (compare-floats x y)) (test (Found (compare-floats x y))) ≡ ok (boolean (test (Found (compare-floats x y))))
 unfolding compare-floats
 answered test x y = go (Ieee.eq x y) (Ieee.lt x y) (Ieee.lt y x)
   where
-    go : (e l g : Bool) → answer test (found e l g) ≡ ok (boolean (test (found e l g)))
+    go : (e l g : Bool) → answer (Found (by-tests e l g)) (test (Found (by-tests e l g))) ≡ ok (boolean (test (Found (by-tests e l g))))
     go true l g = refl
     go false true g = refl
     go false false true = refl
     go false false false = refl
 
-compared : (operator : Binary) (test : Finding → Bool) (right : Double → Double → Bool) → Works-by operator (λ x y. answer test (compare-floats x y))
-    → ((x y : ℕ) → test (compare-floats (double x) (double y)) ≡ right (read x) (read y)) → Pairs operator (λ a b. Says (right a b))
+compared : (operator : Binary) (test : Comparison → Bool) (right : Double → Double → Bool)
+    → Works-by (evaluate-binary operator) (λ x y. answer (Found (compare-floats x y)) (test (Found (compare-floats x y))))
+    → ((x y : ℕ) → test (Found (compare-floats (double x) (double y))) ≡ right (read x) (read y)) → Pairs (evaluate-binary operator) (λ a b. Says (right a b))
 compared operator test right by agrees =
-    pairs operator (λ x y. answer test (compare-floats x y)) (λ a b. Says (right a b)) by
+    pairs (evaluate-binary operator) (λ x y. answer (Found (compare-floats x y)) (test (Found (compare-floats x y)))) (λ a b. Says (right a b)) by
     (λ x y. answered test (double x) (double y) ∙ ap (λ b. ok (boolean b)) (agrees x y))
 
 same-nan : {x : Ieee.Float} {a : Double} → Stands x a → Ieee.isNan x ≡ is-nan a
@@ -115,27 +112,52 @@ same-nan a-nan = refl
 same-nan (an-infinity s) = refl
 same-nan (a-number p) = refl
 
+-- each finding's test, at two patterns
+less-at : (x y : ℕ) → is-less (Found (compare-floats (double x) (double y))) ≡ Ieee754.less (read x) (read y)
+less-at x y = less-floats (double x) (double y) ∙ lt-is-less x y
+
+equal-at : (x y : ℕ) → is-equal (Found (compare-floats (double x) (double y))) ≡ Ieee754.equal (read x) (read y)
+equal-at x y = equal-floats (double x) (double y) ∙ eq-is-equal x y
+
+greater-at : (x y : ℕ) → is-greater (Found (compare-floats (double x) (double y))) ≡ Ieee754.less (read y) (read x)
+greater-at x y = greater-floats (double x) (double y) ∙ lt-is-less y x
+
+unordered-at : (x y : ℕ) → is-unordered (Found (compare-floats (double x) (double y))) ≡ (is-nan (read x) || is-nan (read y))
+unordered-at x y = unordered-floats (double x) (double y) ∙ ap₂ _||_ (same-nan (reads x)) (same-nan (reads y))
+
+related : (x y : ℕ) → Relation (read x) (read y) (Found (compare-floats (double x) (double y)))
+related x y = let c = Found (compare-floats (double x) (double y)) in record {
+  ordered = record {
+    finds-less = less-where c _ (less-at x y);
+    finds-equal = equal-where c _ (equal-at x y);
+    finds-greater = greater-where c _ (greater-at x y);
+  };
+  unordered = unordered-where c _ (unordered-at x y);
+}
+
 -- ======== The statement
 
 pub float-results : Float-results
 float-results = record {
   every-integer = λ i. one-pattern (of-integer i) (le-refl 1) (toBits binary64 (ofInt binary64 i)) (ofInt-is-integer i);
   one-nan = refl;
-  add = pairs (function Add) (λ x y. written (Ieee.add binary64 x y)) (λ a b. Gives (sum a b))
+  add = pairs (evaluate-binary (function Add)) (λ x y. written (Ieee.add binary64 x y)) (λ a b. Gives (sum a b))
       (record { float-float = λ x y. refl; integer-float = λ i y. refl; float-integer = λ x j. refl })
       (λ x y. gives (sum (read x) (read y)) (sum-proper (read x) (read y)) _ (add-is-sum x y));
-  divide = pairs (function Divide) (λ x y. written (Ieee.div binary64 x y)) (λ a b. Gives (quotient a b))
+  divide = pairs (evaluate-binary (function Divide)) (λ x y. written (Ieee.div binary64 x y)) (λ a b. Gives (quotient a b))
       (record { float-float = λ x y. refl; integer-float = λ i y. refl; float-integer = λ x j. refl })
       (λ x y. gives (quotient (read x) (read y)) (quotient-proper (read x) (read y)) _ (div-is-quotient x y));
   negate = λ x. gives (negation x) (either (ltb infinity (without-sign x)) _ _) _ (neg-is-negation x);
+  comparison = pairs compare (λ x y. Found (compare-floats x y)) Relation
+      (record { float-float = λ x y. refl; integer-float = λ i y. refl; float-integer = λ x j. refl }) related;
   equal = compared Equal is-equal (λ a b. Ieee754.equal a b)
       (record { float-float = λ x y. refl; integer-float = λ i y. refl; float-integer = λ x j. refl })
-      (λ x y. equal-floats (double x) (double y) ∙ eq-is-equal x y);
+      equal-at;
   greater-than = compared (function GreaterThan) is-greater (λ a b. Ieee754.less b a)
       (record { float-float = λ x y. refl; integer-float = λ i y. refl; float-integer = λ x j. refl })
-      (λ x y. greater-floats (double x) (double y) ∙ lt-is-less y x);
+      greater-at;
   less-than = compared (function LessThan) is-less (λ a b. Ieee754.less a b)
       (record { float-float = λ x y. refl; integer-float = λ i y. refl; float-integer = λ x j. refl })
-      (λ x y. less-floats (double x) (double y) ∙ lt-is-less x y);
+      less-at;
   is-nan = λ x. ap (λ b. ok (boolean b)) (same-nan (reads x));
 }

@@ -2,7 +2,7 @@
 -- proofs/Floats.antt, as `float-results`; examples are in FloatExamples.antt.
 --
 -- A line has an operator as `evaluate` applies it (crate sql, Expression.antt; in crate value these are `checked-add`, `checked-div`, `negate`, `equal`,
--- `greater-than`, `less-than` and `is-nan`), and what IEEE 754's binary64 says of its result, by whole numbers alone (crate ieee754, Ieee754.antt):
+-- `greater-than`, `less-than` and `is-nan`), or the one comparison (crate value, Comparison.antt: `compare`), and what IEEE 754's binary64 says of its result, by whole numbers alone (crate ieee754, Ieee754.antt):
 --
 -- read x        what the 64-bit pattern x stands for: a NaN, an infinity, or a sign and a number of units of 2 ^ -1074
 -- sum a b, quotient a b, negation x, of-integer i
@@ -19,11 +19,14 @@
 -- `divide-integers`, `checked`; Comparison.antt: `compare-integers`); Null, Booleans and Strings are in the same two files, the truth tables in Tables.antt.
 -- Identity hands a Float back with its pattern.
 use Prim.Native.Nat.{ℕ}
-use mathlib.Core.Bool.{Bool, true, false}
+use mathlib.Core.Bool.{Bool, true, false, _||_}
 use mathlib.Core.Path.{_≡_}
+use mathlib.Core.Logic.{_↔_}
 use lib.IntN.{ℤ}
 use Rattle.value.specs.Value.{Value, datum, integer, float, boolean, Result, ok}
-use Rattle.sql.specs.Expression.{Unary, Binary, function, IsNaN, Negate, Equal, GreaterThan, LessThan, Add, Divide, evaluate-unary, evaluate-binary}
+use Rattle.value.specs.Comparison.{Comparison, Found, Unordered, compare}
+use Rattle.value.specs.ComparisonLaws.{Finds}
+use Rattle.sql.specs.Expression.{Unary, function, IsNaN, Negate, Equal, GreaterThan, LessThan, Add, Divide, evaluate-unary, evaluate-binary}
 use Rattle.ieee754.specs.Ieee754 as Ieee754
 use Rattle.ieee754.specs.Ieee754.{Double, nan, infinite, finite, read, Is, quiet-nan, sum, quotient, negation, of-integer, less, equal}
 
@@ -56,14 +59,20 @@ is-nan nan = true
 is-nan (infinite s) = false
 is-nan (finite s u) = false
 
+-- The comparison finds IEEE 754's relation of the doubles a and b, of which there are four. That it has such a finding at all is in crate value
+-- (ComparisonLaws.antt: `null-apart`, `not-comparable`).
+pub record Relation (a b : Double) (c : Comparison) : Type 0 where
+  pub ordered : Finds (less a b ≡ true) (equal a b ≡ true) (less b a ≡ true) c
+  pub unordered : (c ≡ Found Unordered) ↔ ((is-nan a || is-nan b) ≡ true)
+
 -- ======== For which operands
 
 -- Two operands, at least one of them a Float. A Float is taken as the double that its pattern stands for, and an Integer is first rounded to the double nearest to
 -- it, ties to even. `Right a b` is what is said of the result for the doubles a and b.
-pub record Pairs (operator : Binary) (Right : Double → Double → Result Value → Type 0) : Type 0 where
-  pub float-float : (x y : ℕ) → Right (read x) (read y) (evaluate-binary operator (Float x) (Float y))
-  pub integer-float : (i : ℤ) (x y : ℕ) → Is (of-integer i) x → Right (read x) (read y) (evaluate-binary operator (Integer i) (Float y))
-  pub float-integer : (x : ℕ) (j : ℤ) (y : ℕ) → Is (of-integer j) y → Right (read x) (read y) (evaluate-binary operator (Float x) (Integer j))
+pub record Pairs {A : Type 0} (result : Value → Value → A) (Right : Double → Double → A → Type 0) : Type 0 where
+  pub float-float : (x y : ℕ) → Right (read x) (read y) (result (Float x) (Float y))
+  pub integer-float : (i : ℤ) (x y : ℕ) → Is (of-integer i) x → Right (read x) (read y) (result (Integer i) (Float y))
+  pub float-integer : (x : ℕ) (j : ℤ) (y : ℕ) → Is (of-integer j) y → Right (read x) (read y) (result (Float x) (Integer j))
 
 -- A Float alone. `Right x` is what is said of the result for the pattern x.
 abbrev pub Single : Unary → (ℕ → Result Value → Type 0) → Type 0
@@ -76,11 +85,13 @@ pub record Float-results : Type 0 where
   pub every-integer : (i : ℤ) → Exactly-one (of-integer i)
   -- what is asked for where a result is no number; IEEE 754 leaves open which NaN that is
   pub one-nan : quiet-nan ≡ 0x7FF8000000000000
-  pub add : Pairs (function Add) (λ a b. Gives (sum a b))
-  pub divide : Pairs (function Divide) (λ a b. Gives (quotient a b))
+  pub add : Pairs (evaluate-binary (function Add)) (λ a b. Gives (sum a b))
+  pub divide : Pairs (evaluate-binary (function Divide)) (λ a b. Gives (quotient a b))
   -- a NaN too gives the one pattern, where IEEE 754 would turn its sign's bit alone
   pub negate : Single (function Negate) (λ x. Gives (negation x))
-  pub equal : Pairs Equal (λ a b. Says (equal a b))
-  pub greater-than : Pairs (function GreaterThan) (λ a b. Says (less b a))
-  pub less-than : Pairs (function LessThan) (λ a b. Says (less a b))
+  -- what the next three take their answer from
+  pub comparison : Pairs compare Relation
+  pub equal : Pairs (evaluate-binary Equal) (λ a b. Says (equal a b))
+  pub greater-than : Pairs (evaluate-binary (function GreaterThan)) (λ a b. Says (less b a))
+  pub less-than : Pairs (evaluate-binary (function LessThan)) (λ a b. Says (less a b))
   pub is-nan : Single (function IsNaN) (λ x. Says (is-nan (read x)))

@@ -1,3 +1,4 @@
 pub mod Laws
 pub mod Patterns
 pub mod Comparison
+pub mod ComparisonLaws

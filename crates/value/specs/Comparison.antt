@@ -1,4 +1,4 @@
--- expression.rs, evaluate: Equal, GreaterThan and LessThan.
+-- expression.rs, evaluate: Equal, GreaterThan and LessThan, which all take their answer from one comparison. What holds of it is in ComparisonLaws.antt.
 use Prim.Native.Nat.{ℕ}
 use mathlib.Core.Bool.{Bool, true, false, cond}
 use mathlib.Core.List.{List, [], _∷_}
@@ -7,11 +7,16 @@ use lib.IntN.{ℤ}
 use lib.Signed.{ltZ}
 use lib.Ieee as Ieee
 use lib.Ieee.{Float, binary64}
-use Rattle.value.specs.Value.{Truth, False, Unknown, True, Datum, integer, float, string, Value, truth, datum, null, ofBool, boolean, Result, ok, err, mismatch}
+use Rattle.value.specs.Value.{False, Unknown, True, Datum, integer, float, string, Value, truth, datum, null, boolean, Result, ok, err, mismatch}
 
 -- What comparing two values finds. Unordered: one of them is NaN. NotComparable: their kinds don't fit.
 pub data Finding : Type 0 where
   Less Equal Greater Unordered NotComparable : Finding
+
+-- A comparison has a finding unless one of its values is Null.
+pub data Comparison : Type 0 where
+  Null : Comparison
+  Found : Finding → Comparison
 
 -- the finding of two tests: whether the left one is less, and whether the right one is
 abbrev pub order : Bool → Bool → Finding
@@ -26,13 +31,6 @@ rounded i = Ieee.ofInt binary64 i
 -- the number that a Float's 64-bit pattern stands for
 abbrev pub number-of : ℕ → Float
 number-of bits = Ieee.ofBits binary64 bits
-
--- false is less than true
-abbrev pub compare-booleans : Bool → Bool → Finding
-compare-booleans false false = Equal
-compare-booleans false true = Less
-compare-booleans true false = Greater
-compare-booleans true true = Equal
 
 unfoldable pub compare-integers : ℤ → ℤ → Finding
 compare-integers a b = order (ltZ a b) (ltZ b a)
@@ -57,68 +55,70 @@ compare-bytes (x ∷ xs) [] = Greater
 compare-bytes (x ∷ xs) (y ∷ ys) = then (order (ltb x y) (ltb y x)) (compare-bytes xs ys)
 
 -- An Integer met by a Float is rounded first.
-abbrev pub compare : Datum → Datum → Finding
-compare (integer a) (integer b) = compare-integers a b
-compare (integer a) (float b) = compare-floats (rounded a) (number-of b)
-compare (integer a) (string r t) = NotComparable
-compare (float a) (integer b) = compare-floats (number-of a) (rounded b)
-compare (float a) (float b) = compare-floats (number-of a) (number-of b)
-compare (float a) (string r t) = NotComparable
-compare (string r t) (integer b) = NotComparable
-compare (string r t) (float b) = NotComparable
-compare (string r t) (string q u) = compare-bytes t u
+abbrev pub compare-data : Datum → Datum → Finding
+compare-data (integer a) (integer b) = compare-integers a b
+compare-data (integer a) (float b) = compare-floats (rounded a) (number-of b)
+compare-data (integer a) (string r t) = NotComparable
+compare-data (float a) (integer b) = compare-floats (number-of a) (rounded b)
+compare-data (float a) (float b) = compare-floats (number-of a) (number-of b)
+compare-data (float a) (string r t) = NotComparable
+compare-data (string r t) (integer b) = NotComparable
+compare-data (string r t) (float b) = NotComparable
+compare-data (string r t) (string q u) = compare-bytes t u
+
+-- The one comparison. Null comes before kinds, and false is less than true.
+abbrev pub compare : Value → Value → Comparison
+compare (truth Unknown) w = Null
+compare (truth False) (truth Unknown) = Null
+compare (truth True) (truth Unknown) = Null
+compare (datum f) (truth Unknown) = Null
+compare (truth False) (truth False) = Found Equal
+compare (truth False) (truth True) = Found Less
+compare (truth True) (truth False) = Found Greater
+compare (truth True) (truth True) = Found Equal
+compare (truth False) (datum g) = Found NotComparable
+compare (truth True) (datum g) = Found NotComparable
+compare (datum f) (truth False) = Found NotComparable
+compare (datum f) (truth True) = Found NotComparable
+compare (datum f) (datum g) = Found (compare-data f g)
 
 -- ---- the three operators: each is true at one finding alone, and this is its test
 
-abbrev pub is-less : Finding → Bool
-is-less Less = true
-is-less Equal = false
-is-less Greater = false
-is-less Unordered = false
-is-less NotComparable = false
+abbrev pub is-less : Comparison → Bool
+is-less Null = false
+is-less (Found Less) = true
+is-less (Found Equal) = false
+is-less (Found Greater) = false
+is-less (Found Unordered) = false
+is-less (Found NotComparable) = false
 
-abbrev pub is-equal : Finding → Bool
-is-equal Less = false
-is-equal Equal = true
-is-equal Greater = false
-is-equal Unordered = false
-is-equal NotComparable = false
+abbrev pub is-equal : Comparison → Bool
+is-equal Null = false
+is-equal (Found Less) = false
+is-equal (Found Equal) = true
+is-equal (Found Greater) = false
+is-equal (Found Unordered) = false
+is-equal (Found NotComparable) = false
 
-abbrev pub is-greater : Finding → Bool
-is-greater Less = false
-is-greater Equal = false
-is-greater Greater = true
-is-greater Unordered = false
-is-greater NotComparable = false
+abbrev pub is-greater : Comparison → Bool
+is-greater Null = false
+is-greater (Found Less) = false
+is-greater (Found Equal) = false
+is-greater (Found Greater) = true
+is-greater (Found Unordered) = false
+is-greater (Found NotComparable) = false
 
--- Booleans are compared, and Null with a Boolean or Null gives Null.
-abbrev pub compared-truths : (Finding → Bool) → Truth → Truth → Truth
-compared-truths test Unknown b = Unknown
-compared-truths test False False = ofBool (test (compare-booleans false false))
-compared-truths test False Unknown = Unknown
-compared-truths test False True = ofBool (test (compare-booleans false true))
-compared-truths test True False = ofBool (test (compare-booleans true false))
-compared-truths test True Unknown = Unknown
-compared-truths test True True = ofBool (test (compare-booleans true true))
+-- Null gives Null, and kinds that don't fit are an error; else the answer is whether the test holds.
+abbrev pub answer : Comparison → (holds : Bool) → Result Value
+answer Null holds = ok null
+answer (Found Less) holds = ok (boolean holds)
+answer (Found Equal) holds = ok (boolean holds)
+answer (Found Greater) holds = ok (boolean holds)
+answer (Found Unordered) holds = ok (boolean holds)
+answer (Found NotComparable) holds = err mismatch
 
--- a Null or Boolean against what is neither: Null gives Null, a Boolean doesn't fit
-abbrev pub against-datum : Truth → Result Value
-against-datum False = err mismatch
-against-datum Unknown = ok null
-against-datum True = err mismatch
-
-abbrev pub answer : (Finding → Bool) → Finding → Result Value
-answer test Less = ok (boolean (test Less))
-answer test Equal = ok (boolean (test Equal))
-answer test Greater = ok (boolean (test Greater))
-answer test Unordered = ok (boolean (test Unordered))
-answer test NotComparable = err mismatch
-
-abbrev pub compared : (Finding → Bool) → Value → Value → Result Value
-compared test (truth a) (truth b) = ok (truth (compared-truths test a b))
-compared test (truth a) (datum g) = against-datum a
-compared test (datum f) (truth b) = against-datum b
-compared test (datum f) (datum g) = answer test (compare f g)
+abbrev pub compared : (Comparison → Bool) → Value → Value → Result Value
+compared test v w = answer (compare v w) (test (compare v w))
 
 abbrev pub equal : Value → Value → Result Value
 equal = compared is-equal

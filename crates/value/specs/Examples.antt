@@ -2,12 +2,13 @@
 use Prim.Native.Nat.{ℕ, _+_, _-_, _^_}
 use mathlib.Core.Path.{_≡_, refl}
 use mathlib.Core.Bool.{true, false}
-use mathlib.Core.List.{List, [], _∷_}
+use mathlib.Core.List.{List, [], _∷_, map}
 use lib.IntN.{ℤ, pos, negsuc}
+use lib.ListN.{replicate}
 use lib.Ieee as Ieee
-use Rattle.value.specs.Value.{Value, integer, float, string, the-nan, datum, null, boolean, ok, err, overflow, division-by-zero, mismatch}
+use Rattle.value.specs.Value.{Value, integer, float, string, the-nan, datum, null, boolean, Result, ok, err, overflow, division-by-zero, mismatch}
 use Rattle.value.specs.Logic.{logical-and, logical-or}
-use Rattle.value.specs.Comparison.{compare-floats, compare-bytes, equal, less-than}
+use Rattle.value.specs.Comparison.{Comparison, Null, Found, Less, Equal, Greater, Unordered, NotComparable, compare-integers, compare-floats, compare-bytes, compare, equal, greater-than, less-than}
 use Rattle.value.specs.Arithmetic.{add-integers, divide-integers, checked-add, checked-div, negate, checked}
 
 abbrev Integer : ℤ → Value
@@ -77,17 +78,79 @@ rounded-first : equal (Integer (pos (2 ^ 53 + 1))) (Float 0x4340000000000000) �
 unfolding compare-floats Ieee.ofInt Ieee.ofBits Ieee.eq Ieee.lt
 rounded-first = refl
 
-nan-equals-itself : equal (Float the-nan) (Float the-nan) ≡ ok (boolean false)
+-- ---- the one comparison
+
+-- one value of each kind, and NaN
+abbrev kinds : List Value
+kinds = null ∷ boolean true ∷ Integer (pos 1) ∷ Float 0x3FF0000000000000 ∷ Float the-nan ∷ String (97 ∷ []) ∷ []
+
+-- a line for each left value, a column for each right one
+each-kind : map (λ v. map (compare v) kinds) kinds ≡
+    ((Null ∷ Null ∷ Null ∷ Null ∷ Null ∷ Null ∷ [])
+    ∷ (Null ∷ Found Equal ∷ Found NotComparable ∷ Found NotComparable ∷ Found NotComparable ∷ Found NotComparable ∷ [])
+    ∷ (Null ∷ Found NotComparable ∷ Found Equal ∷ Found Equal ∷ Found Unordered ∷ Found NotComparable ∷ [])
+    ∷ (Null ∷ Found NotComparable ∷ Found Equal ∷ Found Equal ∷ Found Unordered ∷ Found NotComparable ∷ [])
+    ∷ (Null ∷ Found NotComparable ∷ Found Unordered ∷ Found Unordered ∷ Found Unordered ∷ Found NotComparable ∷ [])
+    ∷ (Null ∷ Found NotComparable ∷ Found NotComparable ∷ Found NotComparable ∷ Found NotComparable ∷ Found Equal ∷ [])
+    ∷ [])
+unfolding compare-integers compare-floats compare-bytes Ieee.ofInt Ieee.ofBits Ieee.eq Ieee.lt
+each-kind = refl
+
+abbrev minus-zero : Value
+minus-zero = Float (2 ^ 63)
+
+-- where the left value is less, and with the sides swapped greater
+abbrev pairs-in-order : List (Value × Value)
+pairs-in-order =
+    (boolean false, boolean true)
+    ∷ (Integer (negsuc 0), Integer (pos 0))
+    ∷ (Integer (pos (2 ^ 53)), Integer (pos (2 ^ 53 + 1)))
+    -- the first bytes that differ, compared without a sign; and 'a' before 'ab'
+    ∷ (String (97 ∷ 127 ∷ 255 ∷ []), String (97 ∷ 128 ∷ []))
+    ∷ (String (97 ∷ []), String (97 ∷ 98 ∷ []))
+    ∷ (String [], String (0 ∷ []))
+    -- −∞ and −1, −0.0 and the smallest double above 0, 2^53 and 2^53 + 2
+    ∷ (Float 0xFFF0000000000000, Float 0xBFF0000000000000)
+    ∷ (minus-zero, Float 1)
+    ∷ (Integer (pos (2 ^ 53)), Float 0x4340000000000001)
+    ∷ (Float 0x4340000000000000, Integer (pos (2 ^ 53 + 2)))
+    ∷ []
+
+in-order : map {B = Comparison × Comparison} (λ (p : Value × Value). (compare (p .0) (p .1), compare (p .1) (p .0))) pairs-in-order ≡ replicate 10 (Found Less, Found Greater)
+unfolding compare-integers compare-floats compare-bytes Ieee.ofInt Ieee.ofBits Ieee.eq Ieee.lt
+in-order = refl
+
+-- false, zeros of both signs, an Integer 0 with one, and 2^53 + 1, which is rounded to 2^53
+equal-pairs : compare (boolean false) (boolean false) ∷ compare minus-zero (Float 0) ∷ compare (Integer (pos 0)) minus-zero ∷ compare (Float 0x4340000000000000) (Integer (pos (2 ^ 53 + 1))) ∷ [] ≡ replicate 4 (Found Equal)
+unfolding compare-floats Ieee.ofInt Ieee.ofBits Ieee.eq Ieee.lt
+equal-pairs = refl
+
+-- each operator at Less, Equal, Greater, Unordered, NotComparable and Null
+abbrev findings : (Value → Value → Result Value) → List (Result Value)
+findings operator =
+    operator (boolean false) (boolean true)
+    ∷ operator (boolean true) (boolean true)
+    ∷ operator (boolean true) (boolean false)
+    ∷ operator (Float the-nan) (Float the-nan)
+    ∷ operator (Float the-nan) (boolean true)
+    ∷ operator null (Float the-nan)
+    ∷ []
+
+abbrev T : Result Value
+T = ok (boolean true)
+
+abbrev F : Result Value
+F = ok (boolean false)
+
+each-operator : findings less-than ∷ findings equal ∷ findings greater-than ∷ [] ≡
+    ((T ∷ F ∷ F ∷ F ∷ err mismatch ∷ ok null ∷ [])
+    ∷ (F ∷ T ∷ F ∷ F ∷ err mismatch ∷ ok null ∷ [])
+    ∷ (F ∷ F ∷ T ∷ F ∷ err mismatch ∷ ok null ∷ [])
+    ∷ [])
 unfolding compare-floats Ieee.ofBits Ieee.eq Ieee.lt
-nan-equals-itself = refl
+each-operator = refl
 
--- 'a' < 'ab'
-shorter : less-than (String (97 ∷ [])) (String (97 ∷ 98 ∷ [])) ≡ ok (boolean true)
-unfolding compare-bytes
-shorter = refl
-
-false-less-than-true : less-than (boolean false) (boolean true) ≡ ok (boolean true)
-false-less-than-true = refl
+-- ---- logic
 
 unknown-and-false : logical-and null (boolean false) ≡ ok (boolean false)
 unknown-and-false = refl

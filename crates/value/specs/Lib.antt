@@ -4,5 +4,6 @@ pub mod Tables
 pub mod Comparison
 pub mod Arithmetic
 pub mod Undefined
+pub mod ComparisonLaws
 pub mod Meaning
 pub mod Examples

@@ -3,9 +3,8 @@ use mathlib.Core.Path.{ap, _∙_}
 use denote.Ref.{now}
 use borrow.Author.Needs.{needs}
 use Rattle.value.proofs.Laws.{read-back}
-use Rattle.comparison.proofs.Laws.{null-first}
 use Rattle.value.specs.Meaning.{meaning}
-use Rattle.value.specs.Comparison.{compared}
+use Rattle.value.specs.Comparison.{compare}
 use Rattle.value.specs.Value.{datum, integer}
 use Rattle.comparison.proofs.compare.Statement.{statement}
 use Rattle.comparison.proofs.compare.Tie as tie
@@ -38,22 +37,22 @@ compare-string-requires : tie.Need-compare-string-requires
 compare-string-requires c κs = search needs
 
 returns : tie.Need-returns
-returns c test = rw (c .enum-told .given .1) (null-first test (meaning (now (c .before .before .before .args .text)) (c .before .before .before .args .rhs)))
+returns c = rw (c .enum-told .given .1)
 
 returns-2 : tie.Need-returns-2
-returns-2 c test = rw (c .before .before .lhs .given .1) (c .compare-boolean .ensures (now (c .before .before .before .before .before .args .text)) test)
+returns-2 c = rw (c .before .before .lhs .given .1) (c .compare-boolean .ensures (now (c .before .before .before .before .before .args .text)))
 
 returns-3 : tie.Need-returns-3
-returns-3 c test =
+returns-3 c =
     rw (c .before .before .lhs2 .given .1)
-    (c .compare-integer .ensures (now (c .before .before .before .before .before .args .text)) test
-    ∙ ap (λ i. compared test (datum (integer i)) (meaning (now (c .before .before .before .before .before .args .text)) (c .before .before .before .before .before .args .rhs))) (read-back (c .before .before .lhs2 .given .0 .0) (c .before .known-told2 .given .0 .1)))
+    (c .compare-integer .ensures (now (c .before .before .before .before .before .args .text))
+    ∙ ap (λ i. compare (datum (integer i)) (meaning (now (c .before .before .before .before .before .args .text)) (c .before .before .before .before .before .args .rhs))) (read-back (c .before .before .lhs2 .given .0 .0) (c .before .known-told2 .given .0 .1)))
 
 returns-4 : tie.Need-returns-4
-returns-4 c test = rw (c .before .before .lhs3 .given .1) (c .compare-float .ensures (now (c .before .before .before .before .before .args .text)) test)
+returns-4 c = rw (c .before .before .lhs3 .given .1) (c .compare-float .ensures (now (c .before .before .before .before .before .args .text)))
 
 returns-5 : tie.Need-returns-5
-returns-5 c test = rw (c .before .before .lhs4 .given .1) (c .compare-string .ensures test)
+returns-5 c = rw (c .before .before .lhs4 .given .1) (c .compare-string .ensures)
 
 pub compare-spec : {M : Type 1} → statement M
 compare-spec =

@@ -1,10 +1,9 @@
 -- `comparison::compare_boolean` meets its contract.
-use mathlib.Core.Path.{ap, _∙_}
 use borrow.Author.Needs.{needs}
 use Rattle.value.proofs.Laws.{data-left}
-use Rattle.comparison.proofs.Laws.{null-second, booleans, against-boolean}
-use Rattle.value.specs.Comparison.{answer, compared}
-use Rattle.value.specs.Value.{boolean, err, mismatch}
+use Rattle.comparison.proofs.Laws.{null-boolean, boolean-datum}
+use Rattle.value.specs.Comparison.{Found, NotComparable, compare}
+use Rattle.value.specs.Value.{boolean}
 use Rattle.comparison.proofs.compare_boolean.Statement.{statement}
 use Rattle.comparison.proofs.compare_boolean.Tie as tie
 
@@ -18,13 +17,13 @@ compare-booleans-requires : tie.Need-compare-booleans-requires
 compare-booleans-requires c κs = search needs
 
 returns : tie.Need-returns
-returns c text test = rw (c .enum-told .given .1) (null-second test (c .before .before .args .a))
+returns c text = rw (c .enum-told .given .1) (null-boolean (c .before .before .args .a))
 
 returns-2 : tie.Need-returns-2
-returns-2 c text test = rw (c .before .before .rhs .given .1) (ap (answer test) (c .compare-booleans .ensures) ∙ booleans test (c .before .before .before .before .args .a) (c .before .before .rhs .given .0 .0))
+returns-2 c text = rw (c .before .before .rhs .given .1) (c .compare-booleans .ensures)
 
 returns-3 : tie.Need-returns-3
-returns-3 c text test = data-left (err mismatch) (compared test (boolean (c .before .args .a))) (λ d. against-boolean (c .before .args .a)) text (c .before .args .rhs) (c .match .keys3)
+returns-3 c text = data-left (Found NotComparable) (compare (boolean (c .before .args .a))) (boolean-datum (c .before .args .a)) text (c .before .args .rhs) (c .match .keys3)
 
 pub compare-boolean-spec : {M : Type 1} → statement M
 compare-boolean-spec =

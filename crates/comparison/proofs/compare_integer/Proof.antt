@@ -4,8 +4,9 @@ use mir.ValLaws.{toZ-ofZ}
 use mir.Syntax.{w64}
 use borrow.Author.Needs.{needs}
 use Rattle.value.proofs.Laws.{kept, read-back}
-use Rattle.comparison.proofs.Laws.{against-boolean}
-use Rattle.value.specs.Comparison.{answer, compare-integers, compare-floats}
+use Rattle.comparison.proofs.Laws.{datum-boolean}
+use Rattle.value.specs.Value.{integer}
+use Rattle.value.specs.Comparison.{Found, compare-integers, compare-floats}
 use Rattle.comparison.proofs.compare_integer.Statement.{statement}
 use Rattle.comparison.proofs.compare_integer.Tie as tie
 
@@ -34,25 +35,25 @@ enum-told-3 : tie.Need-enum-told-3
 enum-told-3 c = search needs
 
 returns : tie.Need-returns
-returns c text test = rw (c .enum-told .given .1)
+returns c text = rw (c .enum-told .given .1)
 
 returns-2 : tie.Need-returns-2
-returns-2 c text test =
+returns-2 c text =
     rw (c .before .before .rhs .given .1)
-    (ap (answer test) (c .compare-integers .ensures ∙ ap₂ compare-integers (toZ-ofZ w64 (c .before .before .before .before .args .a) (c .before .before .before .before .fits .a)) (read-back (c .before .before .rhs .given .0 .0) (c .before .known-told .given .0 .1))))
+    (ap Found (c .compare-integers .ensures ∙ ap₂ compare-integers (toZ-ofZ w64 (c .before .before .before .before .args .a) (c .before .before .before .before .fits .a)) (read-back (c .before .before .rhs .given .0 .0) (c .before .known-told .given .0 .1))))
 
 returns-3 : tie.Need-returns-3
-returns-3 c text test =
+returns-3 c text =
     rw (c .before .before .before .rhs2 .given .1)
-    (ap (answer test)
+    (ap Found
     (c .compare-floats .ensures
     ∙ ap₂ compare-floats (rw (toZ-ofZ w64 (c .before .before .before .before .before .args .a) (c .before .before .before .before .before .fits .a)) at (c .before .nearest-f64 .ensures .of-int)) (sym (kept (c .before .before .before .rhs2 .given .0 .0) (c .before .before .known-told2 .given .0 .1)))))
 
 returns-4 : tie.Need-returns-4
-returns-4 c text test = rw (c .enum-told2 .given .1) (against-boolean (c .enum-told2 .given .0 .0))
+returns-4 c text = rw (c .enum-told2 .given .1) (datum-boolean (integer (c .before .before .args .a)) (c .enum-told2 .given .0 .0))
 
 returns-5 : tie.Need-returns-5
-returns-5 c text test = rw (c .enum-told3 .given .1)
+returns-5 c text = rw (c .enum-told3 .given .1)
 
 pub compare-integer-spec : {M : Type 1} → statement M
 compare-integer-spec =

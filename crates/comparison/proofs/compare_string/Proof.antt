@@ -1,8 +1,11 @@
 -- `comparison::compare_string` meets its contract.
 use mathlib.Core.Path.{ap, ap₂, _∙_}
+use denote.Ref.{now}
 use borrow.Author.Needs.{needs}
-use Rattle.comparison.proofs.Laws.{against-boolean}
-use Rattle.value.specs.Comparison.{answer, compare-bytes}
+use Rattle.comparison.proofs.Laws.{datum-boolean}
+use Rattle.value.specs.Value.{string}
+use Rattle.value.specs.Meaning.{bytes-at}
+use Rattle.value.specs.Comparison.{Found, compare-bytes}
 use Rattle.comparison.proofs.compare_string.Statement.{statement}
 use Rattle.comparison.proofs.compare_string.Tie as tie
 
@@ -31,21 +34,21 @@ enum-told-4 : tie.Need-enum-told-4
 enum-told-4 c = search needs
 
 returns : tie.Need-returns
-returns c test = rw (c .enum-told .given .1)
+returns c = rw (c .enum-told .given .1)
 
 returns-2 : tie.Need-returns-2
-returns-2 c test =
+returns-2 c =
     rw (c .before .before .before .before .rhs .given .1)
-    (ap (answer test) (c .compare-bytes .ensures ∙ ap₂ compare-bytes (c .before .before .bytes-at .ensures) (c .before .bytes-at2 .ensures)))
+    (ap Found (c .compare-bytes .ensures ∙ ap₂ compare-bytes (c .before .before .bytes-at .ensures) (c .before .bytes-at2 .ensures)))
 
 returns-3 : tie.Need-returns-3
-returns-3 c test = rw (c .enum-told2 .given .1) (against-boolean (c .enum-told2 .given .0 .0))
+returns-3 c = rw (c .enum-told2 .given .1) (datum-boolean (string (c .before .before .before .args .a) (bytes-at (now (c .before .before .before .args .text)) (c .before .before .before .args .a))) (c .enum-told2 .given .0 .0))
 
 returns-4 : tie.Need-returns-4
-returns-4 c test = rw (c .enum-told3 .given .1)
+returns-4 c = rw (c .enum-told3 .given .1)
 
 returns-5 : tie.Need-returns-5
-returns-5 c test = rw (c .enum-told4 .given .1)
+returns-5 c = rw (c .enum-told4 .given .1)
 
 pub compare-string-spec : {M : Type 1} → statement M
 compare-string-spec =

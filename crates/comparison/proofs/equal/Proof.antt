@@ -2,7 +2,6 @@
 use mathlib.Core.Path.{_∙_}
 use denote.Ref.{now}
 use borrow.Author.Needs.{needs}
-use Rattle.value.specs.Comparison.{is-equal}
 use Rattle.comparison.proofs.equal.Statement.{statement}
 use Rattle.comparison.proofs.equal.Tie as tie
 
@@ -16,7 +15,7 @@ answer-requires : tie.Need-answer-requires
 answer-requires c κs = search needs
 
 returns : tie.Need-returns
-returns c = c .answer .ensures (now (c .before .before .before .before .args .text)) is-equal (c .before .is-equal .ensures) ∙ c .before .before .compare .ensures is-equal
+returns c = c .answer .ensures (now (c .before .before .before .before .args .text)) ∙ rw (c .before .is-equal .ensures, c .before .before .compare .ensures)
 
 pub equal-spec : {M : Type 1} → statement M
 equal-spec = tie.close (tie.spec compare-requires is-equal-requires answer-requires returns)

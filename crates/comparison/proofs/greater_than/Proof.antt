@@ -2,7 +2,6 @@
 use mathlib.Core.Path.{_∙_}
 use denote.Ref.{now}
 use borrow.Author.Needs.{needs}
-use Rattle.value.specs.Comparison.{is-greater}
 use Rattle.comparison.proofs.greater_than.Statement.{statement}
 use Rattle.comparison.proofs.greater_than.Tie as tie
 
@@ -16,7 +15,7 @@ answer-requires : tie.Need-answer-requires
 answer-requires c κs = search needs
 
 returns : tie.Need-returns
-returns c = c .answer .ensures (now (c .before .before .before .before .args .text)) is-greater (c .before .is-greater .ensures) ∙ c .before .before .compare .ensures is-greater
+returns c = c .answer .ensures (now (c .before .before .before .before .args .text)) ∙ rw (c .before .is-greater .ensures, c .before .before .compare .ensures)
 
 pub greater-than-spec : {M : Type 1} → statement M
 greater-than-spec =

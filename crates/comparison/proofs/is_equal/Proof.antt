@@ -3,7 +3,7 @@ use mathlib.Core.Path.{_≡_, refl}
 use mathlib.Core.Bool.{false}
 use mathlib.Core.List.{[], _∷_}
 use borrow.Author.Needs.{needs}
-use Rattle.value.specs.Comparison.{is-equal}
+use Rattle.value.specs.Comparison.{Found, is-equal}
 use Rattle.comparison.specs.Findings.{finding}
 use Rattle.comparison.proofs.Laws.{at-finding-places}
 use Rattle.comparison.proofs.is_equal.Statement.{statement}
@@ -22,7 +22,7 @@ returns : tie.Need-returns
 returns c = search needs
 
 returns-2 : tie.Need-returns-2
-returns-2 c = rw (c .before .before .c .given .1) (at-finding-places (0 ∷ 2 ∷ 3 ∷ 4 ∷ []) (λ f. false ≡ is-equal (finding f)) (λ h. refl) (λ h. absurd h) (λ h. refl) (λ h. refl) (λ h. refl) (c .before .before .c .given .0 .0) (c .match2 .keys2))
+returns-2 c = rw (c .before .before .c .given .1) (at-finding-places (0 ∷ 2 ∷ 3 ∷ 4 ∷ []) (λ f. false ≡ is-equal (Found (finding f))) (λ h. refl) (λ h. absurd h) (λ h. refl) (λ h. refl) (λ h. refl) (c .before .before .c .given .0 .0) (c .match2 .keys2))
 
 returns-3 : tie.Need-returns-3
 returns-3 c = search needs

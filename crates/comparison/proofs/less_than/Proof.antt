@@ -2,7 +2,6 @@
 use mathlib.Core.Path.{_∙_}
 use denote.Ref.{now}
 use borrow.Author.Needs.{needs}
-use Rattle.value.specs.Comparison.{is-less}
 use Rattle.comparison.proofs.less_than.Statement.{statement}
 use Rattle.comparison.proofs.less_than.Tie as tie
 
@@ -16,7 +15,7 @@ answer-requires : tie.Need-answer-requires
 answer-requires c κs = search needs
 
 returns : tie.Need-returns
-returns c = c .answer .ensures (now (c .before .before .before .before .args .text)) is-less (c .before .is-less .ensures) ∙ c .before .before .compare .ensures is-less
+returns c = c .answer .ensures (now (c .before .before .before .before .args .text)) ∙ rw (c .before .is-less .ensures, c .before .before .compare .ensures)
 
 pub less-than-spec : {M : Type 1} → statement M
 less-than-spec = tie.close (tie.spec compare-requires is-less-requires answer-requires returns)
