@@ -13,13 +13,13 @@ use Rattle.short_circuit.proofs.short_circuit_node.Reads as short-circu
 use Rattle.stream.proofs.finish.Reads as finish-reads
 
 abbrev Inv-loop : tie.InvT-loop
-Inv-loop x end hi tail y₀ at u z₀ widths names columns m₀ n₀ y z m n =
+Inv-loop x end hi tail y₀ at u z₀ records columns m₀ n₀ y z m n =
     (length z ≡ length z₀)
     × ((length y ≡ length y₀)
-    × ((lo : ℕ) (s : List ℕ) → Climbing widths names columns x lo end hi tail s at u y₀ → Climbing widths names columns x lo m hi tail s at n y))
+    × ((lo : ℕ) (s : List ℕ) → Climbing records columns x lo end hi tail s at u y₀ → Climbing records columns x lo m hi tail s at n y))
 
 abbrev μ-loop : tie.MeasureT-loop
-μ-loop x end hi tail y₀ at u z₀ widths names columns m₀ n₀ y z m n = hi - m
+μ-loop x end hi tail y₀ at u z₀ records columns m₀ n₀ y z m n = hi - m
 
 loop-holds : tie.Need-loop-holds Inv-loop μ-loop
 loop-holds c = (refl, (refl, λ lo s g. g))
