@@ -14,7 +14,7 @@ use Rattle.chain.proofs.Bare.{bare-in}
 use Rattle.stream.specs.Stream.{Finishes}
 use Rattle.stream.proofs.Streams.{stream-in}
 use Rattle.short_circuit.specs.ShortCircuit.{CircuitsNode, CircuitAt, Circuits, Climbing}
-use Rattle.short_circuit.proofs.Pass.{names-at, source-at, over-ready, over-stop, over-circuits}
+use Rattle.short_circuit.proofs.Pass.{records-at, source-at, over-ready, over-stop, over-circuits}
 
 -- what is left to read behind a node, and behind its source
 behind : (end hi tail : ℕ) → end + cell-words ≤ hi → tail + (hi - (end + cell-words)) + (end + cell-words - end) ≡ tail + (hi - end)
@@ -49,8 +49,8 @@ module _ {records columns x : List ℕ} {lo end hi tail : ℕ} {y₀ : List ℕ}
   pub climb-end : hi ≤ end → Circuits records columns x lo hi tail y₀ at u y
   climb-end h = let k = bare-in (g .bare) in circuits-as (omega arith) (omega arith) (g .below)
 
-  pub climb-names : RecordsAt records columns
-  climb-names = names-at (g .given)
+  pub climb-records : RecordsAt records columns
+  climb-records = records-at (g .given)
 
   module _ (h : end < hi) where
     -- the next bare node

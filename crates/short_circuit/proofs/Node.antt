@@ -23,6 +23,7 @@ use Rattle.words.proofs.Nodes.{node-in, node-cell-is}
 use Rattle.words.proofs.Sizes.{words-long, all-single, sized-long}
 use Rattle.nodes.specs.Columns.{Narrow, ColumnsAt, ColumnCount}
 use Rattle.records.specs.Records.{Records, RecordsAt, Tables}
+use Rattle.records.proofs.Laws.{tables-said}
 use Rattle.nodes.proofs.Widths.{few-columns}
 use Rattle.column_labels.specs.ColumnLabels.{marked, WritesLabels}
 use Rattle.remove_useless.specs.RemoveUseless.{Removes}
@@ -90,7 +91,7 @@ module _ {records y : List ℕ} {lo hi n : ℕ} (c : ColumnCount records y lo hi
     pub labels-end : RecordsAt records columns′ → ColumnsAt records y lo hi → end ≤ length z₁
     labels-end g t =
         let p = labels-part (g .schema) (t .p) (g .given) (t .here) in
-        omega (arith, k₁, h, p .high, labels-long new (g .schema) (t .p), c (g .schema) (t .p) (g .given .tables) (t .here))
+        omega (arith, k₁, h, p .high, labels-long new (g .schema) (t .p), c (g .schema) (t .p) (tables-said (g .given)) (t .here))
 
     pub emptied : {tail : ℕ} → lo + (cell-words * n + cell-words) + tail ≤ length y → length y ≤ most-words → {at r : ℕ} {y₁ y₂ : List ℕ} → length y₁ ≡ length y → Copies z₁ 0 end y lo at y₁
         → Seals y₁ lo at (record { origin = new; tag = 57; flag = 0; a = n; b = 0; c = 0 }) r y₂ → Empties records columns′ y lo hi tail r y₂

@@ -30,6 +30,7 @@ use Rattle.words.proofs.Sizes.{expression-long, words-long}
 use Rattle.nodes.specs.Own.{OwnStart, SourceCount}
 use Rattle.nodes.specs.Columns.{ColumnsAt}
 use Rattle.records.specs.Records.{Records, RecordsAt}
+use Rattle.records.proofs.Laws.{tables-said}
 use Rattle.edit.specs.Edit.{Shares}
 use Rattle.kept.specs.Kept.{Kept, sound-narrow}
 use Rattle.stream.specs.Stream.{Reading, Streamed, Finishes}
@@ -58,7 +59,7 @@ module _ {records columns′ : List ℕ} {schema : Schema} {text : List ℕ} {ta
   written-at i =
       record {
         schema = schema;
-        tables = g .tables;
+        tables = tables-said g;
         p = q;
         here = done-here q h s;
         narrow = sound-narrow schema text tables q (s .is .1 .1 .0);
@@ -76,8 +77,8 @@ module _ {records columns′ : List ℕ} {schema : Schema} {text : List ℕ} {ta
 -- ---- what is asked for
 
 module _ {records columns′ x : List ℕ} {lo hi tail : ℕ} {y : List ℕ} {at : ℕ} (d : CircuitAt records columns′ x lo hi tail y at) where
-  pub names-at : RecordsAt records columns′
-  names-at = record { schema = d .stream .schema; given = d .stream .lent }
+  pub records-at : RecordsAt records columns′
+  records-at = record { schema = d .stream .schema; given = d .stream .lent }
 
   -- the node there, and its source or sources
   with-leaf : SourceCount x lo hi 0 → (P : Type 0)

@@ -1,5 +1,5 @@
 // optimizer.rs, pass 5: ShortCircuit. The plan is read in x, and what becomes of it is written to y, sources before the node (crate stream). z is a
-// scratch for labels. tables, names and columns are what is lent of the schema (crate labels).
+// scratch for labels. tables and columns are the schema's records (crate records).
 ghost use mathlib.Core.Path.{_≡_};
 ghost use Prim.Native.Nat.{_+_, _≤_};
 ghost use lib.ListN.{length};

@@ -1,4 +1,4 @@
-use Rattle.short_circuit.proofs.Climbing.{climb-stop, climb-end, climb-names, climb-in, climb-ready, climb-next}
+use Rattle.short_circuit.proofs.Climbing.{climb-stop, climb-end, climb-records, climb-in, climb-ready, climb-next}
 use Rattle.short_circuit.specs.ShortCircuit.{Climbing}
 use Prim.Native.Nat.{ℕ, _-_}
 use native.Mathlib.Omega.{arith}
@@ -34,25 +34,25 @@ returns : tie.Need-returns Inv-loop μ-loop
 returns c = λ lo s g. climb-stop (c .before .before .loop .inv .1 .1 lo s g) (c .if1 .taken)
 
 add-finish : tie.Need-add-finish Inv-loop μ-loop
-add-finish c = let (h, (i, (j, k))) = climb-in (c .before .before .loop .inv .1 .1 (c .before .before .before .before .before .before .before .before .before .pre .0 .lo) (c .before .before .before .before .before .before .before .before .before .pre .0 .y₀) (c .before .before .before .before .before .before .before .before .before .pre .0 .is)) (c .before .loop-test .taken) in omega arith
+add-finish c = let (h, (i, (j, k))) = climb-in (c .before .before .loop .inv .1 .1 (c .before .before .before .before .before .before .before .before .pre .0 .lo) (c .before .before .before .before .before .before .before .before .pre .0 .y₀) (c .before .before .before .before .before .before .before .before .pre .0 .is)) (c .before .loop-test .taken) in omega arith
 
 finish-requires : tie.Need-finish-requires Inv-loop μ-loop
-finish-requires c κs = let (h, (i, (j, k))) = climb-in (c .before .before .before .loop .inv .1 .1 (c .before .before .before .before .before .before .before .before .before .before .pre .0 .lo) (c .before .before .before .before .before .before .before .before .before .before .pre .0 .y₀) (c .before .before .before .before .before .before .before .before .before .before .pre .0 .is)) (c .before .before .loop-test .taken) in (omega arith, omega arith)
+finish-requires c κs = let (h, (i, (j, k))) = climb-in (c .before .before .before .loop .inv .1 .1 (c .before .before .before .before .before .before .before .before .before .pre .0 .lo) (c .before .before .before .before .before .before .before .before .before .pre .0 .y₀) (c .before .before .before .before .before .before .before .before .before .pre .0 .is)) (c .before .before .loop-test .taken) in (omega arith, omega arith)
 
 add-m : tie.Need-add-m Inv-loop μ-loop
-add-m c = let (h, (i, (j, k))) = climb-in (c .before .before .before .before .before .before .loop .inv .1 .1 (c .before .before .before .before .before .before .before .before .before .before .before .before .before .pre .0 .lo) (c .before .before .before .before .before .before .before .before .before .before .before .before .before .pre .0 .y₀) (c .before .before .before .before .before .before .before .before .before .before .before .before .before .pre .0 .is)) (c .before .before .before .before .before .loop-test .taken) in omega arith
+add-m c = let (h, (i, (j, k))) = climb-in (c .before .before .before .before .before .before .loop .inv .1 .1 (c .before .before .before .before .before .before .before .before .before .before .before .before .pre .0 .lo) (c .before .before .before .before .before .before .before .before .before .before .before .before .pre .0 .y₀) (c .before .before .before .before .before .before .before .before .before .before .before .before .pre .0 .is)) (c .before .before .before .before .before .loop-test .taken) in omega arith
 
 sub-short-circuit-node : tie.Need-sub-short-circuit-node Inv-loop μ-loop
-sub-short-circuit-node c = omega (arith, climb-in (c .before .before .before .before .before .before .before .loop .inv .1 .1 (c .before .before .before .before .before .before .before .before .before .before .before .before .before .before .pre .0 .lo) (c .before .before .before .before .before .before .before .before .before .before .before .before .before .before .pre .0 .y₀) (c .before .before .before .before .before .before .before .before .before .before .before .before .before .before .pre .0 .is)) (c .before .before .before .before .before .before .loop-test .taken) .0)
+sub-short-circuit-node c = omega (arith, climb-in (c .before .before .before .before .before .before .before .loop .inv .1 .1 (c .before .before .before .before .before .before .before .before .before .before .before .before .before .pre .0 .lo) (c .before .before .before .before .before .before .before .before .before .before .before .before .before .pre .0 .y₀) (c .before .before .before .before .before .before .before .before .before .before .before .before .before .pre .0 .is)) (c .before .before .before .before .before .before .loop-test .taken) .0)
 
 add-short-circuit-node : tie.Need-add-short-circuit-node Inv-loop μ-loop
-add-short-circuit-node c = let (h, (i, (j, k))) = climb-in (c .before .before .before .before .before .before .before .loop .inv .1 .1 (c .before .before .before .before .before .before .before .before .before .before .before .before .before .before .pre .0 .lo) (c .before .before .before .before .before .before .before .before .before .before .before .before .before .before .pre .0 .y₀) (c .before .before .before .before .before .before .before .before .before .before .before .before .before .before .pre .0 .is)) (c .before .before .before .before .before .before .loop-test .taken) in omega arith
+add-short-circuit-node c = let (h, (i, (j, k))) = climb-in (c .before .before .before .before .before .before .before .loop .inv .1 .1 (c .before .before .before .before .before .before .before .before .before .before .before .before .before .pre .0 .lo) (c .before .before .before .before .before .before .before .before .before .before .before .before .before .pre .0 .y₀) (c .before .before .before .before .before .before .before .before .before .before .before .before .before .pre .0 .is)) (c .before .before .before .before .before .before .loop-test .taken) in omega arith
 
 short-circuit-node-requires : tie.Need-short-circuit-node-requires Inv-loop μ-loop
-short-circuit-node-requires c κs = let (a, b) = climb-ready (c .before .before .before .before .before .before .before .before .loop .inv .1 .1 (c .before .before .before .before .before .before .before .before .before .before .before .before .before .before .before .pre .0 .lo) (c .before .before .before .before .before .before .before .before .before .before .before .before .before .before .before .pre .0 .y₀) (c .before .before .before .before .before .before .before .before .before .before .before .before .before .before .before .pre .0 .is)) (c .before .before .before .before .before .before .before .loop-test .taken) (c .before .before .before .before .before .before .if1 .left) (c .before .before .before .before .finish .kept .1 .1 .1 .0) (c .before .before .before .before .finish .ensures) in (a, (climb-names (c .before .before .before .before .before .before .before .before .loop .inv .1 .1 (c .before .before .before .before .before .before .before .before .before .before .before .before .before .before .before .pre .0 .lo) (c .before .before .before .before .before .before .before .before .before .before .before .before .before .before .before .pre .0 .y₀) (c .before .before .before .before .before .before .before .before .before .before .before .before .before .before .before .pre .0 .is)), (c .before .before .before .before .before .before .before .before .loop .inv .0 ∙ c .before .before .before .before .before .before .before .before .before .before .before .before .before .before .before .pre .1 ∙ sym (c .before .before .before .before .finish .kept .1 .1 .1 .0 ∙ c .before .before .before .before .before .before .before .before .loop .inv .1 .0), b)))
+short-circuit-node-requires c κs = let (a, b) = climb-ready (c .before .before .before .before .before .before .before .before .loop .inv .1 .1 (c .before .before .before .before .before .before .before .before .before .before .before .before .before .before .pre .0 .lo) (c .before .before .before .before .before .before .before .before .before .before .before .before .before .before .pre .0 .y₀) (c .before .before .before .before .before .before .before .before .before .before .before .before .before .before .pre .0 .is)) (c .before .before .before .before .before .before .before .loop-test .taken) (c .before .before .before .before .before .before .if1 .left) (c .before .before .before .before .finish .kept .1 .1 .1 .0) (c .before .before .before .before .finish .ensures) in (a, (climb-records (c .before .before .before .before .before .before .before .before .loop .inv .1 .1 (c .before .before .before .before .before .before .before .before .before .before .before .before .before .before .pre .0 .lo) (c .before .before .before .before .before .before .before .before .before .before .before .before .before .before .pre .0 .y₀) (c .before .before .before .before .before .before .before .before .before .before .before .before .before .before .pre .0 .is)), (c .before .before .before .before .before .before .before .before .loop .inv .0 ∙ c .before .before .before .before .before .before .before .before .before .before .before .before .before .before .pre .1 ∙ sym (c .before .before .before .before .finish .kept .1 .1 .1 .0 ∙ c .before .before .before .before .before .before .before .before .loop .inv .1 .0), b)))
 
 loop-less : tie.Need-loop-less Inv-loop μ-loop
-loop-less c = let (h, (i, (j, k))) = climb-in (c .before .before .before .before .before .before .before .before .before .before .before .before .before .loop .inv .1 .1 (c .before .before .before .before .before .before .before .before .before .before .before .before .before .before .before .before .before .before .before .before .pre .0 .lo) (c .before .before .before .before .before .before .before .before .before .before .before .before .before .before .before .before .before .before .before .before .pre .0 .y₀) (c .before .before .before .before .before .before .before .before .before .before .before .before .before .before .before .before .before .before .before .before .pre .0 .is)) (c .before .before .before .before .before .before .before .before .before .before .before .before .loop-test .taken) in omega arith
+loop-less c = let (h, (i, (j, k))) = climb-in (c .before .before .before .before .before .before .before .before .before .before .before .before .before .loop .inv .1 .1 (c .before .before .before .before .before .before .before .before .before .before .before .before .before .before .before .before .before .before .before .pre .0 .lo) (c .before .before .before .before .before .before .before .before .before .before .before .before .before .before .before .before .before .before .before .pre .0 .y₀) (c .before .before .before .before .before .before .before .before .before .before .before .before .before .before .before .before .before .before .before .pre .0 .is)) (c .before .before .before .before .before .before .before .before .before .before .before .before .loop-test .taken) in omega arith
 
 loop-again : tie.Need-loop-again Inv-loop μ-loop
 loop-again c = (c .before .before .before .before .short-circuit-node .kept .1 .1 .1 .1 .0 ∙ c .before .before .before .before .before .before .before .before .before .before .before .before .before .loop .inv .0, (c .before .before .before .before .short-circuit-node .kept .0 ∙ c .before .before .before .before .before .before .before .before .before .finish .kept .1 .1 .1 .0 ∙ c .before .before .before .before .before .before .before .before .before .before .before .before .before .loop .inv .1 .0, λ lo s g. climb-next (c .before .before .before .before .before .before .before .before .before .before .before .before .before .loop .inv .1 .1 lo s g) (c .before .before .before .before .before .before .before .before .before .before .before .before .loop-test .taken) (c .before .before .before .before .before .before .before .before .before .before .before .if1 .left) (c .before .before .before .before .before .before .before .before .before .finish .kept .1 .1 .1 .0) (c .before .before .before .before .before .before .before .before .before .finish .ensures) (c .before .before .before .before .short-circuit-node .kept .0) (c .before .before .before .before .short-circuit-node .ensures)))
