@@ -142,7 +142,7 @@ marked-full new ls h w = let k = label-lengths new ls in no-more h (omega arith)
 
 -- The labels of the first i columns are written.
 pub record Labelled (new : ℕ) (records columns′ s : List ℕ) (lo hi : ℕ) (d : List ℕ) (at i n : ℕ) (d′ : List ℕ) : Type 0 where
-  pub is : (schema : Schema) (p : Node) → Records schema records columns′ → NodeHere s lo hi p
+  pub is : (schema : Schema) (p : Node) → Records records columns′ schema → NodeHere s lo hi p
       → Wrote d at (all-words label-words (marked new (map (column-label schema p) (up-to 0 i)))) n d′
 
 module _ (new : ℕ) {records columns′ s : List ℕ} {lo hi : ℕ} {d : List ℕ} {at : ℕ} where

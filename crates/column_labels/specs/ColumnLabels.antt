@@ -31,5 +31,5 @@ Marks new s lo hi d at n d′ =
 -- The labels of the node from lo up to hi, all with the origin `new`, are appended to the first `at` words of d, or have no room.
 abbrev pub WritesLabels : (new : ℕ) (records columns s : List ℕ) (lo hi : ℕ) (d : List ℕ) (at n : ℕ) → List ℕ → Type 0
 WritesLabels new records columns s lo hi d at n d′ =
-    (schema : Schema) (p : Node) → Records schema records columns → NodeHere s lo hi p
+    (schema : Schema) (p : Node) → Records records columns schema → NodeHere s lo hi p
     → Wrote d at (all-words label-words (marked new (column-labels schema p))) n d′

@@ -247,7 +247,7 @@ count-few t a = omega (arith, few-columns t, a (t .schema) (t .p) (t .tables) (t
 -- ---- the pass
 
 module _ {records x : List ℕ} {lo hi tail : ℕ} {y : List ℕ} {at : ℕ} where
-  pub columns-at : StreamAt (λ schema. Tables schema records) x lo hi tail y at → ColumnsAt records x lo hi
+  pub columns-at : StreamAt (Tables records) x lo hi tail y at → ColumnsAt records x lo hi
   columns-at g =
       record {
         schema = g .schema;
@@ -260,7 +260,7 @@ module _ {records x : List ℕ} {lo hi tail : ℕ} {y : List ℕ} {at : ℕ} whe
 
   -- what is written has room
   pub writes-streams : {n : ℕ} {y′ : List ℕ} → length y′ ≡ length y → Writes records x lo hi y at n y′
-      → Streams (λ schema. Tables schema records) (λ room schema rest p. done (HashJoin schema p)) x lo hi tail y at n y′
+      → Streams (Tables records) (λ room schema rest p. done (HashJoin schema p)) x lo hi tail y at n y′
   writes-streams k a schema text tables lent room rest p h =
       written-done (HashJoin schema p) (hash-keeps schema text tables p (h .fit .0)) k
       (omega (arith, reading-total h, words-long p, words-long (HashJoin schema p), hash-smaller schema p)) (h .shares .short) (a schema p lent (h .here))

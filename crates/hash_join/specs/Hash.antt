@@ -52,4 +52,4 @@ Rewrites n x m hi y at u k y′ =
 -- The node after pass 4 is appended to the first `at` words of y, or has no room.
 abbrev pub Writes : List ℕ → List ℕ → ℕ → ℕ → List ℕ → ℕ → ℕ → List ℕ → Type 0
 Writes records x lo hi y at n y′ =
-    (schema : Schema) (p : Node) → Tables schema records → NodeHere x lo hi p → Wrote y at (node-words (HashJoin schema p)) n y′
+    (schema : Schema) (p : Node) → Tables records schema → NodeHere x lo hi p → Wrote y at (node-words (HashJoin schema p)) n y′

@@ -151,8 +151,8 @@ fn hash_joins_of_source(
 
 // The pass: the plan in the first t words of x is written to y.
 pub fn optimize(x: &[u32], t: usize, y: &mut [u32], tables: &[u8]) -> usize
-    requires { ⌜ StreamAt (λ schema. Tables schema (now tables)) (now x) 0 t 0 (now y) 0 ⌝ }
-    ensures { λ r. ⌜ Streams (λ schema. Tables schema (now (tables .entry))) (λ room schema rest p. done (HashJoin schema p)) (now (x .entry)) 0 t 0 (now (y .entry)) 0 r (now (y .exit)) ⌝ }
+    requires { ⌜ StreamAt (Tables (now tables)) (now x) 0 t 0 (now y) 0 ⌝ }
+    ensures { λ r. ⌜ Streams (Tables (now (tables .entry))) (λ room schema rest p. done (HashJoin schema p)) (now (x .entry)) 0 t 0 (now (y .entry)) 0 r (now (y .exit)) ⌝ }
 {
     let plan = hash_joins(x, 0, t, y, 0, tables);
     plan.end

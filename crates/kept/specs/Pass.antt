@@ -16,11 +16,11 @@ pub record PassAt (records x : List ℕ) (t lo tail : ℕ) : Type 0 where
   pub schema : Schema
   pub text : List ℕ
   pub tables : ℕ
-  pub given : Tables schema records
+  pub given : Tables records schema
   pub held : Held (Kept schema text tables) x t lo tail
   pub short : length x ≤ most-words
 
 -- x′ with n words is x with t words after f, a function of the room, the schema, the number of cells outside the node, and the node.
 abbrev pub Passes : (ℕ → Schema → ℕ → Node → Answer Node) → (records x : List ℕ) (t lo tail n : ℕ) → List ℕ → Type 0
 Passes f records x t lo tail n x′ =
-    (schema : Schema) (text : List ℕ) (tables : ℕ) → Tables schema records → Edit (Kept schema text tables) (λ room. f room schema) x t lo tail n x′
+    (schema : Schema) (text : List ℕ) (tables : ℕ) → Tables records schema → Edit (Kept schema text tables) (λ room. f room schema) x t lo tail n x′

@@ -340,7 +340,7 @@ module _ {s : List ℕ} {lo hi m mid : ℕ} (c : SourceCount s lo hi 2) (own : O
 -- Where looking for a label has got to.
 pub record Way (records s : List ℕ) (lo hi i lo′ hi′ c w : ℕ) : Type 0 where
   pub there : CountedAt records s lo′ hi′ w
-  pub reaches : (schema : Schema) (p : Node) → Tables schema records → NodeHere s lo hi p → Reached schema s p i lo′ hi′ c w
+  pub reaches : (schema : Schema) (p : Node) → Tables records schema → NodeHere s lo hi p → Reached schema s p i lo′ hi′ c w
 
 module _ {records s : List ℕ} {lo hi i : ℕ} where
   pub way-first : (t : ColumnsAt records s lo hi) {w : ℕ} → ColumnCount records s lo hi w → Way records s lo hi i lo hi i w

@@ -101,7 +101,7 @@ Asked schema p w = through p ≡ 1 → w ≡ columns schema p
 
 -- r is the number of columns of the node there, where that is asked for.
 abbrev pub AskedCount : (records s : List ℕ) (lo hi r : ℕ) → Type 0
-AskedCount records s lo hi r = (schema : Schema) (p : Node) → Tables schema records → NodeHere s lo hi p → Asked schema p r
+AskedCount records s lo hi r = (schema : Schema) (p : Node) → Tables records schema → NodeHere s lo hi p → Asked schema p r
 
 -- Some node whose columns can be counted stands there, and has w of them, where that is asked for.
 pub record CountedAt (records s : List ℕ) (lo hi w : ℕ) : Type 0 where
@@ -111,12 +111,12 @@ pub record CountedAt (records s : List ℕ) (lo hi w : ℕ) : Type 0 where
 -- r is the number of columns of the left source of the node there, which has w columns.
 abbrev pub LeftColumns : (records s : List ℕ) (lo hi w r : ℕ) → Type 0
 LeftColumns records s lo hi w r =
-    (schema : Schema) (og : ℕ) (outer : Bool) (j : Join) (left right : Node) → Tables schema records → NodeHere s lo hi (join og outer j left right)
+    (schema : Schema) (og : ℕ) (outer : Bool) (j : Join) (left right : Node) → Tables records schema → NodeHere s lo hi (join og outer j left right)
     → w ≡ columns schema left + columns schema right → r ≡ columns schema left
 
 -- r is what the label of column i of the node there comes from.
 abbrev pub Traces : List ℕ → List ℕ → ℕ → ℕ → ℕ → Traced → Type 0
-Traces records s lo hi i r = (schema : Schema) (p : Node) → Tables schema records → NodeHere s lo hi p → named schema r ≡ column-label schema p i
+Traces records s lo hi i r = (schema : Schema) (p : Node) → Tables records schema → NodeHere s lo hi p → named schema r ≡ column-label schema p i
 
 -- Column i of p has the label of column c of the node from lo to hi, which has w columns, where that is asked for.
 pub record Reached (schema : Schema) (s : List ℕ) (p : Node) (i lo hi c w : ℕ) : Type 0 where
@@ -129,7 +129,7 @@ pub record Reached (schema : Schema) (s : List ℕ) (p : Node) (i lo hi c w : �
 pub record Moves (records s : List ℕ) (lo hi i w : ℕ) (x : Spot) : Type 0 where
   pub there : CountedAt records s (x .lo) (x .hi) (x .columns)
   pub shorter : x .hi - x .lo < hi - lo
-  pub reaches : (schema : Schema) (p : Node) → Tables schema records → NodeHere s lo hi p → Asked schema p w
+  pub reaches : (schema : Schema) (p : Node) → Tables records schema → NodeHere s lo hi p → Asked schema p w
       → Reached schema s p i (x .lo) (x .hi) (x .column) (x .columns)
 
 abbrev pub Steps : (records s : List ℕ) (lo hi i w : ℕ) → Next → Type 0

@@ -19,13 +19,13 @@ qualifier-text false alias name = name
 -- ---- contracts
 
 abbrev pub ColumnName : (records columns : List ℕ) (t i r : ℕ) → Type 0
-ColumnName records columns t i r = (schema : Schema) → Records schema records columns → r ≡ column-of schema t i .name
+ColumnName records columns t i r = (schema : Schema) → Records records columns schema → r ≡ column-of schema t i .name
 
 abbrev pub TableLabel : (records columns : List ℕ) (t : ℕ) (aliased : Bool) (alias i : ℕ) → Label → Type 0
 TableLabel records columns t aliased alias i r =
-    (schema : Schema) → Records schema records columns → label r ≡ table-label schema t (alias-if aliased alias) i
+    (schema : Schema) → Records records columns schema → label r ≡ table-label schema t (alias-if aliased alias) i
 
 -- r is the label of column i of the node there.
 abbrev pub ColumnLabel : (records columns s : List ℕ) (lo hi i : ℕ) → Label → Type 0
 ColumnLabel records columns s lo hi i r =
-    (schema : Schema) (p : Node) → Records schema records columns → NodeHere s lo hi p → label r ≡ column-label schema p i
+    (schema : Schema) (p : Node) → Records records columns schema → NodeHere s lo hi p → label r ≡ column-label schema p i

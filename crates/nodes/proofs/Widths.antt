@@ -47,7 +47,7 @@ values-few : (rs : List (List Expression × ℕ)) → values-columns rs ≤ sum 
 values-few [] = omega arith
 values-few (row ∷ rows) = omega (arith, sum-least size size-least (row .0))
 
-module _ {schema : Schema} {records : List ℕ} (w : Tables schema records) where
+module _ {schema : Schema} {records : List ℕ} (w : Tables records schema) where
   leaf-few : (l : Leaf) → leaf-columns schema l ≤ 256 * leaf-size l
   leaf-few (scan t al q) = omega (arith, w .width t, w .few t)
   leaf-few (lookup a t al vs) = omega (arith, w .width t, w .few t)
@@ -448,12 +448,12 @@ module _ {schema : Schema} {s : List ℕ} {lo end total : ℕ} (p : Node) (x : L
     pub last-at : NodeAt s from end
     last-at = last-here (NodeAt s from end) (λ f n v u c w. record { p = n; here = u })
 
-    pub last-columns-at : {records : List ℕ} → Tables schema records → Narrow p → end ≤ most-words → ColumnsAt records s from end
+    pub last-columns-at : {records : List ℕ} → Tables records schema → Narrow p → end ≤ most-words → ColumnsAt records s from end
     last-columns-at {records} t k i =
         last-here (ColumnsAt records s from end) (λ f n v u c w. record { schema = schema; tables = t; p = n; here = u; narrow = w k .1; short = i })
 
     -- a node that says its columns is counted
-    pub left-counted : {records : List ℕ} → Tables schema records → {r : ℕ} → ColumnCount records s from end r → Left schema s lo from (total + r) p
+    pub left-counted : {records : List ℕ} → Tables records schema → {r : ℕ} → ColumnCount records s from end r → Left schema s lo from (total + r) p
     left-counted t {r} g =
         last-here (Left schema s lo from (total + r) p)
         (λ f n v u c w. record { f = f; part = v; count = omega (arith, g schema n t u); narrow = λ k. w k .0 })
@@ -496,7 +496,7 @@ module _ {schema : Schema} {s : List ℕ} {lo end total : ℕ} (p : Node) (x : L
 
 -- Counting has got to `end`, with `total` columns.
 pub record Counting (records s : List ℕ) (lo hi end total : ℕ) : Type 0 where
-  pub all : (schema : Schema) (p : Node) → Tables schema records → NodeHere s lo hi p → Left schema s lo end total p
+  pub all : (schema : Schema) (p : Node) → Tables records schema → NodeHere s lo hi p → Left schema s lo end total p
   pub within : end ≤ hi
 
 pub counting-first : {records s : List ℕ} {lo hi : ℕ} → Counting records s lo hi hi 0

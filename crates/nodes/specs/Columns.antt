@@ -31,7 +31,7 @@ Narrow (join og outer j l r) = Narrow l × Narrow r
 -- Some such node of a schema whose table records are lent stands there, in a list that is short enough for its columns to be counted without overflow.
 pub record ColumnsAt (records s : List ℕ) (lo hi : ℕ) : Type 0 where
   pub schema : Schema
-  pub tables : Tables schema records
+  pub tables : Tables records schema
   pub p : Node
   pub here : NodeHere s lo hi p
   pub narrow : Narrow p
@@ -41,7 +41,7 @@ pub record ColumnsAt (records s : List ℕ) (lo hi : ℕ) : Type 0 where
 
 -- r is the number of columns of the node there.
 abbrev pub ColumnCount : List ℕ → List ℕ → ℕ → ℕ → ℕ → Type 0
-ColumnCount records s lo hi r = (schema : Schema) (p : Node) → Tables schema records → NodeHere s lo hi p → r ≡ columns schema p
+ColumnCount records s lo hi r = (schema : Schema) (p : Node) → Tables records schema → NodeHere s lo hi p → r ≡ columns schema p
 
 -- one past the target that a Target's cell says, if it says one
 abbrev pub past : (flag a : ℕ) → ℕ

@@ -47,7 +47,7 @@ pub record TriedAt (records x y : List ℕ) (at end t lo tail origin : ℕ) : Ty
   pub schema : Schema
   pub text : List ℕ
   pub tables : ℕ
-  pub given : Tables schema records
+  pub given : Tables records schema
   pub short : length x ≤ most-words
   pub room : ℕ
   pub rest : ℕ
@@ -61,7 +61,7 @@ pub record TriedAt (records x y : List ℕ) (at end t lo tail origin : ℕ) : Ty
 -- As Passes (crate kept): x′ with r words is x with t words, and what is gathered, after f of the node that stands there.
 abbrev pub Tries : (ℕ → Schema → ℕ → Node → Answer Node) → (records x y : List ℕ) (at end t lo tail origin r : ℕ) → List ℕ → Type 0
 Tries f records x y at end t lo tail origin r x′ =
-    (schema : Schema) (text : List ℕ) (tables : ℕ) → Tables schema records → (room rest : ℕ) → Shares x lo tail room rest → (pre post : List ℕ) (p : Node)
+    (schema : Schema) (text : List ℕ) (tables : ℕ) → Tables records schema → (room rest : ℕ) → Shares x lo tail room rest → (pre post : List ℕ) (p : Node)
     → Kept schema text tables p p → Stands x y at end t lo tail origin pre post p → Left (Kept schema text tables p) x′ r pre post (f room schema rest p)
 
 -- Whatever predicates are the first `at` words of y, and the words of x from lo up to hi: the first r words of y′ are both under an And with the origin `new`.

@@ -468,7 +468,7 @@ splits-below schema narrow text tables og outer p l r x = arrays-below schema na
 -- ---- the node there, before and after the step of the pass
 
 -- what is lent of the tables says that they have few columns
-narrow-tables : {schema : Schema} {records : List ℕ} → Tables schema records → (t : ℕ) → length (table-of schema t .columns) ≤ 256
+narrow-tables : {schema : Schema} {records : List ℕ} → Tables records schema → (t : ℕ) → length (table-of schema t .columns) ≤ 256
 narrow-tables w t = omega (arith, w .width t, w .few t)
 
 pub held-below : Held-below

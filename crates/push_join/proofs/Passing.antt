@@ -184,7 +184,7 @@ module _ {x : List ℕ} {t lo tail : ℕ} (f : HasPredicate x lo (t - tail) true
           ∙ and-false (leb (size (into-nnf q)) room))
 
       module _ (j : end ≤ length w₁) {records x′ : List ℕ} {r : ℕ} (lx : length x′ ≡ length x) (g : Splits records x t lo tail w₁ end r x′) where
-        placed : (schema : Schema) → Tables schema records → {pre post : List ℕ} (p : Node) → Holds x t lo tail pre post p
+        placed : (schema : Schema) → Tables records schema → {pre post : List ℕ} (p : Node) → Holds x t lo tail pre post p
             → Placed x′ r pre post (node-words (Optimizer.maybe-push-join schema p))
         unfolding Optimizer.maybe-push-join into-cnf-vec into-cnf
         placed schema given {pre} {post} p h =

@@ -12,7 +12,7 @@ use Rattle.sql.specs.Schema.{Table, Schema, no-column, no-table, table-of, colu
 use Rattle.sql.specs.Plan.{up-to}
 use Rattle.sheet.specs.Bytes.{word}
 use Rattle.layout.specs.Layout.{Number}
-use Rattle.records.specs.Records.{record-count, field, first-column, table-width, column-in, table-in, schema-in, Records, Tables}
+use Rattle.records.specs.Records.{record-count, field, first-column, table-width, primary-key, column-in, table-in, schema-in, Records, Tables}
 
 -- ---- what a function gives of each number of a range
 
@@ -43,9 +43,17 @@ field-read k records i h n = record { is = n .is ∙ sym (field-there k records 
 pub field-past : (k : ℕ) (records : List ℕ) (i : ℕ) → record-count records ≤ i → Number 4294967296 (field k records i) 0
 field-past k records i h = record { is = sym (field-none k records i h); small = omega arith }
 
+-- A record that says a number is there.
+pub field-some : (k : ℕ) (records : List ℕ) (i : ℕ) → 0 < field k records i → i < record-count records
+field-some k records i h = go (decLt i (record-count records))
+  where
+    go : Dec (i < record-count records) → i < record-count records
+    go (yes j) = j
+    go (no j) = absurd (omega (arith, field-none k records i (omega arith)))
+
 -- ---- tables and columns
 
-module _ {schema : Schema} {tables columns : List ℕ} (g : Records schema tables columns) (t : ℕ) where
+module _ {schema : Schema} {tables columns : List ℕ} (g : Records tables columns schema) (t : ℕ) where
   -- The record of a table says it, also of a table that there isn't.
   pub table-said : table-of schema t ≡ table-in tables columns t
   unfolding schema-in
@@ -57,6 +65,9 @@ module _ {schema : Schema} {tables columns : List ℕ} (g : Records schema table
           let k : record-count tables ≤ t = omega arith in
           List·getD-eq-default (map (table-in tables columns) (up-to 0 (record-count tables))) no-table (omega (arith, length-range (table-in tables columns) 0 (record-count tables)))
           ∙ rw (field-none 0 tables t k, field-none 4 tables t k, field-none 8 tables t k, field-none 12 tables t k)
+
+  pub key-said : primary-key tables t ≡ table-of schema t .primary-key
+  key-said = ap (λ (u : Table). u .primary-key) (sym table-said)
 
   pub width-said : table-width tables t ≡ length (table-of schema t .columns)
   width-said = sym (ap (λ (u : Table). length (u .columns)) table-said ∙ length-range (column-in columns) (first-column tables t) (table-width tables t))
@@ -70,5 +81,5 @@ module _ {schema : Schema} {tables columns : List ℕ} (g : Records schema table
   column-none i h = List·getD-eq-default (table-of schema t .columns) no-column (omega (arith, width-said))
 
 -- The table records alone.
-pub tables-said : {schema : Schema} {tables columns : List ℕ} → Records schema tables columns → Tables schema tables
+pub tables-said : {schema : Schema} {tables columns : List ℕ} → Records tables columns schema → Tables tables schema
 tables-said g = record { width = width-said g; few = λ t. omega (arith, g .inside t, g .few) }

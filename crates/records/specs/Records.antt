@@ -54,7 +54,7 @@ unfoldable pub schema-in : (tables columns : List ℕ) → Schema
 schema-in tables columns = map (table-in tables columns) (up-to 0 (record-count tables))
 
 -- The records say the schema. A table's columns have records, its key is one of them, and a sheet has at most 256 columns.
-pub record Records (schema : Schema) (tables columns : List ℕ) : Type 0 where
+pub record Records (tables columns : List ℕ) (schema : Schema) : Type 0 where
   pub say : schema ≡ schema-in tables columns
   pub inside : (t : ℕ) → 16 * (first-column tables t + table-width tables t) ≤ length columns
   pub key-inside : (t : ℕ) → t < record-count tables → primary-key tables t < table-width tables t
@@ -62,9 +62,9 @@ pub record Records (schema : Schema) (tables columns : List ℕ) : Type 0 where
 
 pub record RecordsAt (tables columns : List ℕ) : Type 0 where
   pub schema : Schema
-  pub given : Records schema tables columns
+  pub given : Records tables columns schema
 
 -- What the table records alone say of the schema: the number of columns of each table, of which a sheet has at most 256.
-pub record Tables (schema : Schema) (tables : List ℕ) : Type 0 where
+pub record Tables (tables : List ℕ) (schema : Schema) : Type 0 where
   pub width : (t : ℕ) → table-width tables t ≡ length (table-of schema t .columns)
   pub few : (t : ℕ) → table-width tables t ≤ 256

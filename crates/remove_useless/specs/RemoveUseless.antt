@@ -50,8 +50,8 @@ Stays y lo hi r = (schema : Schema) (p : Node) → NodeHere y lo hi p → NodeHe
 
 -- The same where columns are counted.
 abbrev pub Projects : (records y : List ℕ) (lo hi r : ℕ) → Type 0
-Projects records y lo hi r = (schema : Schema) (p : Node) → Tables schema records → NodeHere y lo hi p → NodeHere y lo r (remove-useless schema p)
+Projects records y lo hi r = (schema : Schema) (p : Node) → Tables records schema → NodeHere y lo hi p → NodeHere y lo r (remove-useless schema p)
 
 abbrev pub Removes : (records y : List ℕ) (lo hi r : ℕ) → List ℕ → Type 0
 Removes records y lo hi r y′ =
-    (schema : Schema) (p : Node) → Tables schema records → NodeHere y lo hi p → Wrote y lo (node-words (remove-useless schema p)) r y′
+    (schema : Schema) (p : Node) → Tables records schema → NodeHere y lo hi p → Wrote y lo (node-words (remove-useless schema p)) r y′

@@ -84,7 +84,7 @@ module _ {records y : List ℕ} {lo hi n : ℕ} (c : ColumnCount records y lo hi
 
   module _ {new : ℕ} (o : new ≡ origin-at y hi) {columns′ z : List ℕ} {end : ℕ} {z₁ : List ℕ} (k₁ : length z₁ ≡ length z) (f : WritesLabels new records columns′ y lo hi z 0 end z₁)
       (h : cell-words * n ≤ length z) (s : length z ≤ most-words) where
-    labels-part : (schema : Schema) (p : Node) → Records schema records columns′ → NodeHere y lo hi p → Part z₁ 0 end (all-words label-words (marked new (column-labels schema p)))
+    labels-part : (schema : Schema) (p : Node) → Records records columns′ schema → NodeHere y lo hi p → Part z₁ 0 end (all-words label-words (marked new (column-labels schema p)))
     labels-part schema p g u =
         wrote-part k₁ (omega (arith, c schema p (tables-said g) u, labels-long new schema p)) (omega (arith, c schema p (tables-said g) u, labels-long new schema p)) (f schema p g u)
 
@@ -156,7 +156,7 @@ module _ {records y : List ℕ} {lo hi end : ℕ} {y₁ : List ℕ} (k₁ : leng
   removed-fits : (schema : Schema) (p : Node) → NodeHere y lo hi p → lo + length (node-words (remove-useless schema p)) ≤ hi
   removed-fits schema p u = omega (arith, useless-size schema p, words-long (remove-useless schema p), words-long p, u .part .high)
 
-  removed-here : (schema : Schema) (p : Node) → Tables schema records → NodeHere y lo hi p → NodeHere y₁ lo end (remove-useless schema p)
+  removed-here : (schema : Schema) (p : Node) → Tables records schema → NodeHere y lo hi p → NodeHere y₁ lo end (remove-useless schema p)
   removed-here schema p g u =
       let (a, b) = node-in p u in
       wrote-here (remove-useless schema p) k₁ (omega (arith, removed-fits schema p u)) (omega (arith, removed-fits schema p u)) (f schema p g u)
@@ -175,7 +175,7 @@ module _ {records y : List ℕ} {lo hi end : ℕ} {y₁ : List ℕ} (k₁ : leng
         short = omega (arith, removed-in t, t .short);
       }
 
-  before-same : (schema : Schema) (p : Node) → Tables schema records → NodeHere y lo hi p → take lo y₁ ≡ take lo y
+  before-same : (schema : Schema) (p : Node) → Tables records schema → NodeHere y lo hi p → take lo y₁ ≡ take lo y
   before-same schema p g u = wrote-before (omega (arith, removed-fits schema p u, node-in p u .1)) (omega arith) (f schema p g u)
 
   module _ {columns′ : List ℕ} {tail : ℕ} (h : hi + tail ≤ length y) {b : Bool} (e : IsEmpty y₁ lo end b) where

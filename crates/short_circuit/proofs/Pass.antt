@@ -52,7 +52,7 @@ fitted-step {room = room} {rest = rest} q i s k a =
     (lt-or-ge room (rest + node-size q))
 
 -- The node q, in whose place p was, has been written.
-module _ {records columns′ : List ℕ} {schema : Schema} {text : List ℕ} {tables : ℕ} (g : Records schema records columns′)
+module _ {records columns′ : List ℕ} {schema : Schema} {text : List ℕ} {tables : ℕ} (g : Records records columns′ schema)
     {y : List ℕ} {at tail v : ℕ} {y₁ : List ℕ} (p q : Node) (h : at ≤ length y) (k : length y₁ ≡ length y)
     (s : Streamed (Kept schema text tables p) y at tail v y₁ (done q)) where
   pub written-at : length y ≤ most-words → ColumnsAt records y₁ at v
@@ -238,7 +238,7 @@ module _ {records columns′ x : List ℕ} {lo hi tail : ℕ} {y : List ℕ} {at
         (λ p. ShortCircuit room schema (rest + (node-size p + join-size j)) r >>= λ q. short-circuit room schema rest (join og outer j p q)) z) p (sym (c p (h .here))) h
 
     module _ (k₁ : length y₁ ≡ length y) (z : u ≤ length y₁) {v : ℕ} {y₂ : List ℕ} (b : Circuits records columns′ x mid m (tail + (hi - m)) y₁ u v y₂) where
-      left-went : {n : ℕ} {y₃ : List ℕ} (schema : Schema) (text : List ℕ) (tables : ℕ) → Records schema records columns′ → Named schema (length text) → (room rest : ℕ)
+      left-went : {n : ℕ} {y₃ : List ℕ} (schema : Schema) (text : List ℕ) (tables : ℕ) → Records records columns′ schema → Named schema (length text) → (room rest : ℕ)
           → ((og : ℕ) (outer : Bool) (j : Join) (l r : Node) (h : Reading schema text tables x lo hi tail y at room rest (join og outer j l r))
           → (p : Node) (s : Streamed (Kept schema text tables l) y at (tail + (hi - mid)) u y₁ (done p))
           → Streamed (Kept schema text tables r) y₁ u (tail + (hi - m)) v y₂ (ShortCircuit room schema (rest + (node-size p + join-size j)) r)

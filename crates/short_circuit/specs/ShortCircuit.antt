@@ -25,23 +25,23 @@ pub record Fitted (y : List ℕ) (at : ℕ) (w : List ℕ) (tail n : ℕ) (y′ 
 -- The node from lo up to hi becomes a Nothing with its labels; these and the Nothing have the node's origin.
 abbrev pub Empties : (records columns y : List ℕ) (lo hi tail n : ℕ) → List ℕ → Type 0
 Empties records columns y lo hi tail n y′ =
-    (schema : Schema) (p : Node) → Records schema records columns → NodeHere y lo hi p
+    (schema : Schema) (p : Node) → Records records columns schema → NodeHere y lo hi p
     → Fitted y lo (node-words (leaf (node-origin p) (nothing (marked (node-origin p) (column-labels schema p))))) tail n y′
 
 -- short_circuit takes the node's place.
 abbrev pub CircuitsNode : (records columns y : List ℕ) (lo hi tail n : ℕ) → List ℕ → Type 0
 CircuitsNode records columns y lo hi tail n y′ =
-    (schema : Schema) (p : Node) → Records schema records columns → NodeHere y lo hi p → Fitted y lo (node-words (short-circuit schema p)) tail n y′
+    (schema : Schema) (p : Node) → Records records columns schema → NodeHere y lo hi p → Fitted y lo (node-words (short-circuit schema p)) tail n y′
 
 -- What the pass asks for.
 pub record CircuitAt (records columns x : List ℕ) (lo hi tail : ℕ) (y : List ℕ) (at : ℕ) : Type 0 where
-  pub stream : StreamAt (λ schema. Records schema records columns) x lo hi tail y at
+  pub stream : StreamAt (Records records columns) x lo hi tail y at
   pub named : Named (stream .schema) (length (stream .text))
 
 -- y′ with n words is y with `at` words after the pass.
 abbrev pub Circuits : (records columns x : List ℕ) (lo hi tail : ℕ) (y : List ℕ) (at n : ℕ) → List ℕ → Type 0
 Circuits records columns x lo hi tail y at n y′ =
-    (schema : Schema) (text : List ℕ) (tables : ℕ) → Records schema records columns → Named schema (length text) → (room rest : ℕ) (p : Node)
+    (schema : Schema) (text : List ℕ) (tables : ℕ) → Records records columns schema → Named schema (length text) → (room rest : ℕ) (p : Node)
     → Reading schema text tables x lo hi tail y at room rest p → Streamed (Kept schema text tables p) y at tail n y′ (ShortCircuit room schema rest p)
 
 -- What becomes of the node of x from lo up to `end` stands in y, u words with the first `at` of y₀, and bare nodes (crate chain) stand over it up to hi.

@@ -67,7 +67,7 @@ pub record PredicateAt (s : List ℕ) (lo hi : ℕ) : Type 0 where
 -- What the split asks for: some join with a predicate stands there, and its left source's columns can be counted (crate nodes, Columns).
 pub record SplitAt (records x : List ℕ) (t lo tail : ℕ) : Type 0 where
   pub schema : Schema
-  pub tables : Tables schema records
+  pub tables : Tables records schema
   pub pre : List ℕ
   pub post : List ℕ
   pub og : ℕ
@@ -119,6 +119,6 @@ SplitsBoth og n x t lo mid m tail cnf end q x′ =
 
 -- The join after the split takes the join's place, or has no room.
 abbrev pub Splits : (records x : List ℕ) (t lo tail : ℕ) → List ℕ → ℕ → ℕ → List ℕ → Type 0
-Splits records x t lo tail cnf end q x′ = (schema : Schema) → Tables schema records → (pre post : List ℕ) (og : ℕ) (outer : Bool) (p : Expression) (l r : Node)
+Splits records x t lo tail cnf end q x′ = (schema : Schema) → Tables records schema → (pre post : List ℕ) (og : ℕ) (outer : Bool) (p : Expression) (l r : Node)
     → Holds x t lo tail pre post (join og outer (nested-loop (some p)) l r) → (e : Expression) → ExpressionHere cnf 0 end e
     → Placed x′ q pre post (node-words (split og (columns schema l) outer (ands e) l r))
