@@ -93,14 +93,7 @@ struct Written {
 }
 
 // The node from lo to hi with all its joins rewritten.
-fn hash_joins(
-    x: &[u32],
-    lo: usize,
-    hi: usize,
-    y: &mut [u32],
-    at: usize,
-    tables: &[u8],
-) -> Written
+fn hash_joins(x: &[u32], lo: usize, hi: usize, y: &mut [u32], at: usize, tables: &[u8]) -> Written
     requires { ⌜ ColumnsAt (now tables) (now x) lo hi ⌝ }
     ensures { λ r. ⌜ Writes (now (tables .entry)) (now (x .entry)) lo hi (now (y .entry)) at (r .end) (now (y .exit)) ⌝ }
     ensures { λ r. ⌜ ColumnCount (now (tables .entry)) (now (x .entry)) lo hi (r .columns) ⌝ }

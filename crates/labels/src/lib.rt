@@ -214,15 +214,7 @@ fn columns_for(s: &[u32], lo: usize, hi: usize, tables: &[u8]) -> usize
 }
 
 // One step from column i of a node with one source, which ends at m; the node has w columns, where that is asked for.
-fn next_over(
-    s: &[u32],
-    lo: usize,
-    hi: usize,
-    m: usize,
-    i: usize,
-    w: usize,
-    tables: &[u8],
-) -> Next
+fn next_over(s: &[u32], lo: usize, hi: usize, m: usize, i: usize, w: usize, tables: &[u8]) -> Next
     requires { ⌜ CountedAt (now tables) (now s) lo hi w ⌝ }
     requires { ⌜ SourceCount (now s) lo hi 1 ⌝ }
     requires { ⌜ OwnStart (now s) lo hi m ⌝ }
@@ -279,15 +271,7 @@ fn left_columns(
 }
 
 // One step from column i of a node with two sources, of which the right one ends at m; the node has w columns.
-fn next_join(
-    s: &[u32],
-    lo: usize,
-    hi: usize,
-    m: usize,
-    i: usize,
-    w: usize,
-    tables: &[u8],
-) -> Next
+fn next_join(s: &[u32], lo: usize, hi: usize, m: usize, i: usize, w: usize, tables: &[u8]) -> Next
     requires { ⌜ CountedAt (now tables) (now s) lo hi w ⌝ }
     requires { ⌜ SourceCount (now s) lo hi 2 ⌝ }
     requires { ⌜ OwnStart (now s) lo hi m ⌝ }
