@@ -25,7 +25,9 @@ use Rattle.nodes.specs.Columns.{ColumnCount}
 use Rattle.labels.specs.declared.Label.{Label as CodeLabel}
 use Rattle.labels.specs.declared.Label.the-variants.{Unlabelled, Unqualified, Qualified}
 use Rattle.labels.specs.Labels.{label}
-use Rattle.labels.specs.Names.{Names, ColumnLabel}
+use Rattle.labels.specs.Names.{ColumnLabel}
+use Rattle.records.specs.Records.{Records}
+use Rattle.records.proofs.Laws.{tables-said}
 use Rattle.labels.proofs.Routes.{chosen, passed}
 use Rattle.column_labels.specs.ColumnLabels.{marked, bare, LabelsUp, Marks, WritesLabels}
 use Rattle.column_labels.proofs.Lists.{all-append, set-in, map-alike, map-split, map-next, map-elements}
@@ -139,16 +141,16 @@ marked-full new ls h w = let k = label-lengths new ls in no-more h (omega arith)
 -- ---- column by column
 
 -- The labels of the first i columns are written.
-pub record Labelled (new : ℕ) (widths names columns′ s : List ℕ) (lo hi : ℕ) (d : List ℕ) (at i n : ℕ) (d′ : List ℕ) : Type 0 where
-  pub is : (schema : Schema) (p : Node) → Names schema widths names columns′ → NodeHere s lo hi p
+pub record Labelled (new : ℕ) (records columns′ s : List ℕ) (lo hi : ℕ) (d : List ℕ) (at i n : ℕ) (d′ : List ℕ) : Type 0 where
+  pub is : (schema : Schema) (p : Node) → Records records columns′ schema → NodeHere s lo hi p
       → Wrote d at (all-words label-words (marked new (map (column-label schema p) (up-to 0 i)))) n d′
 
-module _ (new : ℕ) {widths names columns′ s : List ℕ} {lo hi : ℕ} {d : List ℕ} {at : ℕ} where
-  pub labelled-first : Labelled new widths names columns′ s lo hi d at 0 at d
+module _ (new : ℕ) {records columns′ s : List ℕ} {lo hi : ℕ} {d : List ℕ} {at : ℕ} where
+  pub labelled-first : Labelled new records columns′ s lo hi d at 0 at d
   labelled-first = record { is = λ schema p k u. none-written d at }
 
-  pub labelled-next : {i m n : ℕ} {d₁ d₂ : List ℕ} (l : CodeLabel) → length d₁ ≡ length d → Labelled new widths names columns′ s lo hi d at i m d₁
-      → ColumnLabel widths names columns′ s lo hi i l → Wrote d₁ m (label-words (label l, new)) n d₂ → Labelled new widths names columns′ s lo hi d at (i + 1) n d₂
+  pub labelled-next : {i m n : ℕ} {d₁ d₂ : List ℕ} (l : CodeLabel) → length d₁ ≡ length d → Labelled new records columns′ s lo hi d at i m d₁
+      → ColumnLabel records columns′ s lo hi i l → Wrote d₁ m (label-words (label l, new)) n d₂ → Labelled new records columns′ s lo hi d at (i + 1) n d₂
   labelled-next {i} {m} {n} {d₁} {d₂} l e a f w =
       record {
         is = λ schema p k u.
@@ -163,10 +165,10 @@ module _ (new : ℕ) {widths names columns′ s : List ℕ} {lo hi : ℕ} {d : L
             subst (λ (v : List ℕ). Wrote d at v n d₂) x (then e (a .is schema p k u) w);
       }
 
-  pub labelled-all : {c i n : ℕ} {d′ : List ℕ} → ColumnCount widths s lo hi c → i ≡ c → Labelled new widths names columns′ s lo hi d at i n d′
-      → WritesLabels new widths names columns′ s lo hi d at n d′
+  pub labelled-all : {c i n : ℕ} {d′ : List ℕ} → ColumnCount records s lo hi c → i ≡ c → Labelled new records columns′ s lo hi d at i n d′
+      → WritesLabels new records columns′ s lo hi d at n d′
   labelled-all {n = n} {d′ = d′} f e a schema p k u =
-      subst (λ (j : ℕ). Wrote d at (all-words label-words (marked new (map (column-label schema p) (up-to 0 j)))) n d′) (e ∙ f schema p (k .tables) u) (a .is schema p k u)
+      subst (λ (j : ℕ). Wrote d at (all-words label-words (marked new (map (column-label schema p) (up-to 0 j)))) n d′) (e ∙ f schema p (tables-said k) u) (a .is schema p k u)
 
 -- ---- by the node
 
@@ -175,9 +177,9 @@ nothing-labelled {s} {lo} {hi} z t =
     by-nothing (λ p. NodeHere s lo hi p → LabelsUp s lo (hi - cell-words)) (λ og ls u. record { labels = ls; part = own-part (leaf og (nothing ls)) u {m = lo} (omega arith) })
     (t .p) (sym (node-tag (t .p) (t .here) ∙ tagged (t .p)) ∙ z) (t .here)
 
-module _ (new : ℕ) {widths names columns′ s : List ℕ} {lo hi : ℕ} where
+module _ (new : ℕ) {records columns′ s : List ℕ} {lo hi : ℕ} where
   pub nothing-marked : {d : List ℕ} {at n : ℕ} {d′ : List ℕ} → tag-at s hi ≡ 57 → Marks new s lo (hi - cell-words) d at n d′
-      → WritesLabels new widths names columns′ s lo hi d at n d′
+      → WritesLabels new records columns′ s lo hi d at n d′
   nothing-marked {d} {at} {n} {d′} z f schema p k u =
       by-nothing (λ p. NodeHere s lo hi p → Wrote d at (all-words label-words (marked new (column-labels schema p))) n d′)
       (λ og ls u. subst (λ (l : List Label). Wrote d at (all-words label-words (marked new l)) n d′)
@@ -186,7 +188,7 @@ module _ (new : ℕ) {widths names columns′ s : List ℕ} {lo hi : ℕ} where
 
   -- the labels of its source
   pub source-written : {m : ℕ} → SourceCount s lo hi 1 → OwnStart s lo hi m → (tag-at s hi ≡ 50 → ⊥) → tag-at s hi < 60 → {d : List ℕ} {at n : ℕ} {d′ : List ℕ}
-      → WritesLabels new widths names columns′ s lo m d at n d′ → WritesLabels new widths names columns′ s lo hi d at n d′
+      → WritesLabels new records columns′ s lo m d at n d′ → WritesLabels new records columns′ s lo hi d at n d′
   source-written c own y z {d} {at} {n} {d′} f schema p k u =
       by-over (λ p. NodeHere s lo hi p → Wrote d at (all-words label-words (marked new (column-labels schema p))) n d′)
       (λ og o q u.
@@ -197,8 +199,8 @@ module _ (new : ℕ) {widths names columns′ s : List ℕ} {lo hi : ℕ} where
 
   -- the labels of both sources
   pub sources-written : {m mid : ℕ} → SourceCount s lo hi 2 → OwnStart s lo hi m → mid ≡ start-at s m → {d : List ℕ} {at i n : ℕ} {d₁ d₂ : List ℕ} → length d₁ ≡ length d
-      → WritesLabels new widths names columns′ s lo mid d at i d₁ → WritesLabels new widths names columns′ s mid m d₁ i n d₂
-      → WritesLabels new widths names columns′ s lo hi d at n d₂
+      → WritesLabels new records columns′ s lo mid d at i d₁ → WritesLabels new records columns′ s mid m d₁ i n d₂
+      → WritesLabels new records columns′ s lo hi d at n d₂
   sources-written c own st {d} {at} {n = n} {d₂ = d₂} e f g schema p k u =
       by-join (λ p. NodeHere s lo hi p → Wrote d at (all-words label-words (marked new (column-labels schema p))) n d₂)
       (λ og outer j a b u.

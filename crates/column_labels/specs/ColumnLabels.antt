@@ -8,7 +8,7 @@ use Rattle.cells.specs.Cells.{Part}
 use Rattle.cells.specs.Room.{Wrote}
 use Rattle.words.specs.Words.{all-words, label-words}
 use Rattle.words.specs.Place.{NodeHere}
-use Rattle.labels.specs.Names.{Names}
+use Rattle.records.specs.Records.{Records}
 
 -- labels with an origin
 abbrev pub marked : ℕ → List Label → List (Marked Label)
@@ -29,7 +29,7 @@ Marks new s lo hi d at n d′ =
     (ls : List (Marked Label)) → Part s lo hi (all-words label-words ls) → Wrote d at (all-words label-words (marked new (bare ls))) n d′
 
 -- The labels of the node from lo up to hi, all with the origin `new`, are appended to the first `at` words of d, or have no room.
-abbrev pub WritesLabels : (new : ℕ) (widths names columns s : List ℕ) (lo hi : ℕ) (d : List ℕ) (at n : ℕ) → List ℕ → Type 0
-WritesLabels new widths names columns s lo hi d at n d′ =
-    (schema : Schema) (p : Node) → Names schema widths names columns → NodeHere s lo hi p
+abbrev pub WritesLabels : (new : ℕ) (records columns s : List ℕ) (lo hi : ℕ) (d : List ℕ) (at n : ℕ) → List ℕ → Type 0
+WritesLabels new records columns s lo hi d at n d′ =
+    (schema : Schema) (p : Node) → Records records columns schema → NodeHere s lo hi p
     → Wrote d at (all-words label-words (marked new (column-labels schema p))) n d′

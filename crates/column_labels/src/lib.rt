@@ -7,7 +7,7 @@ ghost use Rattle.words.specs.Words.{cell, label-words};
 ghost use Rattle.nodes.specs.Own.{SourceCount};
 ghost use Rattle.nodes.specs.Columns.{ColumnsAt};
 ghost use Rattle.labels.specs.Labels.{label};
-ghost use Rattle.labels.specs.Names.{NamesAt};
+ghost use Rattle.records.specs.Records.{RecordsAt};
 ghost use Rattle.column_labels.specs.ColumnLabels.{LabelsUp, Marks, WritesLabels};
 
 // The cell of a Label with an origin.
@@ -58,20 +58,19 @@ fn each_label(
     hi: usize,
     d: &mut [u32],
     at: usize,
-    widths: &[usize],
-    names: &[u32],
+    tables: &[u8],
     columns: &[u8],
     origin: u32,
 ) -> usize
-    requires { ⌜ ColumnsAt (now widths) (now s) lo hi ⌝ }
-    requires { ⌜ NamesAt (now widths) (now names) (now columns) ⌝ }
-    ensures { λ r. ⌜ WritesLabels origin (now (widths .entry)) (now (names .entry)) (now (columns .entry)) (now (s .entry)) lo hi (now (d .entry)) at r (now (d .exit)) ⌝ }
+    requires { ⌜ ColumnsAt (now tables) (now s) lo hi ⌝ }
+    requires { ⌜ RecordsAt (now tables) (now columns) ⌝ }
+    ensures { λ r. ⌜ WritesLabels origin (now (tables .entry)) (now (columns .entry)) (now (s .entry)) lo hi (now (d .entry)) at r (now (d .exit)) ⌝ }
 {
-    let n = nodes::columns(s, lo, hi, widths);
+    let n = nodes::columns(s, lo, hi, tables);
     let mut end = at;
     let mut i: usize = 0;
     while i < n {
-        let l = labels::column_label(s, lo, hi, i, n, widths, names, columns);
+        let l = labels::column_label(s, lo, hi, i, n, tables, columns);
         end = put_label(d, end, l, origin);
         i += 1;
     }
@@ -102,19 +101,18 @@ fn leaf_labels(
     hi: usize,
     d: &mut [u32],
     at: usize,
-    widths: &[usize],
-    names: &[u32],
+    tables: &[u8],
     columns: &[u8],
     origin: u32,
 ) -> usize
-    requires { ⌜ ColumnsAt (now widths) (now s) lo hi ⌝ }
-    requires { ⌜ NamesAt (now widths) (now names) (now columns) ⌝ }
-    ensures { λ r. ⌜ WritesLabels origin (now (widths .entry)) (now (names .entry)) (now (columns .entry)) (now (s .entry)) lo hi (now (d .entry)) at r (now (d .exit)) ⌝ }
+    requires { ⌜ ColumnsAt (now tables) (now s) lo hi ⌝ }
+    requires { ⌜ RecordsAt (now tables) (now columns) ⌝ }
+    ensures { λ r. ⌜ WritesLabels origin (now (tables .entry)) (now (columns .entry)) (now (s .entry)) lo hi (now (d .entry)) at r (now (d .exit)) ⌝ }
 {
     if cells::tag_at(s, hi) == tags::NOTHING {
         return marked_labels(s, lo, hi - cells::CELL_WORDS, d, at, origin);
     }
-    each_label(s, lo, hi, d, at, widths, names, columns, origin)
+    each_label(s, lo, hi, d, at, tables, columns, origin)
 }
 
 // The labels of all columns of the node from lo to hi, each with the given origin, after the first `at` words of d. A node whose columns are those of its
@@ -125,28 +123,27 @@ pub fn write_labels(
     hi: usize,
     d: &mut [u32],
     at: usize,
-    widths: &[usize],
-    names: &[u32],
+    tables: &[u8],
     columns: &[u8],
     origin: u32,
 ) -> usize
-    requires { ⌜ ColumnsAt (now widths) (now s) lo hi ⌝ }
-    requires { ⌜ NamesAt (now widths) (now names) (now columns) ⌝ }
-    ensures { λ r. ⌜ WritesLabels origin (now (widths .entry)) (now (names .entry)) (now (columns .entry)) (now (s .entry)) lo hi (now (d .entry)) at r (now (d .exit)) ⌝ }
+    requires { ⌜ ColumnsAt (now tables) (now s) lo hi ⌝ }
+    requires { ⌜ RecordsAt (now tables) (now columns) ⌝ }
+    ensures { λ r. ⌜ WritesLabels origin (now (tables .entry)) (now (columns .entry)) (now (s .entry)) lo hi (now (d .entry)) at r (now (d .exit)) ⌝ }
 {
     let n = nodes::source_count(s, lo, hi);
     if n == 0 {
-        return leaf_labels(s, lo, hi, d, at, widths, names, columns, origin);
+        return leaf_labels(s, lo, hi, d, at, tables, columns, origin);
     }
     let m = nodes::own_start(s, lo, hi);
     if n == 1 {
         let t = cells::tag_at(s, hi);
         if labels::says_columns(t) {
-            return each_label(s, lo, hi, d, at, widths, names, columns, origin);
+            return each_label(s, lo, hi, d, at, tables, columns, origin);
         }
-        return write_labels(s, lo, m, d, at, widths, names, columns, origin);
+        return write_labels(s, lo, m, d, at, tables, columns, origin);
     }
     let mid = cells::start(s, m);
-    let next = write_labels(s, lo, mid, d, at, widths, names, columns, origin);
-    write_labels(s, mid, m, d, next, widths, names, columns, origin)
+    let next = write_labels(s, lo, mid, d, at, tables, columns, origin);
+    write_labels(s, mid, m, d, next, tables, columns, origin)
 }

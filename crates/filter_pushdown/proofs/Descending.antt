@@ -59,35 +59,35 @@ unfolding push-filters-from
 from-none schema zero z room rest p = refl
 from-none schema (suc left) z room rest p = absurd (omega arith)
 
-module _ {widths x : List ℕ} {t lo tail left end : ℕ} (n : ℕ) (d : GoesDown x n lo (t - tail) left end) where
-  pub chain-zero : left ≡ 0 → Passes (λ room schema. push-filters-from room schema n) widths x t lo tail t x
+module _ {records x : List ℕ} {t lo tail left end : ℕ} (n : ℕ) (d : GoesDown x n lo (t - tail) left end) where
+  pub chain-zero : left ≡ 0 → Passes (λ room schema. push-filters-from room schema n) records x t lo tail t x
   chain-zero z schema text tables given =
       chain-same (kept schema text tables) d (From n schema) (From left schema) (descends schema n left) (from-none schema left z)
 
-  pub chain-count : PassAt widths x t lo tail → left ≤ n
+  pub chain-count : PassAt records x t lo tail → left ≤ n
   chain-count g = omega (arith, d (pass-at g .p) (pass-at g .here) .count)
 
-  pub chain-end : PassAt widths x t lo tail → end ≤ t
+  pub chain-end : PassAt records x t lo tail → end ≤ t
   chain-end g = end-inside (kept (g .schema) (g .text) (g .tables)) d (g .held)
 
-  pub chain-next : PassAt widths x t lo tail → PassAt widths x t lo (t - end)
+  pub chain-next : PassAt records x t lo tail → PassAt records x t lo (t - end)
   chain-next g = pass-also g refl (below-held (kept (g .schema) (g .text) (g .tables)) d (g .held))
 
-  module _ {r : ℕ} {x₁ : List ℕ} (a : Passes (λ room schema. push-filters-from room schema left) widths x t lo (t - end) r x₁) where
-    pub chain-full : length x₁ < r → Passes (λ room schema. push-filters-from room schema n) widths x t lo tail r x₁
+  module _ {r : ℕ} {x₁ : List ℕ} (a : Passes (λ room schema. push-filters-from room schema left) records x t lo (t - end) r x₁) where
+    pub chain-full : length x₁ < r → Passes (λ room schema. push-filters-from room schema n) records x t lo tail r x₁
     chain-full z schema text tables given =
         chain-stop (kept schema text tables) d (From n schema) (From left schema) (descends schema n left) (a schema text tables given) z
 
-    pub chain-inside : r ≤ length x₁ → PassAt widths x t lo tail → (t - end ≤ r) × ((lo ≤ r - (t - end)) × (r - (t - end) + tail ≤ r))
+    pub chain-inside : r ≤ length x₁ → PassAt records x t lo tail → (t - end ≤ r) × ((lo ≤ r - (t - end)) × (r - (t - end) + tail ≤ r))
     chain-inside z g =
         chain-fits (kept (g .schema) (g .text) (g .tables)) d (From n (g .schema)) (From left (g .schema)) (descends (g .schema) n left)
         (a (g .schema) (g .text) (g .tables) (g .given)) z (g .held)
 
     pub chain-done : r ≤ length x₁ → {v : ℕ} {x₂ : List ℕ} → length x₂ ≡ length x₁ → Reseals x₁ r lo (r - (t - end)) tail v x₂
-        → Passes (λ room schema. push-filters-from room schema n) widths x t lo tail v x₂
+        → Passes (λ room schema. push-filters-from room schema n) records x t lo tail v x₂
     chain-done z j seal schema text tables given =
         chain-go (kept schema text tables) d (From n schema) (From left schema) (descends schema n left) (a schema text tables given) z j seal
 
-    pub chain-as-long : r ≤ length x₁ → r ≡ t → Passes (λ room schema. push-filters-from room schema n) widths x t lo tail r x₁
+    pub chain-as-long : r ≤ length x₁ → r ≡ t → Passes (λ room schema. push-filters-from room schema n) records x t lo tail r x₁
     chain-as-long z e schema text tables given =
         go-as-long (kept schema text tables) d (From n schema) (From left schema) (descends schema n left) (a schema text tables given) z e

@@ -30,20 +30,20 @@ from-is room schema zero rest p z = absurd (z refl)
 from-is room schema (suc n) rest p z =
     let e : suc n - 1 ≡ n = omega arith in ap (λ (m : ℕ). push-filters room schema (suc n) rest p >>= sources-from m room schema rest) e
 
-module _ (n : ℕ) (i : n ≡ 0 → ⊥) {widths x : List ℕ} {t lo tail u : ℕ} {x₁ : List ℕ} (a : Passes (λ room schema. push-filters room schema n) widths x t lo tail u x₁) where
+module _ (n : ℕ) (i : n ≡ 0 → ⊥) {records x : List ℕ} {t lo tail u : ℕ} {x₁ : List ℕ} (a : Passes (λ room schema. push-filters room schema n) records x t lo tail u x₁) where
   as-from : {r : ℕ} {x′ : List ℕ}
-      → Passes (λ room schema rest p. push-filters room schema n rest p >>= sources-from (n - 1) room schema rest) widths x t lo tail r x′
-      → Passes (λ room schema. push-filters-from room schema n) widths x t lo tail r x′
+      → Passes (λ room schema rest p. push-filters room schema n rest p >>= sources-from (n - 1) room schema rest) records x t lo tail r x′
+      → Passes (λ room schema. push-filters-from room schema n) records x t lo tail r x′
   as-from =
       passes-as (λ room schema rest p. push-filters room schema n rest p >>= sources-from (n - 1) room schema rest) (λ room schema. push-filters-from room schema n)
       (λ room schema rest pre post p s h. from-is room schema n rest p i)
 
-  pub from-full : length x₁ < u → Passes (λ room schema. push-filters-from room schema n) widths x t lo tail u x₁
+  pub from-full : length x₁ < u → Passes (λ room schema. push-filters-from room schema n) records x t lo tail u x₁
   from-full z = as-from (passes-stop (λ room schema. push-filters room schema n) (sources-from (n - 1)) a z)
 
   pub from-again : u ≤ length x₁ → length x₁ ≡ length x → {r : ℕ} {x₂ : List ℕ}
-      → Passes (λ room schema. each-source room schema (push-filters-from room schema (n - 1))) widths x₁ u lo tail r x₂
-      → Passes (λ room schema. push-filters-from room schema n) widths x t lo tail r x₂
+      → Passes (λ room schema. each-source room schema (push-filters-from room schema (n - 1))) records x₁ u lo tail r x₂
+      → Passes (λ room schema. push-filters-from room schema n) records x t lo tail r x₂
   from-again z e b = as-from (passes-go (λ room schema. push-filters room schema n) (sources-from (n - 1)) a z e b)
 
 -- ---- a node of one cell has no source and nothing to push, so it stays as it is
@@ -59,14 +59,14 @@ one-same room schema n rest (leaf og l) e h = leaf-same room schema n rest og l 
 one-same room schema n rest (over og o source) e h = absurd (omega (arith, nodes-cells (over og o source), nodes-positive source))
 one-same room schema n rest (join og outer j left right) e h = absurd (omega (arith, nodes-cells (join og outer j left right), nodes-positive left))
 
-pub cell-same : {widths x : List ℕ} {t lo tail : ℕ} (n : ℕ) → t - tail - lo ≡ cell-words → Passes (λ room schema. push-filters-from room schema n) widths x t lo tail t x
+pub cell-same : {records x : List ℕ} {t lo tail : ℕ} (n : ℕ) → t - tail - lo ≡ cell-words → Passes (λ room schema. push-filters-from room schema n) records x t lo tail t x
 cell-same n e schema text tables given =
     edit-same (kept schema text tables) (λ room. push-filters-from room schema n)
     (λ room rest pre post p s k h. one-same room schema n rest p (omega (arith, total h, words-long p)) (omega (arith, total-cells s h, s .all, h .inside)))
 
 -- ---- the whole plan: t / 7 is the number of its cells
-pub whole-plan : {widths x : List ℕ} {t r : ℕ} {x′ : List ℕ} → Passes (λ room schema. push-filters-from room schema (t / cell-words)) widths x t 0 0 r x′
-    → Passes FilterPushdown widths x t 0 0 r x′
+pub whole-plan : {records x : List ℕ} {t r : ℕ} {x′ : List ℕ} → Passes (λ room schema. push-filters-from room schema (t / cell-words)) records x t 0 0 r x′
+    → Passes FilterPushdown records x t 0 0 r x′
 unfolding FilterPushdown
 whole-plan {x = x} {t = t} =
     passes-as (λ room schema. push-filters-from room schema (t / cell-words)) FilterPushdown

@@ -1,5 +1,5 @@
 // optimizer.rs, FilterPushdown, in place (crate edit): the whole plan stands in the first t words of x, the node that is worked on from lo up to t - tail. A
-// number of words past the end of x stands for refusal 14. y, z and w are scratch; widths is the number of columns of each table. n bounds the nodes, as in
+// number of words past the end of x stands for refusal 14. y, z and w are scratch; tables are the table records (crate records). n bounds the nodes, as in
 // the definition (crate sql, Room).
 ghost use Rattle.sql.specs.Room;
 ghost use Rattle.kept.specs.Pass.{PassAt, Passes};
@@ -15,11 +15,11 @@ fn each_source(
     t: usize,
     lo: usize,
     tail: usize,
-    widths: &[usize],
+    tables: &[u8],
 ) -> usize
-    requires { ⌜ PassAt (now widths) (now x) t lo tail ⌝ }
+    requires { ⌜ PassAt (now tables) (now x) t lo tail ⌝ }
     requires { ⌜ Buffers (now x) (now y) (now z) (now w) ⌝ }
-    ensures { λ r. ⌜ Passes (λ room schema. Room.each-source room schema (Room.push-filters-from room schema n)) (now (widths .entry)) (now (x .entry)) t lo tail r (now (x .exit)) ⌝ }
+    ensures { λ r. ⌜ Passes (λ room schema. Room.each-source room schema (Room.push-filters-from room schema n)) (now (tables .entry)) (now (x .entry)) t lo tail r (now (x .exit)) ⌝ }
 {
     let count = nodes::source_count(x, lo, t - tail);
     if count == 0 {
@@ -27,18 +27,18 @@ fn each_source(
     }
     let m = nodes::own_start(x, lo, t - tail);
     if count == 1 {
-        let u = push_source(x, y, z, w, n, t, lo, t - m, widths);
+        let u = push_source(x, y, z, w, n, t, lo, t - m, tables);
         if x.len() < u {
             return u;
         }
         return edit::reseal(x, u, lo, tail);
     }
     let back = t - cells::start(x, m);
-    let u = push_source(x, y, z, w, n, t, lo, back, widths);
+    let u = push_source(x, y, z, w, n, t, lo, back, tables);
     if x.len() < u {
         return u;
     }
-    let v = push_source(x, y, z, w, n, u, u - back, t - m, widths);
+    let v = push_source(x, y, z, w, n, u, u - back, t - m, tables);
     if x.len() < v {
         return v;
     }
@@ -55,16 +55,16 @@ fn push_source(
     t: usize,
     lo: usize,
     tail: usize,
-    widths: &[usize],
+    tables: &[u8],
 ) -> usize
-    requires { ⌜ PassAt (now widths) (now x) t lo tail ⌝ }
+    requires { ⌜ PassAt (now tables) (now x) t lo tail ⌝ }
     requires { ⌜ Buffers (now x) (now y) (now z) (now w) ⌝ }
-    ensures { λ r. ⌜ Passes (λ room schema. Room.push-filters-from room schema n) (now (widths .entry)) (now (x .entry)) t lo tail r (now (x .exit)) ⌝ }
+    ensures { λ r. ⌜ Passes (λ room schema. Room.push-filters-from room schema n) (now (tables .entry)) (now (x .entry)) t lo tail r (now (x .exit)) ⌝ }
 {
     if t - tail - lo == cells::CELL_WORDS {
         return t;
     }
-    push_filters_from(x, y, z, w, n, t, lo, tail, widths)
+    push_filters_from(x, y, z, w, n, t, lo, tail, tables)
 }
 
 // A node, then the sources of what it became. A chain of nodes that stay as they are is gone through without a frame for each. Where the plan is as long as
@@ -78,22 +78,22 @@ fn push_filters_from(
     t: usize,
     lo: usize,
     tail: usize,
-    widths: &[usize],
+    tables: &[u8],
 ) -> usize
-    requires { ⌜ PassAt (now widths) (now x) t lo tail ⌝ }
+    requires { ⌜ PassAt (now tables) (now x) t lo tail ⌝ }
     requires { ⌜ Buffers (now x) (now y) (now z) (now w) ⌝ }
-    ensures { λ r. ⌜ Passes (λ room schema. Room.push-filters-from room schema n) (now (widths .entry)) (now (x .entry)) t lo tail r (now (x .exit)) ⌝ }
+    ensures { λ r. ⌜ Passes (λ room schema. Room.push-filters-from room schema n) (now (tables .entry)) (now (x .entry)) t lo tail r (now (x .exit)) ⌝ }
 {
     let deep = chain::descend(x, n, lo, t - tail);
     if deep.left == 0 {
         return t;
     }
     let back = t - deep.end;
-    let u = push_filters::push_filters_in_place(x, y, z, w, deep.left, t, lo, back, widths);
+    let u = push_filters::push_filters_in_place(x, y, z, w, deep.left, t, lo, back, tables);
     if x.len() < u {
         return u;
     }
-    let v = each_source(x, y, z, w, deep.left - 1, u, lo, back, widths);
+    let v = each_source(x, y, z, w, deep.left - 1, u, lo, back, tables);
     if x.len() < v {
         return v;
     }
@@ -110,11 +110,11 @@ pub fn filter_pushdown(
     z: &mut [u32],
     w: &mut [u32],
     t: usize,
-    widths: &[usize],
+    tables: &[u8],
 ) -> usize
-    requires { ⌜ PassAt (now widths) (now x) t 0 0 ⌝ }
+    requires { ⌜ PassAt (now tables) (now x) t 0 0 ⌝ }
     requires { ⌜ Buffers (now x) (now y) (now z) (now w) ⌝ }
-    ensures { λ r. ⌜ Passes Room.FilterPushdown (now (widths .entry)) (now (x .entry)) t 0 0 r (now (x .exit)) ⌝ }
+    ensures { λ r. ⌜ Passes Room.FilterPushdown (now (tables .entry)) (now (x .entry)) t 0 0 r (now (x .exit)) ⌝ }
 {
-    push_filters_from(x, y, z, w, t / cells::CELL_WORDS, t, 0, 0, widths)
+    push_filters_from(x, y, z, w, t / cells::CELL_WORDS, t, 0, 0, tables)
 }

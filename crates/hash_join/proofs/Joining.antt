@@ -25,7 +25,8 @@ use Rattle.words.proofs.Nodes.{node-shape, node-in, node-long, node-cell-is, no
 use Rattle.words.proofs.Sizes.{words-long, sized-long}
 use Rattle.words.proofs.Tags.{over-tag, tagged, by-leaf, by-over, by-join}
 use Rattle.nodes.specs.Own.{OwnStart, SourceCount}
-use Rattle.nodes.specs.Columns.{Tables, ColumnsAt, ColumnCount}
+use Rattle.nodes.specs.Columns.{ColumnsAt, ColumnCount}
+use Rattle.records.specs.Records.{Tables}
 use Rattle.nodes.proofs.Widths.{few-columns}
 use Rattle.kept.specs.Kept.{sound-narrow}
 use Rattle.column_numbers.specs.Columns.{source-of}
@@ -185,14 +186,14 @@ module _ {x : List ℕ} {m hi : ℕ} where
 
 -- ---- the recursion
 
-module _ {widths x : List ℕ} {lo hi g : ℕ} (c : SourceCount x lo hi g) where
-  pub writes-leaf : g ≡ 0 → {y : List ℕ} {at n : ℕ} {y′ : List ℕ} → Copies x lo hi y at n y′ → Writes widths x lo hi y at n y′
+module _ {records x : List ℕ} {lo hi g : ℕ} (c : SourceCount x lo hi g) where
+  pub writes-leaf : g ≡ 0 → {y : List ℕ} {at n : ℕ} {y′ : List ℕ} → Copies x lo hi y at n y′ → Writes records x lo hi y at n y′
   writes-leaf z {y} {at} {n} {y′} f schema p w u =
       by-leaf (λ p. NodeHere x lo hi p → Wrote y at (node-words (HashJoin schema p)) n y′) (λ og l u. f (node-words (leaf og l)) (u .part)) p (sym (c p u) ∙ z) u
 
   module _ {m : ℕ} (own : OwnStart x lo hi m) where
-    pub writes-over : g ≡ 1 → {y : List ℕ} {at u n : ℕ} {y₁ y₂ : List ℕ} → length y₁ ≡ length y → Writes widths x lo m y at u y₁ → Finishes x m hi y₁ at u n y₂
-        → Writes widths x lo hi y at n y₂
+    pub writes-over : g ≡ 1 → {y : List ℕ} {at u n : ℕ} {y₁ y₂ : List ℕ} → length y₁ ≡ length y → Writes records x lo m y at u y₁ → Finishes x m hi y₁ at u n y₂
+        → Writes records x lo hi y at n y₂
     writes-over z {y} {at} {u} {n} {y₁} {y₂} k a f schema p w h =
         by-over (λ p. NodeHere x lo hi p → Wrote y at (node-words (HashJoin schema p)) n y₂)
         (λ og o s v. subst (λ (w : List ℕ). Wrote y at w n y₂) (sym (node-shape (over og o (HashJoin schema s))))
@@ -200,7 +201,7 @@ module _ {widths x : List ℕ} {lo hi g : ℕ} (c : SourceCount x lo hi g) where
         p (sym (c p h) ∙ z) h
 
     -- a node whose columns are its source's, by its tag
-    pub columns-through : g ≡ 1 → {n : ℕ} → ColumnCount widths x lo m n → {t : ℕ} → t ≡ tag-at x hi → (t ≡ 50 → ⊥) → t < 60 → ColumnCount widths x lo hi n
+    pub columns-through : g ≡ 1 → {n : ℕ} → ColumnCount records x lo m n → {t : ℕ} → t ≡ tag-at x hi → (t ≡ 50 → ⊥) → t < 60 → ColumnCount records x lo hi n
     columns-through z {n} a {t} e i j schema p w h =
         by-over (λ p. NodeHere x lo hi p → n ≡ columns schema p)
         (λ og o s v. a schema s w (over-source og o s v (own (over og o s) v)) ∙ go og o s (e ∙ node-tag (over og o s) v ∙ tagged (over og o s))) p (sym (c p h) ∙ z) h
@@ -215,14 +216,14 @@ module _ {widths x : List ℕ} {lo hi g : ℕ} (c : SourceCount x lo hi g) where
         go og (other (aggregate es gs)) s q = absurd (i q)
 
     module _ (two : g ≡ 2) where
-      pub join-at : ColumnsAt widths x lo hi → JoinAt x m hi
+      pub join-at : ColumnsAt records x lo hi → JoinAt x m hi
       join-at t =
           by-join (λ p. NodeHere x lo hi p → JoinAt x m hi) (λ og outer j l r v. record { lo = lo; og = og; outer = outer; j = j; l = l; r = r; here = v; own = own }) (t .p)
           (sym (c (t .p) (t .here)) ∙ two) (t .here)
 
-      module _ {mid : ℕ} (st : mid ≡ start-at x m) {i : ℕ} (d : ColumnCount widths x lo mid i) where
-        pub writes-join : {y : List ℕ} {at u v n : ℕ} {y₁ y₂ y₃ : List ℕ} → length y₁ ≡ length y → length y₂ ≡ length y₁ → Writes widths x lo mid y at u y₁
-            → Writes widths x mid m y₁ u v y₂ → Rewrites i x m hi y₂ at v n y₃ → Writes widths x lo hi y at n y₃
+      module _ {mid : ℕ} (st : mid ≡ start-at x m) {i : ℕ} (d : ColumnCount records x lo mid i) where
+        pub writes-join : {y : List ℕ} {at u v n : ℕ} {y₁ y₂ y₃ : List ℕ} → length y₁ ≡ length y → length y₂ ≡ length y₁ → Writes records x lo mid y at u y₁
+            → Writes records x mid m y₁ u v y₂ → Rewrites i x m hi y₂ at v n y₃ → Writes records x lo hi y at n y₃
         writes-join {y} {at} {u} {v} {n} {y₁} {y₂} {y₃} k₁ k₂ a b f schema p w h =
             by-join (λ p. NodeHere x lo hi p → Wrote y at (node-words (HashJoin schema p)) n y₃)
             (λ og outer j l r h.
@@ -232,7 +233,7 @@ module _ {widths x : List ℕ} {lo hi g : ℕ} (c : SourceCount x lo hi g) where
             (f lo og outer j l r h own y (HashJoin schema l) (HashJoin schema r) (k₂ ∙ k₁) (then k₁ (a schema l w a₁) (b schema r w (join-right og outer j l r h e st)))))
             p (sym (c p h) ∙ two) h
 
-        pub columns-both : {k : ℕ} → ColumnCount widths x mid m k → ColumnCount widths x lo hi (i + k)
+        pub columns-both : {k : ℕ} → ColumnCount records x mid m k → ColumnCount records x lo hi (i + k)
         columns-both {k} a schema p w h =
             by-join (λ p. NodeHere x lo hi p → i + k ≡ columns schema p)
             (λ og outer j l r h.
@@ -240,13 +241,13 @@ module _ {widths x : List ℕ} {lo hi g : ℕ} (c : SourceCount x lo hi g) where
             omega (arith, d schema l w (join-left og outer j l r h e st), a schema r w (join-right og outer j l r h e st)))
             p (sym (c p h) ∙ two) h
 
-pub count-few : {widths x : List ℕ} {lo hi n : ℕ} → ColumnsAt widths x lo hi → ColumnCount widths x lo hi n → n ≤ 4294967296
+pub count-few : {records x : List ℕ} {lo hi n : ℕ} → ColumnsAt records x lo hi → ColumnCount records x lo hi n → n ≤ 4294967296
 count-few t a = omega (arith, few-columns t, a (t .schema) (t .p) (t .tables) (t .here))
 
 -- ---- the pass
 
-module _ {widths x : List ℕ} {lo hi tail : ℕ} {y : List ℕ} {at : ℕ} where
-  pub columns-at : StreamAt (λ schema. Tables schema widths) x lo hi tail y at → ColumnsAt widths x lo hi
+module _ {records x : List ℕ} {lo hi tail : ℕ} {y : List ℕ} {at : ℕ} where
+  pub columns-at : StreamAt (Tables records) x lo hi tail y at → ColumnsAt records x lo hi
   columns-at g =
       record {
         schema = g .schema;
@@ -258,8 +259,8 @@ module _ {widths x : List ℕ} {lo hi tail : ℕ} {y : List ℕ} {at : ℕ} wher
       }
 
   -- what is written has room
-  pub writes-streams : {n : ℕ} {y′ : List ℕ} → length y′ ≡ length y → Writes widths x lo hi y at n y′
-      → Streams (λ schema. Tables schema widths) (λ room schema rest p. done (HashJoin schema p)) x lo hi tail y at n y′
+  pub writes-streams : {n : ℕ} {y′ : List ℕ} → length y′ ≡ length y → Writes records x lo hi y at n y′
+      → Streams (Tables records) (λ room schema rest p. done (HashJoin schema p)) x lo hi tail y at n y′
   writes-streams k a schema text tables lent room rest p h =
       written-done (HashJoin schema p) (hash-keeps schema text tables p (h .fit .0)) k
       (omega (arith, reading-total h, words-long p, words-long (HashJoin schema p), hash-smaller schema p)) (h .shares .short) (a schema p lent (h .here))

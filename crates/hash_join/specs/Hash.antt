@@ -14,7 +14,7 @@ use Rattle.cells.specs.Room.{Wrote}
 use Rattle.words.specs.Words.{node-words}
 use Rattle.words.specs.Place.{NodeHere}
 use Rattle.nodes.specs.Own.{OwnStart}
-use Rattle.nodes.specs.Columns.{Tables}
+use Rattle.records.specs.Records.{Tables}
 use Rattle.hash_join.specs.declared.HashColumns.{HashColumns}
 use Rattle.hash_join.specs.declared.HashColumns.the-variants.{Pair, None}
 use Rattle.sheet.specs.Tags
@@ -51,5 +51,5 @@ Rewrites n x m hi y at u k y′ =
 
 -- The node after pass 4 is appended to the first `at` words of y, or has no room.
 abbrev pub Writes : List ℕ → List ℕ → ℕ → ℕ → List ℕ → ℕ → ℕ → List ℕ → Type 0
-Writes widths x lo hi y at n y′ =
-    (schema : Schema) (p : Node) → Tables schema widths → NodeHere x lo hi p → Wrote y at (node-words (HashJoin schema p)) n y′
+Writes records x lo hi y at n y′ =
+    (schema : Schema) (p : Node) → Tables records schema → NodeHere x lo hi p → Wrote y at (node-words (HashJoin schema p)) n y′

@@ -4,7 +4,8 @@ ghost use mathlib.Core.Path.{_≡_};
 ghost use Rattle.sql.specs.Answer.{done};
 ghost use Rattle.sql.specs.Optimizer.{HashJoin};
 ghost use Rattle.nodes.specs.Own.{OwnStart, SourceCount};
-ghost use Rattle.nodes.specs.Columns.{Tables, ColumnsAt, ColumnCount};
+ghost use Rattle.nodes.specs.Columns.{ColumnsAt, ColumnCount};
+ghost use Rattle.records.specs.Records.{Tables};
 ghost use Rattle.column_lookup.specs.Lookup.{pair};
 ghost use Rattle.stream.specs.Stream.{StreamAt, Streams};
 ghost use Rattle.hash_join.specs.Hash.{sides, hash-sides, hash-cell, JoinAt, Rewrites, Writes};
@@ -68,19 +69,19 @@ fn hash_join(x: &[u32], m: usize, hi: usize, y: &mut [u32], lo: usize, at: usize
 }
 
 // The columns of the node from lo to hi over one source, which has n columns.
-fn over_columns(x: &[u32], lo: usize, hi: usize, widths: &[usize], m: usize, n: usize) -> usize
-    requires { ⌜ ColumnsAt (now widths) (now x) lo hi ⌝ }
+fn over_columns(x: &[u32], lo: usize, hi: usize, tables: &[u8], m: usize, n: usize) -> usize
+    requires { ⌜ ColumnsAt (now tables) (now x) lo hi ⌝ }
     requires { ⌜ SourceCount (now x) lo hi 1 ⌝ }
     requires { ⌜ OwnStart (now x) lo hi m ⌝ }
-    requires { ⌜ ColumnCount (now widths) (now x) lo m n ⌝ }
-    ensures { λ r. ⌜ ColumnCount (now (widths .entry)) (now (x .entry)) lo hi r ⌝ }
+    requires { ⌜ ColumnCount (now tables) (now x) lo m n ⌝ }
+    ensures { λ r. ⌜ ColumnCount (now (tables .entry)) (now (x .entry)) lo hi r ⌝ }
 {
     let tag = cells::tag_at(x, hi);
     if tag == tags::AGGREGATE {
-        return nodes::columns(x, lo, hi, widths);
+        return nodes::columns(x, lo, hi, tables);
     }
     if tags::PROJECTION <= tag {
-        return nodes::columns(x, lo, hi, widths);
+        return nodes::columns(x, lo, hi, tables);
     }
     n
 }
@@ -92,34 +93,27 @@ struct Written {
 }
 
 // The node from lo to hi with all its joins rewritten.
-fn hash_joins(
-    x: &[u32],
-    lo: usize,
-    hi: usize,
-    y: &mut [u32],
-    at: usize,
-    widths: &[usize],
-) -> Written
-    requires { ⌜ ColumnsAt (now widths) (now x) lo hi ⌝ }
-    ensures { λ r. ⌜ Writes (now (widths .entry)) (now (x .entry)) lo hi (now (y .entry)) at (r .end) (now (y .exit)) ⌝ }
-    ensures { λ r. ⌜ ColumnCount (now (widths .entry)) (now (x .entry)) lo hi (r .columns) ⌝ }
+fn hash_joins(x: &[u32], lo: usize, hi: usize, y: &mut [u32], at: usize, tables: &[u8]) -> Written
+    requires { ⌜ ColumnsAt (now tables) (now x) lo hi ⌝ }
+    ensures { λ r. ⌜ Writes (now (tables .entry)) (now (x .entry)) lo hi (now (y .entry)) at (r .end) (now (y .exit)) ⌝ }
+    ensures { λ r. ⌜ ColumnCount (now (tables .entry)) (now (x .entry)) lo hi (r .columns) ⌝ }
 {
     let sources = nodes::source_count(x, lo, hi);
     if sources == 0 {
-        let columns = nodes::columns(x, lo, hi, widths);
+        let columns = nodes::columns(x, lo, hi, tables);
         let end = cells::copy(x, lo, hi, y, at);
         return Written { end, columns };
     }
     let m = nodes::own_start(x, lo, hi);
     if sources == 1 {
-        let s = hash_joins_of_source(x, lo, m, y, at, widths);
-        let columns = over_columns(x, lo, hi, widths, m, s.columns);
+        let s = hash_joins_of_source(x, lo, m, y, at, tables);
+        let columns = over_columns(x, lo, hi, tables, m, s.columns);
         let end = stream::finish(x, m, hi, y, at, s.end);
         return Written { end, columns };
     }
     let mid = cells::start(x, m);
-    let l = hash_joins_of_source(x, lo, mid, y, at, widths);
-    let r = hash_joins_of_source(x, mid, m, y, l.end, widths);
+    let l = hash_joins_of_source(x, lo, mid, y, at, tables);
+    let r = hash_joins_of_source(x, mid, m, y, l.end, tables);
     let end = hash_join(x, m, hi, y, at, r.end, l.columns);
     Written {
         end,
@@ -134,25 +128,25 @@ fn hash_joins_of_source(
     hi: usize,
     y: &mut [u32],
     at: usize,
-    widths: &[usize],
+    tables: &[u8],
 ) -> Written
-    requires { ⌜ ColumnsAt (now widths) (now x) lo hi ⌝ }
-    ensures { λ r. ⌜ Writes (now (widths .entry)) (now (x .entry)) lo hi (now (y .entry)) at (r .end) (now (y .exit)) ⌝ }
-    ensures { λ r. ⌜ ColumnCount (now (widths .entry)) (now (x .entry)) lo hi (r .columns) ⌝ }
+    requires { ⌜ ColumnsAt (now tables) (now x) lo hi ⌝ }
+    ensures { λ r. ⌜ Writes (now (tables .entry)) (now (x .entry)) lo hi (now (y .entry)) at (r .end) (now (y .exit)) ⌝ }
+    ensures { λ r. ⌜ ColumnCount (now (tables .entry)) (now (x .entry)) lo hi (r .columns) ⌝ }
 {
     if hi - lo == cells::CELL_WORDS {
-        let columns = nodes::columns(x, lo, hi, widths);
+        let columns = nodes::columns(x, lo, hi, tables);
         let end = cells::copy(x, lo, hi, y, at);
         return Written { end, columns };
     }
-    hash_joins(x, lo, hi, y, at, widths)
+    hash_joins(x, lo, hi, y, at, tables)
 }
 
 // The pass: the plan in the first t words of x is written to y.
-pub fn optimize(x: &[u32], t: usize, y: &mut [u32], widths: &[usize]) -> usize
-    requires { ⌜ StreamAt (λ schema. Tables schema (now widths)) (now x) 0 t 0 (now y) 0 ⌝ }
-    ensures { λ r. ⌜ Streams (λ schema. Tables schema (now (widths .entry))) (λ room schema rest p. done (HashJoin schema p)) (now (x .entry)) 0 t 0 (now (y .entry)) 0 r (now (y .exit)) ⌝ }
+pub fn optimize(x: &[u32], t: usize, y: &mut [u32], tables: &[u8]) -> usize
+    requires { ⌜ StreamAt (Tables (now tables)) (now x) 0 t 0 (now y) 0 ⌝ }
+    ensures { λ r. ⌜ Streams (Tables (now (tables .entry))) (λ room schema rest p. done (HashJoin schema p)) (now (x .entry)) 0 t 0 (now (y .entry)) 0 r (now (y .exit)) ⌝ }
 {
-    let plan = hash_joins(x, 0, t, y, 0, widths);
+    let plan = hash_joins(x, 0, t, y, 0, tables);
     plan.end
 }

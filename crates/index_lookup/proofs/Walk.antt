@@ -20,7 +20,8 @@ use Rattle.words.proofs.Sizes.{sized-long}
 use Rattle.nodes.specs.Own.{OwnStart, SourceCount}
 use Rattle.stream.specs.Stream.{Streams, Finishes}
 use Rattle.stream.proofs.Sources.{one-cell, source-stop, source-go, over-done, left-stop, right-stop, both-go, join-done}
-use Rattle.lookup_step.specs.Lookup.{Lent, HasFilter}
+use Rattle.lookup_step.specs.Lookup.{HasFilter}
+use Rattle.records.specs.Records.{Records}
 use Rattle.lookup_step.proofs.Steps.{leaf-copied}
 
 after-source : ℕ → Schema → ℕ → ℕ → Over → Node → Node → Answer Node
@@ -40,29 +41,29 @@ join-shape : (room : ℕ) (schema : Schema) (rest og : ℕ) (outer : Bool) (j : 
 unfolding IndexLookup after-sources
 join-shape room schema rest og outer j l r = refl
 
-module _ (widths keys columns : List ℕ) {x : List ℕ} {lo hi tail g m : ℕ} {y : List ℕ} {at : ℕ} (c : SourceCount x lo hi g) (own : OwnStart x lo hi m) where
-  module _ (one : g ≡ 1) {u : ℕ} {y₁ : List ℕ} (a : Streams (Lent widths keys columns) IndexLookup x lo m (tail + (hi - m)) y at u y₁) where
-    pub one-stop : length y₁ < u → Streams (Lent widths keys columns) IndexLookup x lo hi tail y at u y₁
+module _ (records columns : List ℕ) {x : List ℕ} {lo hi tail g m : ℕ} {y : List ℕ} {at : ℕ} (c : SourceCount x lo hi g) (own : OwnStart x lo hi m) where
+  module _ (one : g ≡ 1) {u : ℕ} {y₁ : List ℕ} (a : Streams (Records records columns) IndexLookup x lo m (tail + (hi - m)) y at u y₁) where
+    pub one-stop : length y₁ < u → Streams (Records records columns) IndexLookup x lo hi tail y at u y₁
     one-stop z = source-stop c one own IndexLookup IndexLookup after-source over-shape a z
 
     pub one-go : u ≤ length y₁ → length y₁ ≡ length y → {r : ℕ} {y₂ : List ℕ} → length y₂ ≡ length y₁ → Finishes x m hi y₁ at u r y₂
-        → Streams (Lent widths keys columns) IndexLookup x lo hi tail y at r y₂
+        → Streams (Records records columns) IndexLookup x lo hi tail y at r y₂
     unfolding after-source
     one-go z k₁ k₂ f =
         source-go c one own IndexLookup IndexLookup after-source over-shape a z
         (λ schema text tables lent room rest og o n h q s. over-done own og o n h k₁ q s k₂ f)
 
   module _ (two : g ≡ 2) {mid : ℕ} (st : mid ≡ start-at x m) {u : ℕ} {y₁ : List ℕ}
-      (a : Streams (Lent widths keys columns) IndexLookup x lo mid (tail + (hi - mid)) y at u y₁) where
-    pub left-refused : length y₁ < u → Streams (Lent widths keys columns) IndexLookup x lo hi tail y at u y₁
+      (a : Streams (Records records columns) IndexLookup x lo mid (tail + (hi - mid)) y at u y₁) where
+    pub left-refused : length y₁ < u → Streams (Records records columns) IndexLookup x lo hi tail y at u y₁
     left-refused z = left-stop c two own st IndexLookup a IndexLookup after-sources join-shape z
 
-    module _ (k₁ : length y₁ ≡ length y) (z : u ≤ length y₁) {v : ℕ} {y₂ : List ℕ} (b : Streams (Lent widths keys columns) IndexLookup x mid m (tail + (hi - m)) y₁ u v y₂) where
-      pub right-refused : length y₂ < v → Streams (Lent widths keys columns) IndexLookup x lo hi tail y at v y₂
+    module _ (k₁ : length y₁ ≡ length y) (z : u ≤ length y₁) {v : ℕ} {y₂ : List ℕ} (b : Streams (Records records columns) IndexLookup x mid m (tail + (hi - m)) y₁ u v y₂) where
+      pub right-refused : length y₂ < v → Streams (Records records columns) IndexLookup x lo hi tail y at v y₂
       right-refused i = right-stop c two own st IndexLookup a IndexLookup after-sources join-shape k₁ z b i
 
       pub two-go : v ≤ length y₂ → length y₂ ≡ length y₁ → {r : ℕ} {y₃ : List ℕ} → length y₃ ≡ length y₂ → Finishes x m hi y₂ at v r y₃
-          → Streams (Lent widths keys columns) IndexLookup x lo hi tail y at r y₃
+          → Streams (Records records columns) IndexLookup x lo hi tail y at r y₃
       unfolding after-sources
       two-go i k₂ k₃ f =
           both-go c two own st IndexLookup a IndexLookup after-sources join-shape k₁ z b i
@@ -81,6 +82,6 @@ no-filter e og (lookup a t al vs) u = refl
 no-filter e og (nothing ls) u = refl
 no-filter e og (values rs) u = refl
 
-pub one-cell-copied : {widths keys columns : List ℕ} {x : List ℕ} {lo hi tail : ℕ} {y : List ℕ} {at : ℕ} → hi - lo ≡ cell-words → {r : ℕ} {y′ : List ℕ} → length y′ ≡ length y
-    → Copies x lo hi y at r y′ → Streams (Lent widths keys columns) IndexLookup x lo hi tail y at r y′
+pub one-cell-copied : {records columns : List ℕ} {x : List ℕ} {lo hi tail : ℕ} {y : List ℕ} {at : ℕ} → hi - lo ≡ cell-words → {r : ℕ} {y′ : List ℕ} → length y′ ≡ length y
+    → Copies x lo hi y at r y′ → Streams (Records records columns) IndexLookup x lo hi tail y at r y′
 one-cell-copied e k v = leaf-copied (no-filter e) (one-cell e) refl k v

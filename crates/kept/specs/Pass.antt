@@ -1,4 +1,5 @@
--- The contract of a pass, or of a step of one, that edits the plan in place (crate edit). `widths` is what the code is lent of the schema (crate nodes).
+-- The contract of a pass, or of a step of one, that edits the plan in place (crate edit). `records` are the table records that the code is
+-- lent of the schema (crate records).
 use Prim.Native.Nat.{ℕ, _≤_}
 use mathlib.Core.List.{List}
 use lib.ListN.{length}
@@ -6,20 +7,20 @@ use Rattle.sql.specs.Schema.{Schema}
 use Rattle.sql.specs.Plan.{Node}
 use Rattle.sql.specs.Answer.{Answer}
 use Rattle.cells.specs.Room.{most-words}
-use Rattle.nodes.specs.Columns.{Tables}
+use Rattle.records.specs.Records.{Tables}
 use Rattle.edit.specs.Edit.{Held, Edit}
 use Rattle.kept.specs.Kept.{Kept}
 
 -- Some sound node of a schema that is lent stands there, in a list that is short enough for its columns to be counted without overflow.
-pub record PassAt (widths x : List ℕ) (t lo tail : ℕ) : Type 0 where
+pub record PassAt (records x : List ℕ) (t lo tail : ℕ) : Type 0 where
   pub schema : Schema
   pub text : List ℕ
   pub tables : ℕ
-  pub given : Tables schema widths
+  pub given : Tables records schema
   pub held : Held (Kept schema text tables) x t lo tail
   pub short : length x ≤ most-words
 
 -- x′ with n words is x with t words after f, a function of the room, the schema, the number of cells outside the node, and the node.
-abbrev pub Passes : (ℕ → Schema → ℕ → Node → Answer Node) → (widths x : List ℕ) (t lo tail n : ℕ) → List ℕ → Type 0
-Passes f widths x t lo tail n x′ =
-    (schema : Schema) (text : List ℕ) (tables : ℕ) → Tables schema widths → Edit (Kept schema text tables) (λ room. f room schema) x t lo tail n x′
+abbrev pub Passes : (ℕ → Schema → ℕ → Node → Answer Node) → (records x : List ℕ) (t lo tail n : ℕ) → List ℕ → Type 0
+Passes f records x t lo tail n x′ =
+    (schema : Schema) (text : List ℕ) (tables : ℕ) → Tables records schema → Edit (Kept schema text tables) (λ room. f room schema) x t lo tail n x′

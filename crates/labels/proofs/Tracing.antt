@@ -23,7 +23,8 @@ use Rattle.words.proofs.Nodes.{node-cell-is, node-tag, own-part, over-source, j
 use Rattle.words.proofs.Tags.{tagged, leaf-tag, over-tag, by-leaf, by-over, by-join, by-nothing, leaf-nothing, leaf-values}
 use Rattle.words.proofs.Sizes.{all-single}
 use Rattle.nodes.specs.Own.{OwnStart, SourceCount}
-use Rattle.nodes.specs.Columns.{Tables, Narrow, ColumnsAt, ColumnCount, GoesThrough}
+use Rattle.nodes.specs.Columns.{Narrow, ColumnsAt, ColumnCount, GoesThrough}
+use Rattle.records.specs.Records.{Tables}
 use Rattle.nodes.proofs.Own.{tag-in}
 use Rattle.nodes.proofs.Widths.{a-here, tag-here, columns-node, source-in, source-columns-at, through-in, sources-in}
 use Rattle.labels.specs.declared.Label.{Label}
@@ -162,7 +163,7 @@ module _ {s : List ℕ} {lo hi : ℕ} (c : SourceCount s lo hi 1) (g : (tag-at s
           ⊎-elim (λ (j : tag-at s hi ≡ 50). absurd (omega arith)) (λ (j : 60 ≤ tag-at s hi). absurd (omega arith)) g
       go og (other o) n u = f og o n u
 
-pub ends-leaf : {widths s : List ℕ} {lo hi : ℕ} (i : ℕ) → SourceCount s lo hi 0 → (o : Traced) → LeafTraced s lo hi i o → Traces widths s lo hi i o
+pub ends-leaf : {records s : List ℕ} {lo hi : ℕ} (i : ℕ) → SourceCount s lo hi 0 → (o : Traced) → LeafTraced s lo hi i o → Traces records s lo hi i o
 ends-leaf {s = s} {lo = lo} {hi = hi} i c o g schema p t u =
     by-leaf (λ p. NodeHere s lo hi p → named schema o ≡ column-label schema p i) (λ og l u. g schema og l u) p (sym (c p u)) u
 
@@ -194,8 +195,8 @@ module _ {s : List ℕ} {lo hi m : ℕ} (c : SourceCount s lo hi 1) (own : OwnSt
       record { q = n; here = over-source og o n u (own (over og o n) u); count = same-columns schema og o n w k e; same = same-label schema og o n i k })
       p (sym (c p u)) u e
 
-  pub moves-source : {widths : List ℕ} {w : ℕ} (i : ℕ) → CountedAt widths s lo hi w → Moves widths s lo hi i w (record { lo = lo; hi = m; column = i; columns = w })
-  moves-source {widths} {w} i t =
+  pub moves-source : {records : List ℕ} {w : ℕ} (i : ℕ) → CountedAt records s lo hi w → Moves records s lo hi i w (record { lo = lo; hi = m; column = i; columns = w })
+  moves-source {records} {w} i t =
       let (a, b) = source-in c own (columns-node (t .at)) in
       record {
         there = go;
@@ -203,10 +204,10 @@ module _ {s : List ℕ} {lo hi m : ℕ} (c : SourceCount s lo hi 1) (own : OwnSt
         reaches = λ schema p k u e. reached-source schema i w p u e;
       }
     where
-      go : CountedAt widths s lo m w
+      go : CountedAt records s lo m w
       go =
           let (a, b) = source-in c own (columns-node (t .at)) in
-          by-over (λ p. NodeHere s lo hi p → Narrow p → Asked (t .at .schema) p w → CountedAt widths s lo m w)
+          by-over (λ p. NodeHere s lo hi p → Narrow p → Asked (t .at .schema) p w → CountedAt records s lo m w)
           (λ og o n u k e. record {
             at = record { schema = t .at .schema; tables = t .at .tables; p = n; here = over-source og o n u (own (over og o n) u); narrow = k .1; short = omega (arith, t .at .short) };
             count = same-columns (t .at .schema) og o n w (node-tag (over og o n) u ∙ tagged (over og o n)) e;
@@ -214,7 +215,7 @@ module _ {s : List ℕ} {lo hi m : ℕ} (c : SourceCount s lo hi 1) (own : OwnSt
           (t .at .p) (sym (c (t .at .p) (t .at .here))) (t .at .here) (t .at .narrow) (t .count)
 
 -- a count that isn't asked for
-pub not-asked : {widths s : List ℕ} {lo hi : ℕ} → NodeAt s lo hi → (tag-at s hi ≡ 50) ⊎ (60 ≤ tag-at s hi) → AskedCount widths s lo hi 0
+pub not-asked : {records s : List ℕ} {lo hi : ℕ} → NodeAt s lo hi → (tag-at s hi ≡ 50) ⊎ (60 ≤ tag-at s hi) → AskedCount records s lo hi 0
 not-asked {s = s} {lo = lo} {hi = hi} t g schema p k u h = let z = own p u in absurd (omega arith)
   where
     own : GoesThrough s lo hi 0
@@ -225,14 +226,14 @@ not-asked {s = s} {lo = lo} {hi = hi} t g schema p k u h = let z = own p u in ab
 -- a node with columns of its own
 module _ {s : List ℕ} {lo hi m : ℕ} (i : ℕ) (c : SourceCount s lo hi 1) (own : OwnStart s lo hi m) (g : (tag-at s hi ≡ 50) ⊎ (60 ≤ tag-at s hi)) (r : Route)
     (route : Routes s lo hi i r) where
-  pub ends-own : {widths : List ℕ} (l : Label) → r ≡ Ends l → Traces widths s lo hi i (Said l)
+  pub ends-own : {records : List ℕ} (l : Label) → r ≡ Ends l → Traces records s lo hi i (Said l)
   ends-own l e schema p t u =
       not-filter c g (λ p. label l ≡ column-label schema p i)
       (λ og o n u. ap (routed-by (column-label schema n)) (sym e) ∙ route (column-label schema n) og o n u) p u
 
-  pub moves-own : {widths : List ℕ} {w : ℕ} (j : ℕ) → r ≡ To j → CountedAt widths s lo hi w → {n : ℕ} → AskedCount widths s lo m n
-      → Moves widths s lo hi i w (record { lo = lo; hi = m; column = j; columns = n })
-  moves-own {widths} {w} j e t {n} f =
+  pub moves-own : {records : List ℕ} {w : ℕ} (j : ℕ) → r ≡ To j → CountedAt records s lo hi w → {n : ℕ} → AskedCount records s lo m n
+      → Moves records s lo hi i w (record { lo = lo; hi = m; column = j; columns = n })
+  moves-own {records} {w} j e t {n} f =
       let (a, b) = source-in c own (columns-node (t .at)) in
       let d = source-columns-at c own (t .at) in
       record {
@@ -259,45 +260,45 @@ module _ {s : List ℕ} {lo hi m mid : ℕ} (c : SourceCount s lo hi 2) (own : O
       by-join (λ p. NodeHere s lo hi p → P p)
       (λ og outer j a b u. g og outer j a b u (join-left og outer j a b u (own (join og outer j a b) u) st) (join-right og outer j a b u (own (join og outer j a b) u) st)) p (sym (c p u)) u
 
-  module _ {widths : List ℕ} {w : ℕ} where
-    pub left-counted : {r : ℕ} → ColumnCount widths s lo mid r → LeftColumns widths s lo hi w r
+  module _ {records : List ℕ} {w : ℕ} where
+    pub left-counted : {r : ℕ} → ColumnCount records s lo mid r → LeftColumns records s lo hi w r
     left-counted f schema og outer j a b t u e = f schema a t (join-left og outer j a b u (own (join og outer j a b) u) st)
 
-    pub right-below : CountedAt widths s lo hi w → {r : ℕ} → ColumnCount widths s mid m r → r ≤ w
+    pub right-below : CountedAt records s lo hi w → {r : ℕ} → ColumnCount records s mid m r → r ≤ w
     right-below t {r} f =
         a-join (λ p. Asked (t .at .schema) p w → r ≤ w) (λ og outer j a b u v x e. omega (arith, e refl, f (t .at .schema) b (t .at .tables) x))
         (t .at .p) (t .at .here) (t .count)
 
-    pub left-by-right : {r : ℕ} → ColumnCount widths s mid m r → LeftColumns widths s lo hi w (w - r)
+    pub left-by-right : {r : ℕ} → ColumnCount records s mid m r → LeftColumns records s lo hi w (w - r)
     left-by-right f schema og outer j a b t u e = omega (arith, f schema b t (join-right og outer j a b u (own (join og outer j a b) u) st))
 
-    module _ (t : CountedAt widths s lo hi w) {left : ℕ} (f : LeftColumns widths s lo hi w left) where
+    module _ (t : CountedAt records s lo hi w) {left : ℕ} (f : LeftColumns records s lo hi w left) where
       pub left-below : left ≤ w
       left-below =
           a-join (λ p. Asked (t .at .schema) p w → left ≤ w)
           (λ og outer j a b u v x e. omega (arith, e refl, f (t .at .schema) og outer j a b (t .at .tables) u (e refl))) (t .at .p) (t .at .here) (t .count)
 
-      left-there : CountedAt widths s lo mid left
+      left-there : CountedAt records s lo mid left
       left-there =
           let (p₁, (p₂, p₃)) = sources-in c own st (columns-node (t .at)) in
-          a-join (λ p. Narrow p → Asked (t .at .schema) p w → CountedAt widths s lo mid left)
+          a-join (λ p. Narrow p → Asked (t .at .schema) p w → CountedAt records s lo mid left)
           (λ og outer j a b u v x k e. record {
             at = record { schema = t .at .schema; tables = t .at .tables; p = a; here = v; narrow = k .0; short = omega (arith, t .at .short) };
             count = λ h. f (t .at .schema) og outer j a b (t .at .tables) u (e refl);
           })
           (t .at .p) (t .at .here) (t .at .narrow) (t .count)
 
-      right-there : CountedAt widths s mid m (w - left)
+      right-there : CountedAt records s mid m (w - left)
       right-there =
           let (p₁, (p₂, p₃)) = sources-in c own st (columns-node (t .at)) in
-          a-join (λ p. Narrow p → Asked (t .at .schema) p w → CountedAt widths s mid m (w - left))
+          a-join (λ p. Narrow p → Asked (t .at .schema) p w → CountedAt records s mid m (w - left))
           (λ og outer j a b u v x k e. record {
             at = record { schema = t .at .schema; tables = t .at .tables; p = b; here = x; narrow = k .1; short = omega (arith, t .at .short) };
             count = λ h. omega (arith, e refl, f (t .at .schema) og outer j a b (t .at .tables) u (e refl));
           })
           (t .at .p) (t .at .here) (t .at .narrow) (t .count)
 
-      pub moves-left : (i : ℕ) → i < left → Moves widths s lo hi i w (record { lo = lo; hi = mid; column = i; columns = left })
+      pub moves-left : (i : ℕ) → i < left → Moves records s lo hi i w (record { lo = lo; hi = mid; column = i; columns = left })
       moves-left i h =
           let (p₁, (p₂, p₃)) = sources-in c own st (columns-node (t .at)) in
           record {
@@ -315,7 +316,7 @@ module _ {s : List ℕ} {lo hi m mid : ℕ} (c : SourceCount s lo hi 2) (own : O
                 p u e;
           }
 
-      pub moves-right : (i : ℕ) → left ≤ i → Moves widths s lo hi i w (record { lo = mid; hi = m; column = i - left; columns = w - left })
+      pub moves-right : (i : ℕ) → left ≤ i → Moves records s lo hi i w (record { lo = mid; hi = m; column = i - left; columns = w - left })
       moves-right i h =
           let (p₁, (p₂, p₃)) = sources-in c own st (columns-node (t .at)) in
           record {
@@ -337,30 +338,30 @@ module _ {s : List ℕ} {lo hi m mid : ℕ} (c : SourceCount s lo hi 2) (own : O
 -- ---- all steps
 
 -- Where looking for a label has got to.
-pub record Way (widths s : List ℕ) (lo hi i lo′ hi′ c w : ℕ) : Type 0 where
-  pub there : CountedAt widths s lo′ hi′ w
-  pub reaches : (schema : Schema) (p : Node) → Tables schema widths → NodeHere s lo hi p → Reached schema s p i lo′ hi′ c w
+pub record Way (records s : List ℕ) (lo hi i lo′ hi′ c w : ℕ) : Type 0 where
+  pub there : CountedAt records s lo′ hi′ w
+  pub reaches : (schema : Schema) (p : Node) → Tables records schema → NodeHere s lo hi p → Reached schema s p i lo′ hi′ c w
 
-module _ {widths s : List ℕ} {lo hi i : ℕ} where
-  pub way-first : (t : ColumnsAt widths s lo hi) {w : ℕ} → ColumnCount widths s lo hi w → Way widths s lo hi i lo hi i w
+module _ {records s : List ℕ} {lo hi i : ℕ} where
+  pub way-first : (t : ColumnsAt records s lo hi) {w : ℕ} → ColumnCount records s lo hi w → Way records s lo hi i lo hi i w
   way-first t f =
       record {
         there = record { at = t; count = λ h. f (t .schema) (t .p) (t .tables) (t .here) };
         reaches = λ schema p k u. record { q = p; here = u; count = λ h. f schema p k u; same = refl };
       }
 
-  module _ {lo′ hi′ c w : ℕ} (a : Way widths s lo hi i lo′ hi′ c w) {r : Next} (f : Steps widths s lo′ hi′ c w r) where
-    pub way-done : (o : Traced) → r ≡ Done o → Traces widths s lo hi i o
+  module _ {lo′ hi′ c w : ℕ} (a : Way records s lo hi i lo′ hi′ c w) {r : Next} (f : Steps records s lo′ hi′ c w r) where
+    pub way-done : (o : Traced) → r ≡ Done o → Traces records s lo hi i o
     way-done o e schema p k u =
         let x = a .reaches schema p k u in
-        subst (λ (r : Next). Steps widths s lo′ hi′ c w r) e f schema (x .q) k (x .here) ∙ x .same
+        subst (λ (r : Next). Steps records s lo′ hi′ c w r) e f schema (x .q) k (x .here) ∙ x .same
 
     pub way-shorter : (x : Spot) → r ≡ More x → x .hi - x .lo < hi′ - lo′
-    way-shorter x e = subst (λ (r : Next). Steps widths s lo′ hi′ c w r) e f .shorter
+    way-shorter x e = subst (λ (r : Next). Steps records s lo′ hi′ c w r) e f .shorter
 
-    pub way-more : (x : Spot) → r ≡ More x → Way widths s lo hi i (x .lo) (x .hi) (x .column) (x .columns)
+    pub way-more : (x : Spot) → r ≡ More x → Way records s lo hi i (x .lo) (x .hi) (x .column) (x .columns)
     way-more x e =
-        let g : Moves widths s lo′ hi′ c w x = subst (λ (r : Next). Steps widths s lo′ hi′ c w r) e f in
+        let g : Moves records s lo′ hi′ c w x = subst (λ (r : Next). Steps records s lo′ hi′ c w r) e f in
         record {
           there = g .there;
           reaches = λ schema p k u.

@@ -14,7 +14,8 @@ use Rattle.sheet.specs.Content.{label-of}
 use Rattle.cells.specs.Cells.{Part}
 use Rattle.words.specs.Words.{all-words, expression-words, item-words, label-words, target-words}
 use Rattle.words.specs.Place.{NodeHere}
-use Rattle.nodes.specs.Columns.{Tables, ColumnsAt, through}
+use Rattle.nodes.specs.Columns.{ColumnsAt, through}
+use Rattle.records.specs.Records.{Tables}
 use Rattle.labels.specs.declared.Label.{Label}
 use Rattle.labels.specs.declared.Label.the-variants.{Unlabelled, Unqualified, Qualified}
 use Rattle.labels.specs.declared.Route.{Route}
@@ -99,23 +100,23 @@ abbrev pub Asked : Schema → Node → ℕ → Type 0
 Asked schema p w = through p ≡ 1 → w ≡ columns schema p
 
 -- r is the number of columns of the node there, where that is asked for.
-abbrev pub AskedCount : (widths s : List ℕ) (lo hi r : ℕ) → Type 0
-AskedCount widths s lo hi r = (schema : Schema) (p : Node) → Tables schema widths → NodeHere s lo hi p → Asked schema p r
+abbrev pub AskedCount : (records s : List ℕ) (lo hi r : ℕ) → Type 0
+AskedCount records s lo hi r = (schema : Schema) (p : Node) → Tables records schema → NodeHere s lo hi p → Asked schema p r
 
 -- Some node whose columns can be counted stands there, and has w of them, where that is asked for.
-pub record CountedAt (widths s : List ℕ) (lo hi w : ℕ) : Type 0 where
-  pub at : ColumnsAt widths s lo hi
+pub record CountedAt (records s : List ℕ) (lo hi w : ℕ) : Type 0 where
+  pub at : ColumnsAt records s lo hi
   pub count : Asked (at .schema) (at .p) w
 
 -- r is the number of columns of the left source of the node there, which has w columns.
-abbrev pub LeftColumns : (widths s : List ℕ) (lo hi w r : ℕ) → Type 0
-LeftColumns widths s lo hi w r =
-    (schema : Schema) (og : ℕ) (outer : Bool) (j : Join) (left right : Node) → Tables schema widths → NodeHere s lo hi (join og outer j left right)
+abbrev pub LeftColumns : (records s : List ℕ) (lo hi w r : ℕ) → Type 0
+LeftColumns records s lo hi w r =
+    (schema : Schema) (og : ℕ) (outer : Bool) (j : Join) (left right : Node) → Tables records schema → NodeHere s lo hi (join og outer j left right)
     → w ≡ columns schema left + columns schema right → r ≡ columns schema left
 
 -- r is what the label of column i of the node there comes from.
 abbrev pub Traces : List ℕ → List ℕ → ℕ → ℕ → ℕ → Traced → Type 0
-Traces widths s lo hi i r = (schema : Schema) (p : Node) → Tables schema widths → NodeHere s lo hi p → named schema r ≡ column-label schema p i
+Traces records s lo hi i r = (schema : Schema) (p : Node) → Tables records schema → NodeHere s lo hi p → named schema r ≡ column-label schema p i
 
 -- Column i of p has the label of column c of the node from lo to hi, which has w columns, where that is asked for.
 pub record Reached (schema : Schema) (s : List ℕ) (p : Node) (i lo hi c w : ℕ) : Type 0 where
@@ -125,12 +126,12 @@ pub record Reached (schema : Schema) (s : List ℕ) (p : Node) (i lo hi c w : �
   pub same : column-label schema q c ≡ column-label schema p i
 
 -- A step to another column, of a shorter node.
-pub record Moves (widths s : List ℕ) (lo hi i w : ℕ) (x : Spot) : Type 0 where
-  pub there : CountedAt widths s (x .lo) (x .hi) (x .columns)
+pub record Moves (records s : List ℕ) (lo hi i w : ℕ) (x : Spot) : Type 0 where
+  pub there : CountedAt records s (x .lo) (x .hi) (x .columns)
   pub shorter : x .hi - x .lo < hi - lo
-  pub reaches : (schema : Schema) (p : Node) → Tables schema widths → NodeHere s lo hi p → Asked schema p w
+  pub reaches : (schema : Schema) (p : Node) → Tables records schema → NodeHere s lo hi p → Asked schema p w
       → Reached schema s p i (x .lo) (x .hi) (x .column) (x .columns)
 
-abbrev pub Steps : (widths s : List ℕ) (lo hi i w : ℕ) → Next → Type 0
-Steps widths s lo hi i w (Done o) = Traces widths s lo hi i o
-Steps widths s lo hi i w (More x) = Moves widths s lo hi i w x
+abbrev pub Steps : (records s : List ℕ) (lo hi i w : ℕ) → Next → Type 0
+Steps records s lo hi i w (Done o) = Traces records s lo hi i o
+Steps records s lo hi i w (More x) = Moves records s lo hi i w x

@@ -4,13 +4,13 @@ ghost use mathlib.Core.Bool.{_&&_};
 ghost use mathlib.Core.Path.{_≡_};
 ghost use Prim.Native.Nat.{_≤_};
 ghost use lib.Dec.{eqb};
-ghost use lib.ListN.{getD};
 ghost use Rattle.sql.specs.Plan;
 ghost use Rattle.cells.specs.Cells.{tag-at, start-at};
 ghost use Rattle.words.specs.Place.{NodeAt};
 ghost use Rattle.nodes.specs.Own.{OwnStart, SourceCount};
 ghost use Rattle.nodes.specs.Columns.{ColumnsAt, ColumnCount};
-ghost use Rattle.labels.specs.Names.{first-column, NamesAt, ColumnName, TableLabel, qualifier-text, ColumnLabel};
+ghost use Rattle.labels.specs.Names.{ColumnName, TableLabel, qualifier-text, ColumnLabel};
+ghost use Rattle.records.specs.Records.{RecordsAt};
 ghost use Rattle.labels.specs.Labels.{Labelled, ExpressionRoute, ExpressionEnds, ItemRoute, ItemEnds, RemapRoute, TargetsUp, Routes, alias-if, is-aliased, says-columns, LeafTraced, AskedCount, CountedAt, LeftColumns, Steps, Traces};
 
 // The label of a column: none, a name, or a name behind its qualifier, a table's name or alias; all are text references.
@@ -203,30 +203,22 @@ pub fn says_columns(tag: u32) -> bool
 
 // The number of columns of the node from lo to hi, which is asked for only where they are those of its sources. So 0 stands for a Remap's, which would be
 // found by going through all its Targets for each label, and for that of an Aggregate, a Projection, a Scan or a Values.
-fn columns_for(s: &[u32], lo: usize, hi: usize, widths: &[usize]) -> usize
-    requires { ⌜ ColumnsAt (now widths) (now s) lo hi ⌝ }
-    ensures { λ r. ⌜ AskedCount (now (widths .entry)) (now (s .entry)) lo hi r ⌝ }
+fn columns_for(s: &[u32], lo: usize, hi: usize, tables: &[u8]) -> usize
+    requires { ⌜ ColumnsAt (now tables) (now s) lo hi ⌝ }
+    ensures { λ r. ⌜ AskedCount (now (tables .entry)) (now (s .entry)) lo hi r ⌝ }
 {
     if says_columns(cells::tag_at(s, hi)) {
         return 0;
     }
-    nodes::columns(s, lo, hi, widths)
+    nodes::columns(s, lo, hi, tables)
 }
 
 // One step from column i of a node with one source, which ends at m; the node has w columns, where that is asked for.
-fn next_over(
-    s: &[u32],
-    lo: usize,
-    hi: usize,
-    m: usize,
-    i: usize,
-    w: usize,
-    widths: &[usize],
-) -> Next
-    requires { ⌜ CountedAt (now widths) (now s) lo hi w ⌝ }
+fn next_over(s: &[u32], lo: usize, hi: usize, m: usize, i: usize, w: usize, tables: &[u8]) -> Next
+    requires { ⌜ CountedAt (now tables) (now s) lo hi w ⌝ }
     requires { ⌜ SourceCount (now s) lo hi 1 ⌝ }
     requires { ⌜ OwnStart (now s) lo hi m ⌝ }
-    ensures { λ r. ⌜ Steps (now (widths .entry)) (now (s .entry)) lo hi i w r ⌝ }
+    ensures { λ r. ⌜ Steps (now (tables .entry)) (now (s .entry)) lo hi i w r ⌝ }
 {
     let t = cells::tag_at(s, hi);
     if says_columns(t) {
@@ -236,7 +228,7 @@ fn next_over(
                 return Next::Done(Traced::Said(l));
             }
             Route::To(j) => {
-                let n = columns_for(s, lo, m, widths);
+                let n = columns_for(s, lo, m, tables);
                 return Next::More(Spot {
                     lo: lo,
                     hi: m,
@@ -263,38 +255,30 @@ fn left_columns(
     m: usize,
     mid: usize,
     w: usize,
-    widths: &[usize],
+    tables: &[u8],
 ) -> usize
-    requires { ⌜ CountedAt (now widths) (now s) lo hi w ⌝ }
+    requires { ⌜ CountedAt (now tables) (now s) lo hi w ⌝ }
     requires { ⌜ SourceCount (now s) lo hi 2 ⌝ }
     requires { ⌜ OwnStart (now s) lo hi m ⌝ }
     requires { ⌜ mid ≡ start-at (now s) m ⌝ }
-    ensures { λ r. ⌜ LeftColumns (now (widths .entry)) (now (s .entry)) lo hi w r ⌝ }
+    ensures { λ r. ⌜ LeftColumns (now (tables .entry)) (now (s .entry)) lo hi w r ⌝ }
 {
     if mid - lo <= m - mid {
-        return nodes::columns(s, lo, mid, widths);
+        return nodes::columns(s, lo, mid, tables);
     }
-    let right = nodes::columns(s, mid, m, widths);
+    let right = nodes::columns(s, mid, m, tables);
     w - right
 }
 
 // One step from column i of a node with two sources, of which the right one ends at m; the node has w columns.
-fn next_join(
-    s: &[u32],
-    lo: usize,
-    hi: usize,
-    m: usize,
-    i: usize,
-    w: usize,
-    widths: &[usize],
-) -> Next
-    requires { ⌜ CountedAt (now widths) (now s) lo hi w ⌝ }
+fn next_join(s: &[u32], lo: usize, hi: usize, m: usize, i: usize, w: usize, tables: &[u8]) -> Next
+    requires { ⌜ CountedAt (now tables) (now s) lo hi w ⌝ }
     requires { ⌜ SourceCount (now s) lo hi 2 ⌝ }
     requires { ⌜ OwnStart (now s) lo hi m ⌝ }
-    ensures { λ r. ⌜ Steps (now (widths .entry)) (now (s .entry)) lo hi i w r ⌝ }
+    ensures { λ r. ⌜ Steps (now (tables .entry)) (now (s .entry)) lo hi i w r ⌝ }
 {
     let mid = cells::start(s, m);
-    let left = left_columns(s, lo, hi, m, mid, w, widths);
+    let left = left_columns(s, lo, hi, m, mid, w, tables);
     if i < left {
         return Next::More(Spot {
             lo: lo,
@@ -312,9 +296,9 @@ fn next_join(
 }
 
 // One step from column i of the node from lo to hi, which has w columns, where that is asked for.
-fn next_of(s: &[u32], lo: usize, hi: usize, i: usize, w: usize, widths: &[usize]) -> Next
-    requires { ⌜ CountedAt (now widths) (now s) lo hi w ⌝ }
-    ensures { λ r. ⌜ Steps (now (widths .entry)) (now (s .entry)) lo hi i w r ⌝ }
+fn next_of(s: &[u32], lo: usize, hi: usize, i: usize, w: usize, tables: &[u8]) -> Next
+    requires { ⌜ CountedAt (now tables) (now s) lo hi w ⌝ }
+    ensures { λ r. ⌜ Steps (now (tables .entry)) (now (s .entry)) lo hi i w r ⌝ }
 {
     let n = nodes::source_count(s, lo, hi);
     if n == 0 {
@@ -322,23 +306,23 @@ fn next_of(s: &[u32], lo: usize, hi: usize, i: usize, w: usize, widths: &[usize]
     }
     let m = nodes::own_start(s, lo, hi);
     if n == 1 {
-        return next_over(s, lo, hi, m, i, w, widths);
+        return next_over(s, lo, hi, m, i, w, tables);
     }
-    next_join(s, lo, hi, m, i, w, widths)
+    next_join(s, lo, hi, m, i, w, tables)
 }
 
 // What the label of column i of the node from lo to hi comes from; the node has w columns.
-fn trace(s: &[u32], lo: usize, hi: usize, i: usize, w: usize, widths: &[usize]) -> Traced
-    requires { ⌜ ColumnsAt (now widths) (now s) lo hi ⌝ }
-    requires { ⌜ ColumnCount (now widths) (now s) lo hi w ⌝ }
-    ensures { λ r. ⌜ Traces (now (widths .entry)) (now (s .entry)) lo hi i r ⌝ }
+fn trace(s: &[u32], lo: usize, hi: usize, i: usize, w: usize, tables: &[u8]) -> Traced
+    requires { ⌜ ColumnsAt (now tables) (now s) lo hi ⌝ }
+    requires { ⌜ ColumnCount (now tables) (now s) lo hi w ⌝ }
+    ensures { λ r. ⌜ Traces (now (tables .entry)) (now (s .entry)) lo hi i r ⌝ }
 {
     let mut start = lo;
     let mut end = hi;
     let mut column = i;
     let mut columns = w;
     loop {
-        let step = next_of(s, start, end, column, columns, widths);
+        let step = next_of(s, start, end, column, columns, tables);
         match step {
             Next::Done(traced) => {
                 return traced;
@@ -353,49 +337,16 @@ fn trace(s: &[u32], lo: usize, hi: usize, i: usize, w: usize, widths: &[usize]) 
     }
 }
 
-// What stands at index i, or 0 past the end.
-fn entry(list: &[usize], i: usize) -> usize
-    ensures { λ r. ⌜ r ≡ getD (now (list .entry)) i 0 ⌝ }
-{
-    if i < list.len() {
-        return list[i];
-    }
-    0
-}
-
-// The same of names.
-fn name_of(names: &[u32], i: usize) -> u32
-    ensures { λ r. ⌜ r ≡ getD (now (names .entry)) i 0 ⌝ }
-{
-    if i < names.len() {
-        return names[i];
-    }
-    0
-}
-
-// Where table t's columns start among all columns.
-pub fn first_column(widths: &[usize], t: usize) -> usize
-    requires { ⌜ first-column (now widths) t ≤ 256 ⌝ }
-    ensures { λ r. ⌜ r ≡ first-column (now (widths .entry)) t ⌝ }
-{
-    let mut first: usize = 0;
-    let mut k: usize = 0;
-    while k < t {
-        first += entry(widths, k);
-        k += 1;
-    }
-    first
-}
-
 // The name of column i of table t, or 0 where there is none. It is the first word of the column's record, of 16 bytes.
-fn column_name(t: usize, i: usize, widths: &[usize], names: &[u32], columns: &[u8]) -> u32
-    requires { ⌜ NamesAt (now widths) (now names) (now columns) ⌝ }
-    ensures { λ r. ⌜ ColumnName (now (widths .entry)) (now (names .entry)) (now (columns .entry)) t i r ⌝ }
+fn column_name(t: usize, i: usize, tables: &[u8], columns: &[u8]) -> u32
+    requires { ⌜ RecordsAt (now tables) (now columns) ⌝ }
+    ensures { λ r. ⌜ ColumnName (now (tables .entry)) (now (columns .entry)) t i r ⌝ }
 {
-    if entry(widths, t) <= i {
+    if records::table_width(tables, t) <= i {
         return 0;
     }
-    layout::word_at(columns, (first_column(widths, t) + i) * 16) as u32
+    let first = records::first_column(tables, t);
+    layout::word_at(columns, (first + i) * 16) as u32
 }
 
 // The alias if there is one, also an empty one, otherwise the table's name; both are text references.
@@ -423,39 +374,37 @@ fn table_label(
     aliased: bool,
     alias: u32,
     i: usize,
-    widths: &[usize],
-    names: &[u32],
+    tables: &[u8],
     columns: &[u8],
 ) -> Label
-    requires { ⌜ NamesAt (now widths) (now names) (now columns) ⌝ }
-    ensures { λ r. ⌜ TableLabel (now (widths .entry)) (now (names .entry)) (now (columns .entry)) t aliased alias i r ⌝ }
+    requires { ⌜ RecordsAt (now tables) (now columns) ⌝ }
+    ensures { λ r. ⌜ TableLabel (now (tables .entry)) (now (columns .entry)) t aliased alias i r ⌝ }
 {
-    let q = qualifier(aliased, alias, name_of(names, t));
-    Label::Qualified(q, column_name(t, i, widths, names, columns))
+    let q = qualifier(aliased, alias, records::table_name(tables, t));
+    Label::Qualified(q, column_name(t, i, tables, columns))
 }
 
-// The label of column i of the node from lo to hi, which has w columns: who asks for all labels counts them once. widths[t] is the number of columns of
-// table t, names[t] its name, and columns are the records of all columns, table by table.
+// The label of column i of the node from lo to hi, which has w columns: who asks for all labels counts them once. tables and
+// columns are the schema's records (crate records).
 pub fn column_label(
     s: &[u32],
     lo: usize,
     hi: usize,
     i: usize,
     w: usize,
-    widths: &[usize],
-    names: &[u32],
+    tables: &[u8],
     columns: &[u8],
 ) -> Label
-    requires { ⌜ ColumnsAt (now widths) (now s) lo hi ⌝ }
-    requires { ⌜ ColumnCount (now widths) (now s) lo hi w ⌝ }
-    requires { ⌜ NamesAt (now widths) (now names) (now columns) ⌝ }
-    ensures { λ r. ⌜ ColumnLabel (now (widths .entry)) (now (names .entry)) (now (columns .entry)) (now (s .entry)) lo hi i r ⌝ }
+    requires { ⌜ ColumnsAt (now tables) (now s) lo hi ⌝ }
+    requires { ⌜ ColumnCount (now tables) (now s) lo hi w ⌝ }
+    requires { ⌜ RecordsAt (now tables) (now columns) ⌝ }
+    ensures { λ r. ⌜ ColumnLabel (now (tables .entry)) (now (columns .entry)) (now (s .entry)) lo hi i r ⌝ }
 {
-    let traced = trace(s, lo, hi, i, w, widths);
+    let traced = trace(s, lo, hi, i, w, tables);
     match traced {
         Traced::Said(l) => l,
         Traced::Column(t, aliased, alias, c) => {
-            table_label(t, aliased, alias, c, widths, names, columns)
+            table_label(t, aliased, alias, c, tables, columns)
         }
     }
 }

@@ -32,7 +32,8 @@ use Rattle.kept.specs.Kept.{Kept}
 use Rattle.stream.specs.Stream.{Reading, StreamAt, Streamed, Streams, InRoom}
 use Rattle.stream.proofs.Streams.{reading-total, streamed-refused, step-streamed, copied-done}
 use Rattle.stream.proofs.Sources.{leaf-streams}
-use Rattle.lookup_step.specs.Lookup.{Lent, FilteredAt, HasFilter, Normalizes, LooksUp}
+use Rattle.records.specs.Records.{Records}
+use Rattle.lookup_step.specs.Lookup.{FilteredAt, HasFilter, Normalizes, LooksUp}
 
 below : (a b : ℕ) → (b ≤ a → ⊥) → a < b
 below a b h = ⊎-elim (λ (z : a < b). z) (λ (z : b ≤ a). absurd (h z)) (lt-or-ge a b)
@@ -145,10 +146,10 @@ module _ (room : ℕ) (schema : Schema) (rest : ℕ) where
 -- ---- the step
 
 module _ {x : List ℕ} {lo hi : ℕ} {b : Bool} (f : HasFilter x lo hi b) (c : SourceCount x lo hi 0) where
-  module _ {widths keys columns : List ℕ} {tail : ℕ} {y : List ℕ} {at : ℕ} where
+  module _ {records columns : List ℕ} {tail : ℕ} {y : List ℕ} {at : ℕ} where
     -- a leaf without a filter
     pub leaf-copied : b ≡ false → {r : ℕ} {y′ : List ℕ} → length y′ ≡ length y → Copies x lo hi y at r y′
-        → Streams (Lent widths keys columns) IndexLookup x lo hi tail y at r y′
+        → Streams (Records records columns) IndexLookup x lo hi tail y at r y′
     leaf-copied h {r} {y′} k v =
         leaf-streams c refl IndexLookup
         (λ schema text tables lent room rest og l g.
@@ -160,8 +161,8 @@ module _ {x : List ℕ} {lo hi : ℕ} {b : Bool} (f : HasFilter x lo hi b) (c : 
     when-filtered : (P : Leaf → Type 0) → ((t : ℕ) (al : Option ℕ) (q : Expression) → P (scan t al (some q))) → (og : ℕ) (l : Leaf) → NodeHere x lo hi (leaf og l) → P l
     when-filtered P g og l u = by-filter P g l (sym h ∙ f og l u)
 
-    module _ {widths keys columns : List ℕ} {tail : ℕ} {y : List ℕ} {at : ℕ} where
-      module _ (d : StreamAt (Lent widths keys columns) x lo hi tail y at) where
+    module _ {records columns : List ℕ} {tail : ℕ} {y : List ℕ} {at : ℕ} where
+      module _ (d : StreamAt (Records records columns) x lo hi tail y at) where
         scan-read : (P : Type 0)
             → ((og t : ℕ) (al : Option ℕ) (q : Expression)
             → Reading (d .schema) (d .text) (d .tables) x lo hi tail y at (d .room) (d .rest) (leaf og (scan t al (some q))) → P) → P
@@ -173,9 +174,9 @@ module _ {x : List ℕ} {lo hi : ℕ} {b : Bool} (f : HasFilter x lo hi b) (c : 
         pub filter-at : ExpressionAt x lo (hi - cell-words)
         filter-at = scan-read (ExpressionAt x lo (hi - cell-words)) (λ og t al q g. record { e = q; here = filter-here og t al q (g .here) })
 
-        pub filtered-at : {m : ℕ} {w : List ℕ} → Normalizes x lo (hi - cell-words) m w → m ≤ length w → FilteredAt x lo hi y w m widths keys columns
+        pub filtered-at : {m : ℕ} {w : List ℕ} → Normalizes x lo (hi - cell-words) m w → m ≤ length w → FilteredAt x lo hi y w m records columns
         filtered-at {m} {w} n k =
-            scan-read (FilteredAt x lo hi y w m widths keys columns)
+            scan-read (FilteredAt x lo hi y w m records columns)
             (λ og t al q g. record {
               schema = d .schema;
               text = d .text;
@@ -193,7 +194,7 @@ module _ {x : List ℕ} {lo hi : ℕ} {b : Bool} (f : HasFilter x lo hi b) (c : 
 
       module _ {m : ℕ} {w : List ℕ} (n : Normalizes x lo (hi - cell-words) m w) (k : length w ≡ length y) where
         -- a normal form without room
-        pub leaf-refused : length w < m → Streams (Lent widths keys columns) IndexLookup x lo hi tail y at m y
+        pub leaf-refused : length w < m → Streams (Records records columns) IndexLookup x lo hi tail y at m y
         leaf-refused z =
             leaf-streams c refl IndexLookup
             (λ schema text tables lent room rest og l g.
@@ -204,8 +205,8 @@ module _ {x : List ℕ} {lo hi : ℕ} {b : Bool} (f : HasFilter x lo hi b) (c : 
             (streamed-refused (omega arith)))
             og l (g .here) g)
 
-        pub leaf-looked : m ≤ length w → {u : ℕ} {y₁ : List ℕ} → length y₁ ≡ length y → LooksUp x lo hi y at w m widths keys columns u y₁ → {r : ℕ} → InRoom y₁ u tail r
-            → Streams (Lent widths keys columns) IndexLookup x lo hi tail y at r y₁
+        pub leaf-looked : m ≤ length w → {u : ℕ} {y₁ : List ℕ} → length y₁ ≡ length y → LooksUp x lo hi y at w m records columns u y₁ → {r : ℕ} → InRoom y₁ u tail r
+            → Streams (Records records columns) IndexLookup x lo hi tail y at r y₁
         leaf-looked z {u} {y₁} k₁ v {r} i =
             leaf-streams c refl IndexLookup
             (λ schema text tables lent room rest og l g.

@@ -1,4 +1,4 @@
--- What is lent of a schema, and the contracts of the steps that a Scan with a filter takes.
+-- The contracts of the steps that a Scan with a filter takes. `records` are the table records.
 use Prim.Native.Nat.{ℕ, _*_, _≤_, _<_}
 use mathlib.Core.Bool.{Bool, true, false}
 use mathlib.Core.Path.{_≡_}
@@ -15,18 +15,15 @@ use Rattle.sound.specs.Sound.{Sound-leaf}
 use Rattle.cells.specs.Room.{most-words, Wrote}
 use Rattle.words.specs.Words.{node-words}
 use Rattle.words.specs.Place.{ExpressionHere, NodeHere}
-use Rattle.indexes.specs.Indexes.{Indexes}
+use Rattle.records.specs.Records.{Records}
 use Rattle.cells.specs.Cells.{cell-words}
 
-abbrev pub Lent : (widths keys columns : List ℕ) → Schema → Type 0
-Lent widths keys columns schema = Indexes schema widths keys columns
-
 -- Some sound Scan with a filter stands in x from lo up to hi, and its filter's conjunctive normal form in the first m words of w.
-pub record FilteredAt (x : List ℕ) (lo hi : ℕ) (y w : List ℕ) (m : ℕ) (widths keys columns : List ℕ) : Type 0 where
+pub record FilteredAt (x : List ℕ) (lo hi : ℕ) (y w : List ℕ) (m : ℕ) (records columns : List ℕ) : Type 0 where
   pub schema : Schema
   pub text : List ℕ
   pub tables : ℕ
-  pub given : Indexes schema widths keys columns
+  pub given : Records records columns schema
   pub og : ℕ
   pub table : ℕ
   pub alias : Option ℕ
@@ -52,8 +49,8 @@ abbrev pub Normalizes : List ℕ → (lo hi m : ℕ) → List ℕ → Type 0
 Normalizes x lo hi m w′ = (e : Expression) → ExpressionHere x lo hi e → Normal e m w′
 
 -- index-lookup of the Scan from lo up to hi is appended to the first `at` words of y, or has no room.
-abbrev pub LooksUp : (x : List ℕ) (lo hi : ℕ) → (y : List ℕ) (at : ℕ) → (w : List ℕ) (m : ℕ) → (widths keys columns : List ℕ) → (r : ℕ) → List ℕ → Type 0
-LooksUp x lo hi y at w m widths keys columns r y′ =
-    (schema : Schema) (text : List ℕ) (tables : ℕ) → Indexes schema widths keys columns → (og table : ℕ) (alias : Option ℕ) (predicate : Expression)
+abbrev pub LooksUp : (x : List ℕ) (lo hi : ℕ) → (y : List ℕ) (at : ℕ) → (w : List ℕ) (m : ℕ) → (records columns : List ℕ) → (r : ℕ) → List ℕ → Type 0
+LooksUp x lo hi y at w m records columns r y′ =
+    (schema : Schema) (text : List ℕ) (tables : ℕ) → Records records columns schema → (og table : ℕ) (alias : Option ℕ) (predicate : Expression)
     → Sound-leaf schema text tables (scan table alias (some predicate)) → NodeHere x lo hi (leaf og (scan table alias (some predicate)))
     → ExpressionHere w 0 m (into-cnf predicate) → Wrote y at (node-words (index-lookup schema og (scan table alias (some predicate)))) r y′

@@ -7,10 +7,10 @@ use mathlib.Core.Path.{_≡_, refl, sym, ap, _∙_, subst}
 use mathlib.Core.List.{List, [], _∷_, _++_, map, append-assoc}
 use mathlib.Core.Option.{Option, none, some}
 use lib.Dec.{eqb}
-use lib.ListN.{length, take, getD, length-append, List·getD-map}
+use lib.ListN.{length, take, getD, length-append}
 use lib.Seq.{take-at}
 use borrow.Author.Tests.{eq-eqb, ne-eqb}
-use Rattle.sql.specs.Schema.{Table, Schema, no-table, table-of}
+use Rattle.sql.specs.Schema.{Schema, table-of}
 use Rattle.sql.specs.Expression.{Expression, constant, column, unary, binary, size}
 use Rattle.sql.specs.Plan.{Label, by-key, by-index, Leaf, scan, lookup, nothing, values, limit, offset, order, projection, remap, aggregate, Over, filter, other, Join, nested-loop, hash, Node, leaf, over, join, remap-columns, values-columns, other-columns, leaf-columns, columns, up-to, sum, row-size, item-size, aggregate-size, leaf-size, over-size, join-size, node-size}
 use Rattle.sql.specs.Ranges.{same-in}
@@ -26,15 +26,10 @@ use Rattle.words.proofs.Tags.{tag-of, tagged, leaf-tag, over-tag, by-leaf, by-o
 use Rattle.words.proofs.Sizes.{words-long}
 use Rattle.nodes.specs.Trees.{Trees, TreesAt, trees-start}
 use Rattle.nodes.specs.Own.{own-count, OwnStart, SourceCount}
-use Rattle.nodes.specs.Columns.{Tables, Narrow-over, Narrow, ColumnsAt, ColumnCount, past, TargetsAt, RemapColumns, through-over, through, GoesThrough}
+use Rattle.nodes.specs.Columns.{Narrow-over, Narrow, ColumnsAt, ColumnCount, past, TargetsAt, RemapColumns, through-over, through, GoesThrough}
+use Rattle.records.specs.Records.{table-width, Tables}
 use Rattle.nodes.proofs.Trees.{all-trees, trees-start-is, trees-long}
 use Rattle.nodes.proofs.Own.{own-trees}
-
--- ---- tables
-
-pub table-width : {schema : Schema} {widths : List ℕ} → Tables schema widths → (t : ℕ) → getD widths t 0 ≡ length (table-of schema t .columns)
-table-width {schema} {widths} w t =
-    ap (λ (l : List ℕ). getD l t 0) (w .counts) ∙ List·getD-map (λ (x : Table). length (x .columns)) schema t no-table
 
 -- ---- a node has at most 256 columns for each of its cells
 
@@ -52,10 +47,10 @@ values-few : (rs : List (List Expression × ℕ)) → values-columns rs ≤ sum 
 values-few [] = omega arith
 values-few (row ∷ rows) = omega (arith, sum-least size size-least (row .0))
 
-module _ {schema : Schema} {widths : List ℕ} (w : Tables schema widths) where
+module _ {schema : Schema} {records : List ℕ} (w : Tables records schema) where
   leaf-few : (l : Leaf) → leaf-columns schema l ≤ 256 * leaf-size l
-  leaf-few (scan t al q) = omega (arith, table-width w t, w .few t)
-  leaf-few (lookup a t al vs) = omega (arith, table-width w t, w .few t)
+  leaf-few (scan t al q) = omega (arith, w .width t, w .few t)
+  leaf-few (lookup a t al vs) = omega (arith, w .width t, w .few t)
   leaf-few (nothing ls) = omega arith
   leaf-few (values rs) = omega (arith, values-few rs)
 
@@ -169,7 +164,7 @@ row-trees : (rows : List (List Expression × ℕ)) → Trees (length rows) (all-
 row-trees rows = all-trees row-words (λ es. all-words expression-words (es .0)) (λ es. cell (es .1) (row-cell (length (es .0)))) (λ es. refl) rows
 
 module _ {s : List ℕ} {lo hi : ℕ} {c : Cell} (q : c ≡ cell-at s hi) where
-  pub columns-nothing : {widths : List ℕ} → c .tag ≡ 57 → ColumnCount widths s lo hi (c .a)
+  pub columns-nothing : {records : List ℕ} → c .tag ≡ 57 → ColumnCount records s lo hi (c .a)
   columns-nothing z schema p w u =
       by-nothing (λ p. NodeHere s lo hi p → c .a ≡ columns schema p) (λ og ls u. a-here q (leaf og (nothing ls)) u) p (sym (tag-here q p u) ∙ z) u
 
@@ -187,7 +182,7 @@ module _ {s : List ℕ} {lo hi : ℕ} {c : Cell} (q : c ≡ cell-at s hi) where
           f og row rows (omega (arith, a-here q (leaf og (values (row ∷ rows))) u)) (part-left (row-words row) (all-words row-words rows) v)
           (part-right (row-words row) (all-words row-words rows) v)
 
-  pub columns-no-rows : {widths : List ℕ} → c .tag ≡ 63 → c .a ≡ 0 → ColumnCount widths s lo hi 0
+  pub columns-no-rows : {records : List ℕ} → c .tag ≡ 63 → c .a ≡ 0 → ColumnCount records s lo hi 0
   columns-no-rows z y schema p w u = by-values (λ p. NodeHere s lo hi p → 0 ≡ columns schema p) go p (sym (tag-here q p u) ∙ z) u
     where
       go : (og : ℕ) (rs : List (List Expression × ℕ)) → NodeHere s lo hi (leaf og (values rs)) → 0 ≡ values-columns rs
@@ -213,17 +208,17 @@ module _ {s : List ℕ} {lo hi : ℕ} {c : Cell} (q : c ≡ cell-at s hi) where
           with-row (t .p) (t .here) (λ p. (cell-words ≤ first) × (first ≤ length s))
           (λ og row rows a. let (h, k) = cell-in (all-words expression-words (row .0)) (cell (row .1) (row-cell (length (row .0)))) a in (omega arith, k))
 
-      pub columns-values : {widths : List ℕ} {d : Cell} → d ≡ cell-at s first → ColumnCount widths s lo hi (d .a)
+      pub columns-values : {records : List ℕ} {d : Cell} → d ≡ cell-at s first → ColumnCount records s lo hi (d .a)
       unfolding cell
       columns-values {d = d} g schema p w u =
           with-row p u (λ p. d .a ≡ columns schema p)
           (λ og row rows a. ap (λ (k : Cell). k .a) (g ∙ cell-is (all-words expression-words (row .0)) (cell (row .1) (row-cell (length (row .0)))) a))
 
-  pub columns-table : SourceCount s lo hi 0 → (c .tag ≡ 57 → ⊥) → (c .tag ≡ 63 → ⊥) → {widths : List ℕ} {r : ℕ} → r ≡ getD widths (c .a) 0 → ColumnCount widths s lo hi r
-  columns-table k y z {widths = widths} {r = r} e schema p w u = by-leaf (λ p. NodeHere s lo hi p → r ≡ columns schema p) go p (sym (k p u)) u
+  pub columns-table : SourceCount s lo hi 0 → (c .tag ≡ 57 → ⊥) → (c .tag ≡ 63 → ⊥) → {records : List ℕ} {r : ℕ} → r ≡ table-width records (c .a) → ColumnCount records s lo hi r
+  columns-table k y z {records = records} {r = r} e schema p w u = by-leaf (λ p. NodeHere s lo hi p → r ≡ columns schema p) go p (sym (k p u)) u
     where
       of-table : (t : ℕ) → c .a ≡ t → r ≡ length (table-of schema t .columns)
-      of-table t i = e ∙ ap (λ (n : ℕ). getD widths n 0) i ∙ table-width w t
+      of-table t i = e ∙ ap (table-width records) i ∙ w .width t
 
       go : (og : ℕ) (l : Leaf) → NodeHere s lo hi (leaf og l) → r ≡ leaf-columns schema l
       go og (scan t none f) u = of-table t (a-here q (leaf og (scan t none f)) u)
@@ -251,12 +246,12 @@ module _ {s : List ℕ} {lo hi : ℕ} {c : Cell} (q : c ≡ cell-at s hi) (k : S
       aggregate-here z (t .p) (t .here) (λ p. cell-words * (c .b + c .a) ≤ hi)
       (λ og es gs n u. omega (arith, a-here q (over og (other (aggregate es gs)) n) u, b-here q (over og (other (aggregate es gs)) n) u, trees-long (own-trees (over og (other (aggregate es gs)) n)), node-long (over og (other (aggregate es gs)) n) u))
 
-  pub columns-aggregate : {widths : List ℕ} → c .tag ≡ 50 → ColumnCount widths s lo hi (c .b + c .a)
+  pub columns-aggregate : {records : List ℕ} → c .tag ≡ 50 → ColumnCount records s lo hi (c .b + c .a)
   columns-aggregate z schema p w u =
       aggregate-here z p u (λ p. c .b + c .a ≡ columns schema p)
       (λ og es gs n u. omega (arith, a-here q (over og (other (aggregate es gs)) n) u, b-here q (over og (other (aggregate es gs)) n) u))
 
-  pub columns-projection : {widths : List ℕ} → c .tag ≡ 60 → ColumnCount widths s lo hi (c .a)
+  pub columns-projection : {records : List ℕ} → c .tag ≡ 60 → ColumnCount records s lo hi (c .a)
   columns-projection z schema p w u =
       over-here (λ p. c .a ≡ columns schema p)
       (λ og o n u e. over-projection (λ o. NodeHere s lo hi (over og o n) → c .a ≡ columns schema (over og o n)) (λ is u. a-here q (over og (other (projection is)) n) u) o (sym e ∙ z) u) p u
@@ -278,16 +273,16 @@ module _ {s : List ℕ} {lo hi : ℕ} {c : Cell} (q : c ≡ cell-at s hi) (k : S
         go og (other (remap ts)) n i u = f og ts n (own-part (over og (other (remap ts)) n) u (own (over og (other (remap ts)) n) u))
         go og (other (aggregate es gs)) n i u = absurd (y i)
 
-    pub targets-at : {widths : List ℕ} → ColumnsAt widths s lo hi → TargetsAt s m (hi - cell-words)
+    pub targets-at : {records : List ℕ} → ColumnsAt records s lo hi → TargetsAt s m (hi - cell-words)
     targets-at t =
         remap-here (λ p. Narrow p → TargetsAt s m (hi - cell-words)) (λ og ts n v i. record { targets = ts; part = v; few = i .0 }) (t .p) (t .here) (t .narrow)
 
-    pub columns-remap : {widths : List ℕ} {r : ℕ} → RemapColumns s m (hi - cell-words) r → ColumnCount widths s lo hi r
+    pub columns-remap : {records : List ℕ} {r : ℕ} → RemapColumns s m (hi - cell-words) r → ColumnCount records s lo hi r
     columns-remap {r = r} f schema p w u = remap-here (λ p. r ≡ columns schema p) (λ og ts n v. f ts v) p u
 
 -- ---- all nodes
 
-pub columns-node : {widths s : List ℕ} {lo hi : ℕ} → ColumnsAt widths s lo hi → NodeAt s lo hi
+pub columns-node : {records s : List ℕ} {lo hi : ℕ} → ColumnsAt records s lo hi → NodeAt s lo hi
 columns-node t = record { p = t .p; here = t .here }
 
 -- what the code's test says of all nodes there
@@ -312,23 +307,23 @@ module _ {s : List ℕ} {lo hi m : ℕ} (c : SourceCount s lo hi 2) (own : OwnSt
         (a, (d, omega (arith, node-long (join og outer j l r) u, own (join og outer j l r) u))))
         (t .p) (t .here)
 
-    module _ {widths : List ℕ} (t : ColumnsAt widths s lo hi) where
-      pub left-columns-at : ColumnsAt widths s lo mid
+    module _ {records : List ℕ} (t : ColumnsAt records s lo hi) where
+      pub left-columns-at : ColumnsAt records s lo mid
       left-columns-at =
           let (a, (b, d)) = sources-in (columns-node t) in
-          join-here (λ p. Narrow p → ColumnsAt widths s lo mid)
+          join-here (λ p. Narrow p → ColumnsAt records s lo mid)
           (λ og outer j l r u k. record { schema = t .schema; tables = t .tables; p = l; here = join-left og outer j l r u (own (join og outer j l r) u) st; narrow = k .0; short = omega (arith, t .short) })
           (t .p) (t .here) (t .narrow)
 
-      pub right-columns-at : ColumnsAt widths s mid m
+      pub right-columns-at : ColumnsAt records s mid m
       right-columns-at =
           let (a, (b, d)) = sources-in (columns-node t) in
-          join-here (λ p. Narrow p → ColumnsAt widths s mid m)
+          join-here (λ p. Narrow p → ColumnsAt records s mid m)
           (λ og outer j l r u k. record { schema = t .schema; tables = t .tables; p = r; here = join-right og outer j l r u (own (join og outer j l r) u) st; narrow = k .1; short = omega (arith, t .short) })
           (t .p) (t .here) (t .narrow)
 
 -- a count of columns is small
-pub few-columns : {widths s : List ℕ} {lo hi : ℕ} (t : ColumnsAt widths s lo hi) → columns (t .schema) (t .p) ≤ 4294967296
+pub few-columns : {records s : List ℕ} {lo hi : ℕ} (t : ColumnsAt records s lo hi) → columns (t .schema) (t .p) ≤ 4294967296
 few-columns t = omega (arith, columns-few (t .tables) (t .p) (t .narrow), words-long (t .p), t .here .part .high, t .short)
 
 module _ {s : List ℕ} {lo hi m : ℕ} (c : SourceCount s lo hi 1) (own : OwnStart s lo hi m) where
@@ -340,10 +335,10 @@ module _ {s : List ℕ} {lo hi m : ℕ} (c : SourceCount s lo hi 1) (own : OwnSt
   source-in t =
       source-here (λ p. (lo + cell-words ≤ m) × (m + cell-words ≤ hi)) (λ og o n u v. (node-in n v .0, omega (arith, node-long (over og o n) u, own (over og o n) u))) (t .p) (t .here)
 
-  pub source-columns-at : {widths : List ℕ} → ColumnsAt widths s lo hi → ColumnsAt widths s lo m
-  source-columns-at {widths} t =
+  pub source-columns-at : {records : List ℕ} → ColumnsAt records s lo hi → ColumnsAt records s lo m
+  source-columns-at {records} t =
       let (a, b) = source-in (columns-node t) in
-      source-here (λ p. Narrow p → ColumnsAt widths s lo m)
+      source-here (λ p. Narrow p → ColumnsAt records s lo m)
       (λ og o n u v k. record { schema = t .schema; tables = t .tables; p = n; here = v; narrow = k .1; short = omega (arith, t .short) }) (t .p) (t .here) (t .narrow)
 
 -- ---- nodes whose columns are those of their sources
@@ -453,12 +448,12 @@ module _ {schema : Schema} {s : List ℕ} {lo end total : ℕ} (p : Node) (x : L
     pub last-at : NodeAt s from end
     last-at = last-here (NodeAt s from end) (λ f n v u c w. record { p = n; here = u })
 
-    pub last-columns-at : {widths : List ℕ} → Tables schema widths → Narrow p → end ≤ most-words → ColumnsAt widths s from end
-    last-columns-at {widths} t k i =
-        last-here (ColumnsAt widths s from end) (λ f n v u c w. record { schema = schema; tables = t; p = n; here = u; narrow = w k .1; short = i })
+    pub last-columns-at : {records : List ℕ} → Tables records schema → Narrow p → end ≤ most-words → ColumnsAt records s from end
+    last-columns-at {records} t k i =
+        last-here (ColumnsAt records s from end) (λ f n v u c w. record { schema = schema; tables = t; p = n; here = u; narrow = w k .1; short = i })
 
     -- a node that says its columns is counted
-    pub left-counted : {widths : List ℕ} → Tables schema widths → {r : ℕ} → ColumnCount widths s from end r → Left schema s lo from (total + r) p
+    pub left-counted : {records : List ℕ} → Tables records schema → {r : ℕ} → ColumnCount records s from end r → Left schema s lo from (total + r) p
     left-counted t {r} g =
         last-here (Left schema s lo from (total + r) p)
         (λ f n v u c w. record { f = f; part = v; count = omega (arith, g schema n t u); narrow = λ k. w k .0 })
@@ -500,22 +495,22 @@ module _ {schema : Schema} {s : List ℕ} {lo end total : ℕ} (p : Node) (x : L
               }
 
 -- Counting has got to `end`, with `total` columns.
-pub record Counting (widths s : List ℕ) (lo hi end total : ℕ) : Type 0 where
-  pub all : (schema : Schema) (p : Node) → Tables schema widths → NodeHere s lo hi p → Left schema s lo end total p
+pub record Counting (records s : List ℕ) (lo hi end total : ℕ) : Type 0 where
+  pub all : (schema : Schema) (p : Node) → Tables records schema → NodeHere s lo hi p → Left schema s lo end total p
   pub within : end ≤ hi
 
-pub counting-first : {widths s : List ℕ} {lo hi : ℕ} → Counting widths s lo hi hi 0
+pub counting-first : {records s : List ℕ} {lo hi : ℕ} → Counting records s lo hi hi 0
 counting-first =
     record {
       all = λ schema p t u. record { f = and empty p; part = u .part; count = omega arith; narrow = λ k. (tt, k) };
       within = omega arith;
     }
 
-module _ {widths s : List ℕ} {lo hi end total : ℕ} (g : Counting widths s lo hi end total) where
-  pub counting-done : end ≤ lo → ColumnCount widths s lo hi total
+module _ {records s : List ℕ} {lo hi end total : ℕ} (g : Counting records s lo hi end total) where
+  pub counting-done : end ≤ lo → ColumnCount records s lo hi total
   counting-done h schema p t u = left-none p (g .all schema p t u) h
 
-  module _ (t : ColumnsAt widths s lo hi) where
+  module _ (t : ColumnsAt records s lo hi) where
     counted : Left (t .schema) s lo end total (t .p)
     counted = g .all (t .schema) (t .p) (t .tables) (t .here)
 
@@ -529,10 +524,10 @@ module _ {widths s : List ℕ} {lo hi end total : ℕ} (g : Counting widths s lo
       pub counting-at : NodeAt s from end
       counting-at = last-at (t .p) counted h st
 
-      pub counting-columns-at : ColumnsAt widths s from end
+      pub counting-columns-at : ColumnsAt records s from end
       counting-columns-at = last-columns-at (t .p) counted h st (t .tables) (t .narrow) (omega (arith, t .short, g .within))
 
-      pub counting-few : {r : ℕ} → ColumnCount widths s from end r → total + r ≤ 4294967296
+      pub counting-few : {r : ℕ} → ColumnCount records s from end r → total + r ≤ 4294967296
       counting-few f =
           let x = left-counted (t .p) counted h st (t .tables) f in
           omega (arith, x .count, few-columns t)
@@ -541,12 +536,12 @@ module _ {widths s : List ℕ} {lo hi end total : ℕ} (g : Counting widths s lo
       counting-own c z own = own-before (t .p) counted h st c z own
 
   module _ (h : lo < end) {from : ℕ} (st : from ≡ start-at s end) where
-    pub counting-said : ColumnsAt widths s lo hi → {r : ℕ} → ColumnCount widths s from end r → Counting widths s lo hi from (total + r)
+    pub counting-said : ColumnsAt records s lo hi → {r : ℕ} → ColumnCount records s from end r → Counting records s lo hi from (total + r)
     counting-said t f =
         let (a, b) = counting-in t h st in
         record { all = λ schema p k u. left-counted p (g .all schema p k u) h st k f; within = omega (arith, g .within) }
 
-    pub counting-through : ColumnsAt widths s lo hi → {k : ℕ} → GoesThrough s from end k → k ≡ 1 → {m : ℕ} → OwnStart s from end m → Counting widths s lo hi m total
+    pub counting-through : ColumnsAt records s lo hi → {k : ℕ} → GoesThrough s from end k → k ≡ 1 → {m : ℕ} → OwnStart s from end m → Counting records s lo hi m total
     counting-through t c z own =
         let b = counting-own t h st c z own in
         record { all = λ schema p k u. left-through p (g .all schema p k u) h st c z own; within = omega (arith, g .within) }

@@ -2,21 +2,16 @@
 use Prim.Native.Nat.{ℕ, suc, _+_, _≤_}
 use mathlib.Core.Bool.{Bool, true, false, cond}
 use mathlib.Core.Path.{_≡_}
-use mathlib.Core.List.{List, map}
+use mathlib.Core.List.{List}
 use mathlib.Core.Option.{Option}
 use lib.Dec.{eqb}
-use lib.ListN.{length, getD}
-use Rattle.sql.specs.Schema.{Table, Schema}
+use Rattle.sql.specs.Schema.{Schema}
 use Rattle.sql.specs.Plan.{limit, offset, order, projection, remap, aggregate, Over, filter, other, Node, leaf, over, join, remap-columns, columns}
 use Rattle.cells.specs.Cells.{Part}
 use Rattle.cells.specs.Room.{most-words}
 use Rattle.words.specs.Words.{all-words, target-words}
 use Rattle.words.specs.Place.{NodeHere}
-
--- The number of columns of each table of the schema, in a list; a sheet has at most 256 columns.
-pub record Tables (schema : Schema) (widths : List ℕ) : Type 0 where
-  pub counts : widths ≡ map (λ (t : Table). length (t .columns)) schema
-  pub few : (t : ℕ) → getD widths t 0 ≤ 256
+use Rattle.records.specs.Records.{Tables}
 
 -- No Remap of the node, or below it, has a Target above 255; a sheet's Targets hold no more.
 abbrev pub Narrow-over : Over → Type 0
@@ -33,10 +28,10 @@ Narrow (leaf og l) = Unit {0}
 Narrow (over og o n) = Narrow-over o × Narrow n
 Narrow (join og outer j l r) = Narrow l × Narrow r
 
--- Some such node stands there, in a list that is short enough for its columns to be counted without overflow.
-pub record ColumnsAt (widths s : List ℕ) (lo hi : ℕ) : Type 0 where
+-- Some such node of a schema whose table records are lent stands there, in a list that is short enough for its columns to be counted without overflow.
+pub record ColumnsAt (records s : List ℕ) (lo hi : ℕ) : Type 0 where
   pub schema : Schema
-  pub tables : Tables schema widths
+  pub tables : Tables records schema
   pub p : Node
   pub here : NodeHere s lo hi p
   pub narrow : Narrow p
@@ -46,7 +41,7 @@ pub record ColumnsAt (widths s : List ℕ) (lo hi : ℕ) : Type 0 where
 
 -- r is the number of columns of the node there.
 abbrev pub ColumnCount : List ℕ → List ℕ → ℕ → ℕ → ℕ → Type 0
-ColumnCount widths s lo hi r = (schema : Schema) (p : Node) → Tables schema widths → NodeHere s lo hi p → r ≡ columns schema p
+ColumnCount records s lo hi r = (schema : Schema) (p : Node) → Tables records schema → NodeHere s lo hi p → r ≡ columns schema p
 
 -- one past the target that a Target's cell says, if it says one
 abbrev pub past : (flag a : ℕ) → ℕ

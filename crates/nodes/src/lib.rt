@@ -2,7 +2,6 @@
 ghost use mathlib.Core.Logic.{_⊎_};
 ghost use mathlib.Core.Path.{_≡_};
 ghost use Prim.Native.Nat.{ℕ, _+_, _-_, _≤_, _<_, max};
-ghost use lib.ListN.{getD};
 ghost use Rattle.cells.specs.Cells.{tag-at};
 ghost use Rattle.words.specs.Place.{NodeAt};
 ghost use Rattle.nodes.specs.Trees.{TreesAt, PartsAt, trees-start};
@@ -111,16 +110,6 @@ pub fn own_start(s: &[u32], lo: usize, hi: usize) -> usize
     trees_start(s, n, hi - cells::CELL_WORDS)
 }
 
-// The number of columns of table t; a table that there isn't has none.
-fn table_columns(widths: &[usize], t: usize) -> usize
-    ensures { λ r. ⌜ r ≡ getD (now (widths .entry)) t 0 ⌝ }
-{
-    if t < widths.len() {
-        return widths[t];
-    }
-    0
-}
-
 // The larger of n and one past the target that a Target's cell says, if it says one.
 fn past_target(n: usize, flag: u32, a: u32) -> usize
     requires { ⌜ past flag a ≤ 256 ⌝ }
@@ -151,10 +140,10 @@ fn remap_columns(s: &[u32], lo: usize, hi: usize) -> usize
 }
 
 // The columns of a node without sources.
-fn leaf_columns(s: &[u32], lo: usize, hi: usize, widths: &[usize]) -> usize
+fn leaf_columns(s: &[u32], lo: usize, hi: usize, tables: &[u8]) -> usize
     requires { ⌜ NodeAt (now s) lo hi ⌝ }
     requires { ⌜ SourceCount (now s) lo hi 0 ⌝ }
-    ensures { λ r. ⌜ ColumnCount (now (widths .entry)) (now (s .entry)) lo hi r ⌝ }
+    ensures { λ r. ⌜ ColumnCount (now (tables .entry)) (now (s .entry)) lo hi r ⌝ }
 {
     let c = cells::cell_at(s, hi);
     if c.tag == tags::NOTHING {
@@ -168,16 +157,16 @@ fn leaf_columns(s: &[u32], lo: usize, hi: usize, widths: &[usize]) -> usize
         let row = cells::cell_at(s, first);
         return row.a as usize;
     }
-    table_columns(widths, c.a as usize)
+    records::table_width(tables, c.a as usize)
 }
 
 // The columns of an Aggregate, a Projection or a Remap, whose own words start at m.
-fn own_columns(s: &[u32], lo: usize, hi: usize, m: usize, widths: &[usize]) -> usize
-    requires { ⌜ ColumnsAt (now widths) (now s) lo hi ⌝ }
+fn own_columns(s: &[u32], lo: usize, hi: usize, m: usize, tables: &[u8]) -> usize
+    requires { ⌜ ColumnsAt (now tables) (now s) lo hi ⌝ }
     requires { ⌜ SourceCount (now s) lo hi 1 ⌝ }
     requires { ⌜ OwnStart (now s) lo hi m ⌝ }
     requires { ⌜ (tag-at (now s) hi ≡ 50) ⊎ (60 ≤ tag-at (now s) hi) ⌝ }
-    ensures { λ r. ⌜ ColumnCount (now (widths .entry)) (now (s .entry)) lo hi r ⌝ }
+    ensures { λ r. ⌜ ColumnCount (now (tables .entry)) (now (s .entry)) lo hi r ⌝ }
 {
     let c = cells::cell_at(s, hi);
     if c.tag == tags::AGGREGATE {
@@ -217,23 +206,23 @@ fn goes_through(s: &[u32], lo: usize, hi: usize) -> usize
 }
 
 // The columns of a node that says them itself; its own words start at m.
-fn said_columns(s: &[u32], lo: usize, hi: usize, m: usize, widths: &[usize]) -> usize
-    requires { ⌜ ColumnsAt (now widths) (now s) lo hi ⌝ }
+fn said_columns(s: &[u32], lo: usize, hi: usize, m: usize, tables: &[u8]) -> usize
+    requires { ⌜ ColumnsAt (now tables) (now s) lo hi ⌝ }
     requires { ⌜ OwnStart (now s) lo hi m ⌝ }
     requires { ⌜ GoesThrough (now s) lo hi 0 ⌝ }
-    ensures { λ r. ⌜ ColumnCount (now (widths .entry)) (now (s .entry)) lo hi r ⌝ }
+    ensures { λ r. ⌜ ColumnCount (now (tables .entry)) (now (s .entry)) lo hi r ⌝ }
 {
     if source_count(s, lo, hi) == 0 {
-        return leaf_columns(s, lo, hi, widths);
+        return leaf_columns(s, lo, hi, tables);
     }
-    own_columns(s, lo, hi, m, widths)
+    own_columns(s, lo, hi, m, tables)
 }
 
-// plan.rs, columns: how many columns the node from lo to hi emits. widths[t] is the number of columns of table t. The node's cells are met from the
+// plan.rs, columns: how many columns the node from lo to hi emits. tables are the table records (crate records). The node's cells are met from the
 // last to the first: one whose columns are those of its sources gives way to these, which end where its own words start.
-pub fn columns(s: &[u32], lo: usize, hi: usize, widths: &[usize]) -> usize
-    requires { ⌜ ColumnsAt (now widths) (now s) lo hi ⌝ }
-    ensures { λ r. ⌜ ColumnCount (now (widths .entry)) (now (s .entry)) lo hi r ⌝ }
+pub fn columns(s: &[u32], lo: usize, hi: usize, tables: &[u8]) -> usize
+    requires { ⌜ ColumnsAt (now tables) (now s) lo hi ⌝ }
+    ensures { λ r. ⌜ ColumnCount (now (tables .entry)) (now (s .entry)) lo hi r ⌝ }
 {
     let mut total: usize = 0;
     let mut end = hi;
@@ -244,7 +233,7 @@ pub fn columns(s: &[u32], lo: usize, hi: usize, widths: &[usize]) -> usize
             end = m;
             continue;
         }
-        total += said_columns(s, from, end, m, widths);
+        total += said_columns(s, from, end, m, tables);
         end = from;
     }
     total

@@ -5,7 +5,7 @@ ghost use Prim.Native.Nat.{_≤_};
 ghost use lib.ListN.{length};
 ghost use Rattle.sql.specs.Optimizer.{in-turn};
 ghost use Rattle.sql.specs.Room;
-ghost use Rattle.passes.specs.Passes.{PlanAt, Alike, Runs, For-labels, For-lent, For-all};
+ghost use Rattle.passes.specs.Passes.{Lent, PlanAt, Alike, Runs, For-all};
 ghost use Rattle.optimizer.specs.Choices.{Choice, chosen};
 ghost use Rattle.optimizer.specs.Settled.{from-pushdown, from-lookup, from-hash};
 
@@ -18,29 +18,27 @@ pub fn pass(
     z: &mut [u32],
     w: &mut [u32],
     t: usize,
-    widths: &[usize],
-    names: &[u32],
+    tables: &[u8],
     columns: &[u8],
-    keys: &[usize],
 ) -> Folded
     requires { ⌜ (1 ≤ k) × (k ≤ 5) ⌝ }
-    requires { ⌜ PlanAt (For-all (now text) (now widths) (now names) (now columns) (now keys)) (now x) t ⌝ }
+    requires { ⌜ PlanAt (For-all (now text) (now tables) (now columns)) (now x) t ⌝ }
     requires { ⌜ Alike (now x) (now y) (now z) (now w) ⌝ }
-    ensures { λ r. ⌜ Runs (For-all (now (text .entry)) (now (widths .entry)) (now (names .entry)) (now (columns .entry)) (now (keys .entry))) (λ room schema p. Room.pass room schema k p) (now (x .entry)) t (now (y .exit)) r ⌝ }
+    ensures { λ r. ⌜ Runs (For-all (now (text .entry)) (now (tables .entry)) (now (columns .entry))) (λ room schema p. Room.pass room schema k p) (now (x .entry)) t (now (y .exit)) r ⌝ }
 {
     if k == 1 {
         return passes::fold(text, x, y, t);
     }
     if k == 2 {
-        return passes::push_down(x, y, z, w, t, widths);
+        return passes::push_down(x, y, z, w, t, tables);
     }
     if k == 3 {
-        return passes::look_up(x, y, z, w, t, widths, keys, columns);
+        return passes::look_up(x, y, z, w, t, tables, columns);
     }
     if k == 4 {
-        return passes::hash_join(x, y, t, widths);
+        return passes::hash_join(x, y, t, tables);
     }
-    passes::short_circuit(x, y, z, t, widths, names, columns)
+    passes::short_circuit(x, y, z, t, tables, columns)
 }
 
 // The passes from the fourth on. The plan that they give is in z.
@@ -49,16 +47,15 @@ fn from_hash(
     y: &mut [u32],
     z: &mut [u32],
     t: usize,
-    widths: &[usize],
-    names: &[u32],
+    tables: &[u8],
     columns: &[u8],
 ) -> Folded
-    requires { ⌜ PlanAt (For-labels (now widths) (now names) (now columns)) (now x) t ⌝ }
+    requires { ⌜ PlanAt (Lent (now tables) (now columns)) (now x) t ⌝ }
     requires { ⌜ (length (now y) ≡ length (now x)) × (length (now z) ≡ length (now x)) ⌝ }
-    ensures { λ r. ⌜ Runs (For-labels (now (widths .entry)) (now (names .entry)) (now (columns .entry))) (λ room schema p. in-turn (from-hash room schema) p) (now (x .entry)) t (now (z .exit)) r ⌝ }
+    ensures { λ r. ⌜ Runs (Lent (now (tables .entry)) (now (columns .entry))) (λ room schema p. in-turn (from-hash room schema) p) (now (x .entry)) t (now (z .exit)) r ⌝ }
 {
-    match passes::hash_join(x, y, t, widths) {
-        Folded::Done(n) => passes::short_circuit(y, z, x, n, widths, names, columns),
+    match passes::hash_join(x, y, t, tables) {
+        Folded::Done(n) => passes::short_circuit(y, z, x, n, tables, columns),
         Folded::Refused(number, place) => Folded::Refused(number, place),
     }
 }
@@ -70,17 +67,15 @@ fn from_lookup(
     z: &mut [u32],
     w: &mut [u32],
     t: usize,
-    widths: &[usize],
-    names: &[u32],
+    tables: &[u8],
     columns: &[u8],
-    keys: &[usize],
 ) -> Folded
-    requires { ⌜ PlanAt (For-lent (now widths) (now names) (now columns) (now keys)) (now x) t ⌝ }
+    requires { ⌜ PlanAt (Lent (now tables) (now columns)) (now x) t ⌝ }
     requires { ⌜ Alike (now x) (now y) (now z) (now w) ⌝ }
-    ensures { λ r. ⌜ Runs (For-lent (now (widths .entry)) (now (names .entry)) (now (columns .entry)) (now (keys .entry))) (λ room schema p. in-turn (from-lookup room schema) p) (now (x .entry)) t (now (y .exit)) r ⌝ }
+    ensures { λ r. ⌜ Runs (Lent (now (tables .entry)) (now (columns .entry))) (λ room schema p. in-turn (from-lookup room schema) p) (now (x .entry)) t (now (y .exit)) r ⌝ }
 {
-    match passes::look_up(x, z, y, w, t, widths, keys, columns) {
-        Folded::Done(n) => from_hash(z, x, y, n, widths, names, columns),
+    match passes::look_up(x, z, y, w, t, tables, columns) {
+        Folded::Done(n) => from_hash(z, x, y, n, tables, columns),
         Folded::Refused(number, place) => Folded::Refused(number, place),
     }
 }
@@ -93,20 +88,18 @@ fn from_pushdown(
     z: &mut [u32],
     w: &mut [u32],
     t: usize,
-    widths: &[usize],
-    names: &[u32],
+    tables: &[u8],
     columns: &[u8],
-    keys: &[usize],
 ) -> Folded
-    requires { ⌜ PlanAt (For-lent (now widths) (now names) (now columns) (now keys)) (now x) t ⌝ }
+    requires { ⌜ PlanAt (Lent (now tables) (now columns)) (now x) t ⌝ }
     requires { ⌜ Alike (now x) (now y) (now z) (now w) ⌝ }
-    ensures { λ r. ⌜ Runs (For-lent (now (widths .entry)) (now (names .entry)) (now (columns .entry)) (now (keys .entry))) (λ room schema p. in-turn (from-pushdown room schema) p) (now (x .entry)) t (now (y .exit)) r ⌝ }
+    ensures { λ r. ⌜ Runs (Lent (now (tables .entry)) (now (columns .entry))) (λ room schema p. in-turn (from-pushdown room schema) p) (now (x .entry)) t (now (y .exit)) r ⌝ }
 {
     if !predicates::has_predicate(x, t) {
-        return passes::short_circuit(x, y, z, t, widths, names, columns);
+        return passes::short_circuit(x, y, z, t, tables, columns);
     }
-    match passes::push_down_in_place(x, y, z, w, t, widths) {
-        Folded::Done(n) => from_lookup(x, y, z, w, n, widths, names, columns, keys),
+    match passes::push_down_in_place(x, y, z, w, t, tables) {
+        Folded::Done(n) => from_lookup(x, y, z, w, n, tables, columns),
         Folded::Refused(number, place) => Folded::Refused(number, place),
     }
 }
@@ -119,17 +112,15 @@ pub fn optimize(
     z: &mut [u32],
     w: &mut [u32],
     t: usize,
-    widths: &[usize],
-    names: &[u32],
+    tables: &[u8],
     columns: &[u8],
-    keys: &[usize],
 ) -> Folded
-    requires { ⌜ PlanAt (For-all (now text) (now widths) (now names) (now columns) (now keys)) (now x) t ⌝ }
+    requires { ⌜ PlanAt (For-all (now text) (now tables) (now columns)) (now x) t ⌝ }
     requires { ⌜ Alike (now x) (now y) (now z) (now w) ⌝ }
-    ensures { λ r. ⌜ Runs (For-all (now (text .entry)) (now (widths .entry)) (now (names .entry)) (now (columns .entry)) (now (keys .entry))) (λ room schema p. Room.optimize room schema p) (now (x .entry)) t (now (y .exit)) r ⌝ }
+    ensures { λ r. ⌜ Runs (For-all (now (text .entry)) (now (tables .entry)) (now (columns .entry))) (λ room schema p. Room.optimize room schema p) (now (x .entry)) t (now (y .exit)) r ⌝ }
 {
     match passes::fold(text, x, z, t) {
-        Folded::Done(n) => from_pushdown(z, y, x, w, n, widths, names, columns, keys),
+        Folded::Done(n) => from_pushdown(z, y, x, w, n, tables, columns),
         Folded::Refused(number, place) => Folded::Refused(number, place),
     }
 }
@@ -149,18 +140,16 @@ pub fn run(
     z: &mut [u32],
     w: &mut [u32],
     t: usize,
-    widths: &[usize],
-    names: &[u32],
+    tables: &[u8],
     columns: &[u8],
-    keys: &[usize],
 ) -> Folded
     requires { ⌜ Choice c ⌝ }
-    requires { ⌜ PlanAt (For-all (now text) (now widths) (now names) (now columns) (now keys)) (now x) t ⌝ }
+    requires { ⌜ PlanAt (For-all (now text) (now tables) (now columns)) (now x) t ⌝ }
     requires { ⌜ Alike (now x) (now y) (now z) (now w) ⌝ }
-    ensures { λ r. ⌜ Runs (For-all (now (text .entry)) (now (widths .entry)) (now (names .entry)) (now (columns .entry)) (now (keys .entry))) (chosen c) (now (x .entry)) t (now (y .exit)) r ⌝ }
+    ensures { λ r. ⌜ Runs (For-all (now (text .entry)) (now (tables .entry)) (now (columns .entry))) (chosen c) (now (x .entry)) t (now (y .exit)) r ⌝ }
 {
     match c {
-        Chosen::One(k) => pass(k, text, x, y, z, w, t, widths, names, columns, keys),
-        Chosen::All => optimize(text, x, y, z, w, t, widths, names, columns, keys),
+        Chosen::One(k) => pass(k, text, x, y, z, w, t, tables, columns),
+        Chosen::All => optimize(text, x, y, z, w, t, tables, columns),
     }
 }

@@ -15,7 +15,7 @@ use Rattle.kept.specs.Pass.{PassAt, Passes}
 use Rattle.cells.specs.Cells.{cell-words}
 use Rattle.cells.specs.Room.{Short, most-words, Copies}
 use Rattle.cells.proofs.Laws.{fits}
-use Rattle.nodes.specs.Columns.{Tables}
+use Rattle.records.specs.Records.{Tables}
 use Rattle.stream.specs.Stream.{StreamAt, Streams-to, Streamed, Streams}
 use Rattle.stream.proofs.Streams.{top-here, top-reading, top-at}
 use Rattle.constant_folding.specs.Plans as Folding
@@ -24,7 +24,7 @@ use Rattle.sql.specs.Room.{ShortCircuit}
 use Rattle.short_circuit.specs.ShortCircuit.{CircuitAt, Circuits}
 use Rattle.fold_operator.specs.declared.Folded.{Folded}
 use Rattle.fold_operator.specs.declared.Folded.the-variants as Folded
-use Rattle.passes.specs.Passes.{Plan-in, PlanAt, Left, Leaves, Ends, Runs, For-folding, For-tables, For-labels}
+use Rattle.passes.specs.Passes.{Lent, Plan-in, PlanAt, Left, Leaves, Ends, Runs, For-folding}
 
 module _ (Fit : Node → Type 0) where
   -- of a pass that edits in place, and of one that is streamed
@@ -128,8 +128,8 @@ folded t′ x t r y f schema text tables room p g h =
 
 -- ---- short circuits, whose labels' names lie in the text
 
-module _ {widths names columns x y : List ℕ} {t : ℕ} (alike : length y ≡ length x) where
-  pub circuit-asked : PlanAt (For-labels widths names columns) x t → CircuitAt widths names columns x 0 t 0 y 0
+module _ {records columns x y : List ℕ} {t : ℕ} (alike : length y ≡ length x) where
+  pub circuit-asked : PlanAt (Lent records columns) x t → CircuitAt records columns x 0 t 0 y 0
   circuit-asked at =
       let p = at .plan in
       record {
@@ -138,7 +138,7 @@ module _ {widths names columns x y : List ℕ} {t : ℕ} (alike : length y ≡ l
               schema = at .schema;
               text = at .text;
               tables = at .tables;
-              lent = at .given .0;
+              lent = at .given .records;
               room = at .room;
               rest = 0;
               p = at .p;
@@ -146,14 +146,14 @@ module _ {widths names columns x y : List ℕ} {t : ℕ} (alike : length y ≡ l
               short = at .short;
               short-out = omega (arith, at .short, alike);
             };
-        named = at .given .1;
+        named = at .given .named;
       }
 
-  pub circuited : length x ≤ most-words → {n : ℕ} {d : List ℕ} {r : Folded} → Circuits widths names columns x 0 t 0 y 0 n d → Ends d n r
-      → Runs (For-labels widths names columns) (λ room schema p. ShortCircuit room schema 0 p) x t d r
+  pub circuited : length x ≤ most-words → {n : ℕ} {d : List ℕ} {r : Folded} → Circuits records columns x 0 t 0 y 0 n d → Ends d n r
+      → Runs (Lent records columns) (λ room schema p. ShortCircuit room schema 0 p) x t d r
   circuited short s e schema text tables room p g h =
       streamed (Kept schema text tables p)
-      (s schema text tables (g .0) (g .1) room 0 p
+      (s schema text tables (g .records) (g .named) room 0 p
       (top-reading x t p (h .words-are) (h .inside) schema text tables (h .fit) y room (alike ∙ h .all) (omega (arith, short, alike)) (omega (arith, h .inside, alike))))
       e
 
@@ -162,8 +162,8 @@ module _ {widths names columns x y : List ℕ} {t : ℕ} (alike : length y ≡ l
 top-holds : {x : List ℕ} {t : ℕ} (p : Node) → take t x ≡ node-words p → t ≤ length x → Edit.Holds x t 0 0 [] [] p
 top-holds p e h = record { whole = e ∙ sym (append-nil (node-words p)); low = refl; high = refl; inside = h }
 
-module _ {widths x : List ℕ} {t : ℕ} where
-  pub push-asked : PlanAt (For-tables widths) x t → PassAt widths x t 0 0
+module _ {records x : List ℕ} {t : ℕ} where
+  pub push-asked : PlanAt (λ schema text. Tables records schema) x t → PassAt records x t 0 0
   push-asked at =
       record {
         schema = at .schema;
@@ -184,13 +184,13 @@ module _ {widths x : List ℕ} {t : ℕ} where
         short = at .short;
       }
 
-  pushed : length x ≤ most-words → (f : ℕ → Schema → ℕ → Node → Answer Node) {n : ℕ} {x′ : List ℕ} → Passes f widths x t 0 0 n x′ → (schema : Schema) (text : List ℕ) (tables room : ℕ) (p : Node)
-      → Tables schema widths → Plan-in schema text tables x t room p → Edit.Left (Kept schema text tables p) x′ n [] [] (f room schema 0 p)
+  pushed : length x ≤ most-words → (f : ℕ → Schema → ℕ → Node → Answer Node) {n : ℕ} {x′ : List ℕ} → Passes f records x t 0 0 n x′ → (schema : Schema) (text : List ℕ) (tables room : ℕ) (p : Node)
+      → Tables records schema → Plan-in schema text tables x t room p → Edit.Left (Kept schema text tables p) x′ n [] [] (f room schema 0 p)
   pushed short f h schema text tables room p given at =
       h schema text tables given room 0 (record { all = at .all; short = omega (arith, short); outside = refl }) [] [] p (at .fit) (top-holds p (at .words-are) (at .inside))
 
-  pub push-left : length x ≤ most-words → (f : ℕ → Schema → ℕ → Node → Answer Node) {n : ℕ} {x′ : List ℕ} {r : Folded} → Passes f widths x t 0 0 n x′ → Ends x′ n r
-      → Runs (For-tables widths) (λ room schema p. f room schema 0 p) x t x′ r
+  pub push-left : length x ≤ most-words → (f : ℕ → Schema → ℕ → Node → Answer Node) {n : ℕ} {x′ : List ℕ} {r : Folded} → Passes f records x t 0 0 n x′ → Ends x′ n r
+      → Runs (λ schema text. Tables records schema) (λ room schema p. f room schema 0 p) x t x′ r
   push-left short f h e schema text tables room p given at = edited (Kept schema text tables p) (pushed short f h schema text tables room p given at) e
 
 -- What a pass leaves in x′ is copied to d.

@@ -9,19 +9,16 @@ use Rattle.sql.specs.Answer.{Answer, done, refused}
 use Rattle.words.specs.Words.{node-words}
 use Rattle.sound.specs.Sound.{Named}
 use Rattle.cells.specs.Room.{most-words}
-use Rattle.nodes.specs.Columns.{Tables}
-use Rattle.labels.specs.Names.{Names}
-use Rattle.indexes.specs.Indexes.{Indexes}
+use Rattle.records.specs.Records.{Records}
 use Rattle.kept.specs.Kept.{Kept}
 use Rattle.fold_operator.specs.declared.Folded.{Folded}
 use Rattle.fold_operator.specs.declared.Folded.the-variants as Folded
 use Rattle.cells.specs.Cells.{cell-words}
 
--- What the code is lent of a schema: for names, which lie in the text, and for lookups.
-pub record Lent (schema : Schema) (text widths names columns keys : List ℕ) : Type 0 where
-  pub named : Names schema widths names columns
-  pub inside : Named schema (length text)
-  pub indexed : Indexes schema widths keys columns
+-- What the code is lent of a schema: its records. Its names lie in the text.
+pub record Lent (tables columns : List ℕ) (schema : Schema) (text : List ℕ) : Type 0 where
+  pub records : Records tables columns schema
+  pub named : Named schema (length text)
 
 -- The sound plan p is the first t words of x, which has room for `room` cells.
 pub record Plan-in (schema : Schema) (text : List ℕ) (tables : ℕ) (x : List ℕ) (t room : ℕ) (p : Node) : Type 0 where
@@ -68,23 +65,11 @@ abbrev pub Ends : List ℕ → ℕ → Folded → Type 0
 Ends d n (Folded.Done m) = (n ≤ length d) × (m ≡ n)
 Ends d n (Folded.Refused number place) = (length d < n) × ((number ≡ 14) × (place ≡ 0))
 
--- ---- what is lent to each pass
+-- ---- what a pass is lent, where that is not the schema's records alone
 
 -- The text is that of the plan, and short, as text references need.
 abbrev pub For-folding : List ℕ → Schema → List ℕ → Type 0
 For-folding t schema text = (text ≡ t) × (length t < 65536)
 
-abbrev pub For-tables : List ℕ → Schema → List ℕ → Type 0
-For-tables widths schema text = Tables schema widths
-
-abbrev pub For-lookups : (widths keys columns : List ℕ) → Schema → List ℕ → Type 0
-For-lookups widths keys columns schema text = Indexes schema widths keys columns
-
-abbrev pub For-labels : (widths names columns : List ℕ) → Schema → List ℕ → Type 0
-For-labels widths names columns schema text = Names schema widths names columns × Named schema (length text)
-
-abbrev pub For-lent : (widths names columns keys : List ℕ) → Schema → List ℕ → Type 0
-For-lent widths names columns keys schema text = Lent schema text widths names columns keys
-
-abbrev pub For-all : (t widths names columns keys : List ℕ) → Schema → List ℕ → Type 0
-For-all t widths names columns keys schema text = For-folding t schema text × Lent schema text widths names columns keys
+abbrev pub For-all : (t tables columns : List ℕ) → Schema → List ℕ → Type 0
+For-all t tables columns schema text = For-folding t schema text × Lent tables columns schema text

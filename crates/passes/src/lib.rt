@@ -1,13 +1,14 @@
 // The five optimizers of optimizer.rs on plans in their working form, under one contract: the plan is the first t words of x, and what becomes of it is left in
-// the first words of y, or refused. x, y, z and w have the same length, seven words for each cell that there is room for. What the schema says is lent in slices
-// (crate schema).
+// the first words of y, or refused. x, y, z and w have the same length, seven words for each cell that there is room for. What the schema says is lent in
+// its records (crate records).
 use fold_operator::Folded;
 ghost use mathlib.Core.Path.{_≡_};
 ghost use lib.ListN.{length};
 ghost use Rattle.sql.specs.Answer.{done};
 ghost use Rattle.sql.specs.Optimizer as Optimizer;
 ghost use Rattle.sql.specs.Room;
-ghost use Rattle.passes.specs.Passes.{PlanAt, Alike, Runs, Ends, For-folding, For-tables, For-lookups, For-labels};
+ghost use Rattle.records.specs.Records.{Records, Tables};
+ghost use Rattle.passes.specs.Passes.{Lent, PlanAt, Alike, Runs, Ends, For-folding};
 
 // What stands in the first n words of d, or refusal 14 where n is past its end.
 fn in_room(d: &[u32], n: usize) -> Folded
@@ -35,13 +36,13 @@ pub fn push_down_in_place(
     z: &mut [u32],
     w: &mut [u32],
     t: usize,
-    widths: &[usize],
+    tables: &[u8],
 ) -> Folded
-    requires { ⌜ PlanAt (For-tables (now widths)) (now x) t ⌝ }
+    requires { ⌜ PlanAt (λ schema text. Tables (now tables) schema) (now x) t ⌝ }
     requires { ⌜ Alike (now x) (now y) (now z) (now w) ⌝ }
-    ensures { λ r. ⌜ Runs (For-tables (now (widths .entry))) (λ room schema p. Room.FilterPushdown room schema 0 p) (now (x .entry)) t (now (x .exit)) r ⌝ }
+    ensures { λ r. ⌜ Runs (λ schema text. Tables (now (tables .entry)) schema) (λ room schema p. Room.FilterPushdown room schema 0 p) (now (x .entry)) t (now (x .exit)) r ⌝ }
 {
-    let n = filter_pushdown::filter_pushdown(x, y, z, w, t, widths);
+    let n = filter_pushdown::filter_pushdown(x, y, z, w, t, tables);
     in_room(x, n)
 }
 
@@ -52,13 +53,13 @@ pub fn push_down(
     z: &mut [u32],
     w: &mut [u32],
     t: usize,
-    widths: &[usize],
+    tables: &[u8],
 ) -> Folded
-    requires { ⌜ PlanAt (For-tables (now widths)) (now x) t ⌝ }
+    requires { ⌜ PlanAt (λ schema text. Tables (now tables) schema) (now x) t ⌝ }
     requires { ⌜ Alike (now x) (now y) (now z) (now w) ⌝ }
-    ensures { λ r. ⌜ Runs (For-tables (now (widths .entry))) (λ room schema p. Room.FilterPushdown room schema 0 p) (now (x .entry)) t (now (y .exit)) r ⌝ }
+    ensures { λ r. ⌜ Runs (λ schema text. Tables (now (tables .entry)) schema) (λ room schema p. Room.FilterPushdown room schema 0 p) (now (x .entry)) t (now (y .exit)) r ⌝ }
 {
-    match push_down_in_place(x, y, z, w, t, widths) {
+    match push_down_in_place(x, y, z, w, t, tables) {
         Folded::Done(n) => Folded::Done(cells::copy(x, 0, n, y, 0)),
         Folded::Refused(number, place) => Folded::Refused(number, place),
     }
@@ -71,25 +72,24 @@ pub fn look_up(
     z: &mut [u32],
     w: &mut [u32],
     t: usize,
-    widths: &[usize],
-    keys: &[usize],
+    tables: &[u8],
     columns: &[u8],
 ) -> Folded
-    requires { ⌜ PlanAt (For-lookups (now widths) (now keys) (now columns)) (now x) t ⌝ }
+    requires { ⌜ PlanAt (λ schema text. Records (now tables) (now columns) schema) (now x) t ⌝ }
     requires { ⌜ Alike (now x) (now y) (now z) (now w) ⌝ }
-    ensures { λ r. ⌜ Runs (For-lookups (now (widths .entry)) (now (keys .entry)) (now (columns .entry))) (λ room schema p. Room.IndexLookup room schema 0 p) (now (x .entry)) t (now (y .exit)) r ⌝ }
+    ensures { λ r. ⌜ Runs (λ schema text. Records (now (tables .entry)) (now (columns .entry)) schema) (λ room schema p. Room.IndexLookup room schema 0 p) (now (x .entry)) t (now (y .exit)) r ⌝ }
 {
-    let n = index_lookup::transform(x, 0, t, 0, y, 0, z, w, widths, keys, columns);
+    let n = index_lookup::transform(x, 0, t, 0, y, 0, z, w, tables, columns);
     in_room(y, n)
 }
 
 // Pass 4, from x to y.
-pub fn hash_join(x: &[u32], y: &mut [u32], t: usize, widths: &[usize]) -> Folded
-    requires { ⌜ PlanAt (For-tables (now widths)) (now x) t ⌝ }
+pub fn hash_join(x: &[u32], y: &mut [u32], t: usize, tables: &[u8]) -> Folded
+    requires { ⌜ PlanAt (λ schema text. Tables (now tables) schema) (now x) t ⌝ }
     requires { ⌜ length (now y) ≡ length (now x) ⌝ }
-    ensures { λ r. ⌜ Runs (For-tables (now (widths .entry))) (λ room schema p. done (Optimizer.HashJoin schema p)) (now (x .entry)) t (now (y .exit)) r ⌝ }
+    ensures { λ r. ⌜ Runs (λ schema text. Tables (now (tables .entry)) schema) (λ room schema p. done (Optimizer.HashJoin schema p)) (now (x .entry)) t (now (y .exit)) r ⌝ }
 {
-    let n = hash_join::optimize(x, t, y, widths);
+    let n = hash_join::optimize(x, t, y, tables);
     in_room(y, n)
 }
 
@@ -99,14 +99,13 @@ pub fn short_circuit(
     y: &mut [u32],
     z: &mut [u32],
     t: usize,
-    widths: &[usize],
-    names: &[u32],
+    tables: &[u8],
     columns: &[u8],
 ) -> Folded
-    requires { ⌜ PlanAt (For-labels (now widths) (now names) (now columns)) (now x) t ⌝ }
+    requires { ⌜ PlanAt (Lent (now tables) (now columns)) (now x) t ⌝ }
     requires { ⌜ (length (now y) ≡ length (now x)) × (length (now z) ≡ length (now x)) ⌝ }
-    ensures { λ r. ⌜ Runs (For-labels (now (widths .entry)) (now (names .entry)) (now (columns .entry))) (λ room schema p. Room.ShortCircuit room schema 0 p) (now (x .entry)) t (now (y .exit)) r ⌝ }
+    ensures { λ r. ⌜ Runs (Lent (now (tables .entry)) (now (columns .entry))) (λ room schema p. Room.ShortCircuit room schema 0 p) (now (x .entry)) t (now (y .exit)) r ⌝ }
 {
-    let n = short_circuit::short_circuit(x, 0, t, 0, y, 0, z, widths, names, columns);
+    let n = short_circuit::short_circuit(x, 0, t, 0, y, 0, z, tables, columns);
     in_room(y, n)
 }

@@ -144,7 +144,7 @@ Merges x y at end t lo tail origin x₁ y₁ at₁ end₁ t₁ origin₁ =
 
 module _ {x y : List ℕ} {at end t lo tail origin : ℕ} (z : at ≡ 0 → ⊥) where
   -- what is below the Filter
-  module _ {widths : List ℕ} (g : TriedAt widths x y at end t lo tail origin) where
+  module _ {records : List ℕ} (g : TriedAt records x y at end t lo tail origin) where
     pub tried-below : NodeAt x lo end
     tried-below = when-gathered z (λ p. NodeAt x lo end) (λ e source h. record { p = source; here = below-here h }) (g .p) (g .stands)
 
@@ -208,10 +208,10 @@ module _ {x y : List ℕ} {at end t lo tail origin : ℕ} (z : at ≡ 0 → ⊥)
       })
 
   -- the Filter stays: it takes its place
-  module _ (n : ℕ) {widths : List ℕ} {r : ℕ} {x′ : List ℕ} (k : length x′ ≡ length x) (f : Filters origin x y at t lo end tail r x′) where
+  module _ (n : ℕ) {records : List ℕ} {r : ℕ} {x′ : List ℕ} (k : length x′ ≡ length x) (f : Filters origin x y at t lo end tail r x′) where
     stays : ((room : ℕ) (schema : Schema) (rest : ℕ) (e : Expression) (source : Node) → NodeHere x lo end source
         → maybe-push-filter room schema n rest (over origin (filter e) source) ≡ done (over origin (filter e) source))
-        → Tries (λ room schema. maybe-push-filter room schema n) widths x y at end t lo tail origin r x′
+        → Tries (λ room schema. maybe-push-filter room schema n) records x y at end t lo tail origin r x′
     stays same schema text tables given room rest s pre post p fit h =
         when-gathered z (λ p. Kept schema text tables p p → Left (Kept schema text tables p) x′ r pre post (maybe-push-filter room schema n rest p)) (λ e source h fit.
         let p = over origin (filter e) source in
@@ -220,23 +220,23 @@ module _ {x y : List ℕ} {at end t lo tail origin : ℕ} (z : at ≡ 0 → ⊥)
         (left-done p fit (placed-holds p p (gathered-in h origin) (omega (arith, h .inside)) (h .low) (h .high) (omega arith) (omega (arith, s .short)) v)))
         p h fit
 
-    pub filter-last : n ≡ 0 → Tries (λ room schema. maybe-push-filter room schema n) widths x y at end t lo tail origin r x′
+    pub filter-last : n ≡ 0 → Tries (λ room schema. maybe-push-filter room schema n) records x y at end t lo tail origin r x′
     filter-last i = stays (λ room schema rest e source u. none-left room schema n rest (over origin (filter e) source) i)
 
-    pub filter-stays : {b : Bool} → Takes x lo end b → b ≡ false → Tries (λ room schema. maybe-push-filter room schema n) widths x y at end t lo tail origin r x′
+    pub filter-stays : {b : Bool} → Takes x lo end b → b ≡ false → Tries (λ room schema. maybe-push-filter room schema n) records x y at end t lo tail origin r x′
     filter-stays a j =
         stays (λ room schema rest e source u. not-merged room schema n rest (over origin (filter e) source) (not-taken origin e source (sym (a origin source e u) ∙ j)))
 
 -- no Filter
-pub no-filter : (n : ℕ) {widths x y : List ℕ} {at end t lo tail origin : ℕ} → at ≡ 0 → Tries (λ room schema. maybe-push-filter room schema n) widths x y at end t lo tail origin t x
+pub no-filter : (n : ℕ) {records x y : List ℕ} {at end t lo tail origin : ℕ} → at ≡ 0 → Tries (λ room schema. maybe-push-filter room schema n) records x y at end t lo tail origin t x
 no-filter n {x = x} {t = t} z schema text tables given room rest s pre post p fit h =
     let (a, b) = none-gathered z p h in
     subst (Left (Kept schema text tables p) x t pre post) (sym (not-merged room schema n rest p b)) (left-done p fit a)
 
 -- ---- what is asked for after a merge, and what the push of the rest does
-module _ {widths x y : List ℕ} {at end t lo tail origin : ℕ} (z : at ≡ 0 → ⊥) {x₁ y₁ : List ℕ} {at₁ end₁ t₁ origin₁ : ℕ} (k : length x₁ ≡ length x)
+module _ {records x y : List ℕ} {at end t lo tail origin : ℕ} (z : at ≡ 0 → ⊥) {x₁ y₁ : List ℕ} {at₁ end₁ t₁ origin₁ : ℕ} (k : length x₁ ≡ length x)
     (m : Merges x y at end t lo tail origin x₁ y₁ at₁ end₁ t₁ origin₁) where
-  pub merged-at : TriedAt widths x y at end t lo tail origin → TriedAt widths x₁ y₁ at₁ end₁ t₁ lo tail origin₁
+  pub merged-at : TriedAt records x y at end t lo tail origin → TriedAt records x₁ y₁ at₁ end₁ t₁ lo tail origin₁
   merged-at g =
       let n = m (g .shares .short) (g .pre) (g .post) (g .p) (g .stands) in
       record {
@@ -255,8 +255,8 @@ module _ {widths x y : List ℕ} {at end t lo tail origin : ℕ} (z : at ≡ 0 �
         stands = n .stands;
       }
 
-  pub merged-tries : (n : ℕ) → (n ≡ 0 → ⊥) → {r : ℕ} {x′ : List ℕ} → Tries (λ room schema. push-filters room schema (n - 1)) widths x₁ y₁ at₁ end₁ t₁ lo tail origin₁ r x′
-      → Tries (λ room schema. maybe-push-filter room schema n) widths x y at end t lo tail origin r x′
+  pub merged-tries : (n : ℕ) → (n ≡ 0 → ⊥) → {r : ℕ} {x′ : List ℕ} → Tries (λ room schema. push-filters room schema (n - 1)) records x₁ y₁ at₁ end₁ t₁ lo tail origin₁ r x′
+      → Tries (λ room schema. maybe-push-filter room schema n) records x y at end t lo tail origin r x′
   merged-tries n i {r} {x′} a schema text tables given room rest s pre post p fit h =
       let b = m (s .short) pre post p h in
       let c = merge-keeps schema text tables p (b .q) (b .is) fit in
@@ -267,14 +267,14 @@ module _ {widths x y : List ℕ} {at end t lo tail origin : ℕ} (z : at ≡ 0 �
       (a schema text tables given room rest (shares-next k s) pre post (b .q) (fits .end p (b .q) c) (b .stands)))
 
 -- ---- push_filters: maybe_push_filter, then the join rule
-module _ (n : ℕ) {widths x y : List ℕ} {at end t lo tail origin u : ℕ} {x₁ : List ℕ}
-    (a : Tries (λ room schema. maybe-push-filter room schema n) widths x y at end t lo tail origin u x₁) where
-  pub push-full : length x₁ < u → Tries (λ room schema. push-filters room schema n) widths x y at end t lo tail origin u x₁
+module _ (n : ℕ) {records x y : List ℕ} {at end t lo tail origin u : ℕ} {x₁ : List ℕ}
+    (a : Tries (λ room schema. maybe-push-filter room schema n) records x y at end t lo tail origin u x₁) where
+  pub push-full : length x₁ < u → Tries (λ room schema. push-filters room schema n) records x y at end t lo tail origin u x₁
   push-full z schema text tables given room rest s pre post p fit h =
       left-stop (maybe-push-filter room schema n rest p) (maybe-push-join room schema rest) (a schema text tables given room rest s pre post p fit h) z
 
   module _ (z : u ≤ length x₁) (k : length x₁ ≡ length x) where
-    pub push-next : TriedAt widths x y at end t lo tail origin → PassAt widths x₁ u lo tail
+    pub push-next : TriedAt records x y at end t lo tail origin → PassAt records x₁ u lo tail
     push-next g =
         let K = Kept (g .schema) (g .text) (g .tables) in
         let o = maybe-push-filter (g .room) (g .schema) n (g .rest) (g .p) in
@@ -299,8 +299,8 @@ module _ (n : ℕ) {widths x y : List ℕ} {at end t lo tail origin u : ℕ} {x�
               });
         }
 
-    pub push-again : {r : ℕ} {x₂ : List ℕ} → Passes maybe-push-join widths x₁ u lo tail r x₂
-        → Tries (λ room schema. push-filters room schema n) widths x y at end t lo tail origin r x₂
+    pub push-again : {r : ℕ} {x₂ : List ℕ} → Passes maybe-push-join records x₁ u lo tail r x₂
+        → Tries (λ room schema. push-filters room schema n) records x y at end t lo tail origin r x₂
     push-again b schema text tables given room rest s pre post p fit h =
         let fits = kept schema text tables in
         left-go (maybe-push-filter room schema n rest p) (maybe-push-join room schema rest) (a schema text tables given room rest s pre post p fit h) z
@@ -344,8 +344,8 @@ module _ {x : List ℕ} {t lo tail : ℕ} where
       })
       p (sym (tagged p) ∙ sym (node-tag p (holds-here h)) ∙ i) h
 
-  module _ {y : List ℕ} {at end origin : ℕ} (m : Starts x t lo tail y at end origin) {widths : List ℕ} where
-    pub starts-at : PassAt widths x t lo tail → TriedAt widths x y at end t lo tail origin
+  module _ {y : List ℕ} {at end origin : ℕ} (m : Starts x t lo tail y at end origin) {records : List ℕ} where
+    pub starts-at : PassAt records x t lo tail → TriedAt records x y at end t lo tail origin
     starts-at g =
         let d = g .held in
         record {
@@ -364,5 +364,5 @@ module _ {x : List ℕ} {t lo tail : ℕ} where
           stands = m (d .shares .short) (d .pre) (d .post) (d .p) (d .holds);
         }
 
-    pub starts-passes : (f : ℕ → Schema → ℕ → Node → Answer Node) {r : ℕ} {x′ : List ℕ} → Tries f widths x y at end t lo tail origin r x′ → Passes f widths x t lo tail r x′
+    pub starts-passes : (f : ℕ → Schema → ℕ → Node → Answer Node) {r : ℕ} {x′ : List ℕ} → Tries f records x y at end t lo tail origin r x′ → Passes f records x t lo tail r x′
     starts-passes f a schema text tables given room rest s pre post p fit h = a schema text tables given room rest s pre post p fit (m (s .short) pre post p h)

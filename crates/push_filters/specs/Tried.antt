@@ -12,7 +12,7 @@ use Rattle.sql.specs.Answer.{Answer}
 use Rattle.cells.specs.Room.{most-words, Wrote}
 use Rattle.words.specs.Words.{expression-words, node-words}
 use Rattle.words.specs.Place.{ExpressionHere}
-use Rattle.nodes.specs.Columns.{Tables}
+use Rattle.records.specs.Records.{Tables}
 use Rattle.edit.specs.Edit.{Holds, Shares, Left, Placed}
 use Rattle.kept.specs.Kept.{Kept}
 use Rattle.cells.specs.Cells.{cell-words}
@@ -43,11 +43,11 @@ pub record Stands (x y : List ℕ) (at end t lo tail origin : ℕ) (pre post : L
 -- ---- contracts
 
 -- As PassAt (crate kept): some sound node of a schema that is lent stands there.
-pub record TriedAt (widths x y : List ℕ) (at end t lo tail origin : ℕ) : Type 0 where
+pub record TriedAt (records x y : List ℕ) (at end t lo tail origin : ℕ) : Type 0 where
   pub schema : Schema
   pub text : List ℕ
   pub tables : ℕ
-  pub given : Tables schema widths
+  pub given : Tables records schema
   pub short : length x ≤ most-words
   pub room : ℕ
   pub rest : ℕ
@@ -59,9 +59,9 @@ pub record TriedAt (widths x y : List ℕ) (at end t lo tail origin : ℕ) : Typ
   pub stands : Stands x y at end t lo tail origin pre post p
 
 -- As Passes (crate kept): x′ with r words is x with t words, and what is gathered, after f of the node that stands there.
-abbrev pub Tries : (ℕ → Schema → ℕ → Node → Answer Node) → (widths x y : List ℕ) (at end t lo tail origin r : ℕ) → List ℕ → Type 0
-Tries f widths x y at end t lo tail origin r x′ =
-    (schema : Schema) (text : List ℕ) (tables : ℕ) → Tables schema widths → (room rest : ℕ) → Shares x lo tail room rest → (pre post : List ℕ) (p : Node)
+abbrev pub Tries : (ℕ → Schema → ℕ → Node → Answer Node) → (records x y : List ℕ) (at end t lo tail origin r : ℕ) → List ℕ → Type 0
+Tries f records x y at end t lo tail origin r x′ =
+    (schema : Schema) (text : List ℕ) (tables : ℕ) → Tables records schema → (room rest : ℕ) → Shares x lo tail room rest → (pre post : List ℕ) (p : Node)
     → Kept schema text tables p p → Stands x y at end t lo tail origin pre post p → Left (Kept schema text tables p) x′ r pre post (f room schema rest p)
 
 -- Whatever predicates are the first `at` words of y, and the words of x from lo up to hi: the first r words of y′ are both under an And with the origin `new`.

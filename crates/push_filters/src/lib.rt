@@ -1,5 +1,5 @@
 // optimizer.rs, push_filters and maybe_push_filter, in place (crate edit): the whole plan stands in the first t words of x, the node that is worked on from lo
-// up to t - tail. A number of words past the end of x stands for refusal 14. y, z and w are scratch; widths is the number of columns of each table. n bounds
+// up to t - tail. A number of words past the end of x stands for refusal 14. y, z and w are scratch; tables are the table records (crate records). n bounds
 // the nodes, as in the definition (crate sql, Room).
 //
 // A run of Filters can be as long as the plan. So a Filter that is merged into one is only gathered: its predicate is the first `at` words of y, its source
@@ -78,12 +78,12 @@ fn maybe_push_filter(
     t: usize,
     lo: usize,
     tail: usize,
-    widths: &[usize],
+    tables: &[u8],
     origin: u32,
 ) -> usize
-    requires { ⌜ TriedAt (now widths) (now x) (now y) at end t lo tail origin ⌝ }
+    requires { ⌜ TriedAt (now tables) (now x) (now y) at end t lo tail origin ⌝ }
     requires { ⌜ Buffers (now x) (now y) (now z) (now w) ⌝ }
-    ensures { λ r. ⌜ Tries (λ room schema. Room.maybe-push-filter room schema n) (now (widths .entry)) (now (x .entry)) (now (y .entry)) at end t lo tail origin r (now (x .exit)) ⌝ }
+    ensures { λ r. ⌜ Tries (λ room schema. Room.maybe-push-filter room schema n) (now (tables .entry)) (now (x .entry)) (now (y .entry)) at end t lo tail origin r (now (x .exit)) ⌝ }
 {
     if at == 0 {
         return t;
@@ -95,12 +95,12 @@ fn maybe_push_filter(
         let own = nodes::own_start(x, lo, end);
         let more = gather(x, own, end - cells::CELL_WORDS, y, at, origin);
         let below = cells::origin_at(x, end);
-        return push_filters(x, y, z, w, n - 1, more, own, t, lo, tail, widths, below);
+        return push_filters(x, y, z, w, n - 1, more, own, t, lo, tail, tables, below);
     }
     if push_into::takes(x, lo, end) {
         let into = push_into::push_into(x, y, at, t, lo, end, tail, origin);
         // Nothing is gathered now, so no origin is asked for.
-        return push_filters(x, y, z, w, n - 1, 0, end, into, lo, tail, widths, 0);
+        return push_filters(x, y, z, w, n - 1, 0, end, into, lo, tail, tables, 0);
     }
     filter_over(x, y, at, t, lo, end, tail, origin)
 }
@@ -117,18 +117,18 @@ fn push_filters(
     t: usize,
     lo: usize,
     tail: usize,
-    widths: &[usize],
+    tables: &[u8],
     origin: u32,
 ) -> usize
-    requires { ⌜ TriedAt (now widths) (now x) (now y) at end t lo tail origin ⌝ }
+    requires { ⌜ TriedAt (now tables) (now x) (now y) at end t lo tail origin ⌝ }
     requires { ⌜ Buffers (now x) (now y) (now z) (now w) ⌝ }
-    ensures { λ r. ⌜ Tries (λ room schema. Room.push-filters room schema n) (now (widths .entry)) (now (x .entry)) (now (y .entry)) at end t lo tail origin r (now (x .exit)) ⌝ }
+    ensures { λ r. ⌜ Tries (λ room schema. Room.push-filters room schema n) (now (tables .entry)) (now (x .entry)) (now (y .entry)) at end t lo tail origin r (now (x .exit)) ⌝ }
 {
-    let pushed = maybe_push_filter(x, y, z, w, n, at, end, t, lo, tail, widths, origin);
+    let pushed = maybe_push_filter(x, y, z, w, n, at, end, t, lo, tail, tables, origin);
     if x.len() < pushed {
         return pushed;
     }
-    push_join::maybe_push_join(x, y, z, w, pushed, lo, tail, widths)
+    push_join::maybe_push_join(x, y, z, w, pushed, lo, tail, tables)
 }
 
 // push_filters of the node that stands in x from lo up to t - tail.
@@ -141,19 +141,19 @@ pub fn push_filters_in_place(
     t: usize,
     lo: usize,
     tail: usize,
-    widths: &[usize],
+    tables: &[u8],
 ) -> usize
-    requires { ⌜ PassAt (now widths) (now x) t lo tail ⌝ }
+    requires { ⌜ PassAt (now tables) (now x) t lo tail ⌝ }
     requires { ⌜ Buffers (now x) (now y) (now z) (now w) ⌝ }
-    ensures { λ r. ⌜ Passes (λ room schema. Room.push-filters room schema n) (now (widths .entry)) (now (x .entry)) t lo tail r (now (x .exit)) ⌝ }
+    ensures { λ r. ⌜ Passes (λ room schema. Room.push-filters room schema n) (now (tables .entry)) (now (x .entry)) t lo tail r (now (x .exit)) ⌝ }
 {
     let hi = t - tail;
     if cells::tag_at(x, hi) == tags::FILTER {
         let own = nodes::own_start(x, lo, hi);
         let at = cells::copy(x, own, hi - cells::CELL_WORDS, y, 0);
         let origin = cells::origin_at(x, hi);
-        return push_filters(x, y, z, w, n, at, own, t, lo, tail, widths, origin);
+        return push_filters(x, y, z, w, n, at, own, t, lo, tail, tables, origin);
     }
     // Nothing is gathered, so no origin is asked for.
-    push_filters(x, y, z, w, n, 0, hi, t, lo, tail, widths, 0)
+    push_filters(x, y, z, w, n, 0, hi, t, lo, tail, tables, 0)
 }

@@ -37,8 +37,7 @@ use Rattle.words.specs.Place.{ExpressionHere, NodeHere}
 use Rattle.words.proofs.Sizes.{words-long}
 use Rattle.encode.specs.Encode.{as-cell, cells-in}
 use Rattle.encode.proofs.Says.{optional-in, optional-under, node-in}
-use Rattle.nodes.specs.Columns.{Tables}
-use Rattle.nodes.proofs.Widths.{table-width}
+use Rattle.records.specs.Records.{Tables}
 use Rattle.edit.specs.Edit.{Left}
 use Rattle.kept.specs.Kept.{Kept}
 use Rattle.kept.specs.Pass.{PassAt, Passes}
@@ -469,17 +468,17 @@ splits-below schema narrow text tables og outer p l r x = arrays-below schema na
 -- ---- the node there, before and after the step of the pass
 
 -- what is lent of the tables says that they have few columns
-narrow-tables : {schema : Schema} {widths : List ℕ} → Tables schema widths → (t : ℕ) → length (table-of schema t .columns) ≤ 256
-narrow-tables w t = omega (arith, table-width w t, w .few t)
+narrow-tables : {schema : Schema} {records : List ℕ} → Tables records schema → (t : ℕ) → length (table-of schema t .columns) ≤ 256
+narrow-tables w t = omega (arith, w .width t, w .few t)
 
 pub held-below : Held-below
-held-below widths x t lo tail g og outer p l r e =
+held-below records x t lo tail g og outer p l r e =
     splits-below (g .schema) (narrow-tables (g .given)) (g .text) (g .tables) og outer p l r (subst (Sound (g .schema) (g .text) (g .tables)) e (g .held .fit .0))
 
 -- beside Passes
-pub passes-below : {widths x : List ℕ} {t lo tail k : ℕ} {x′ : List ℕ} → PassAt widths x t lo tail → length x′ ≡ length x
-    → Passes Room.maybe-push-join widths x t lo tail k x′ → Passes Room.maybe-push-join widths x t lo tail k x′ × Passes-below x lo tail k x′
-passes-below {widths} {x} {t} {lo} {tail} {k} {x′} g e f = (f, below)
+pub passes-below : {records x : List ℕ} {t lo tail k : ℕ} {x′ : List ℕ} → PassAt records x t lo tail → length x′ ≡ length x
+    → Passes Room.maybe-push-join records x t lo tail k x′ → Passes Room.maybe-push-join records x t lo tail k x′ × Passes-below x lo tail k x′
+passes-below {records} {x} {t} {lo} {tail} {k} {x′} g e f = (f, below)
   where
     go : (cells : ℕ) → length x ≤ cell-words * cells → k ≤ length x → (pre post : List ℕ) (p : Node) → length pre ≡ lo → length post ≡ tail → (answer : Answer Node)
         → Left (Kept (g .schema) (g .text) (g .tables) p) x′ k pre post answer → Below (most-columns cells) x′ lo (k - tail)

@@ -27,7 +27,8 @@ use Rattle.words.specs.Place.{ExpressionHere, ExpressionAt, Maps, NodeHere, Nod
 use Rattle.words.proofs.Sizes.{expression-long}
 use Rattle.words.proofs.Tags.{by-nested-loop}
 use Rattle.nodes.specs.Own.{OwnStart}
-use Rattle.nodes.specs.Columns.{Tables, Narrow}
+use Rattle.nodes.specs.Columns.{Narrow}
+use Rattle.records.specs.Records.{Tables}
 use Rattle.nodes.proofs.Widths.{tag-here, flag-here}
 use Rattle.sound.specs.Pushdown.{join-rule-keeps}
 use Rattle.edit.specs.Edit.{Holds, Left, Placed}
@@ -123,7 +124,7 @@ module _ {x : List ℕ} {lo hi m : ℕ} (own : OwnStart x lo hi m) {z z₁ : Lis
 
 -- ---- the ways out
 
-pub pass-same : {widths x : List ℕ} {t lo tail : ℕ} {b : Bool} → HasPredicate x lo (t - tail) b → b ≡ false → Passes Room.maybe-push-join widths x t lo tail t x
+pub pass-same : {records x : List ℕ} {t lo tail : ℕ} {b : Bool} → HasPredicate x lo (t - tail) b → b ≡ false → Passes Room.maybe-push-join records x t lo tail t x
 pass-same f z schema text tables given =
     edit-same (kept schema text tables) (λ room. Room.maybe-push-join room schema)
     (λ room rest pre post p s k h. unchanged room schema rest p (sym (f p (holds-here h)) ∙ z) (omega (arith, total-cells s h, h .inside, s .all)))
@@ -135,9 +136,9 @@ module _ {x : List ℕ} {t lo tail : ℕ} (f : HasPredicate x lo (t - tail) true
   when-split {pre} {post} P g p h = by-split (λ p. Holds x t lo tail pre post p → P p) g p (sym (f p (holds-here h))) h
 
   -- what the split asks for
-  pub split-at : {widths : List ℕ} → PassAt widths x t lo tail → SplitAt widths x t lo tail
-  split-at {widths} g =
-      when-split (λ p. Narrow p → SplitAt widths x t lo tail)
+  pub split-at : {records : List ℕ} → PassAt records x t lo tail → SplitAt records x t lo tail
+  split-at {records} g =
+      when-split (λ p. Narrow p → SplitAt records x t lo tail)
       (λ og outer q l r h k. record {
         schema = g .schema;
         tables = g .given;
@@ -155,10 +156,10 @@ module _ {x : List ℕ} {t lo tail : ℕ} (f : HasPredicate x lo (t - tail) true
       (g .held .p) (g .held .holds) (sound-narrow (g .schema) (g .text) (g .tables) (g .held .p) (g .held .fit .0))
 
   -- a normal form that has no room
-  refuse : {widths : List ℕ} {n : ℕ} → length x < n
+  refuse : {records : List ℕ} {n : ℕ} → length x < n
       → ((room : ℕ) (schema : Schema) → length x ≡ cell-words * room → Short x → (og : ℕ) (outer : Bool) (q : Expression) (l r : Node) → NodeHere x lo (t - tail) (join og outer (nested-loop (some q)) l r)
       → normal-forms-fit room schema (some q) ≡ false)
-      → Passes Room.maybe-push-join widths x t lo tail n x
+      → Passes Room.maybe-push-join records x t lo tail n x
   refuse {n = n} i g schema text tables given room rest s pre post p fit h =
       when-split (λ p. Left (Kept schema text tables p) x n pre post (Room.maybe-push-join room schema rest p))
       (λ og outer q l r u. subst (λ (a : Answer Node). Left (Kept schema text tables (join og outer (nested-loop (some q)) l r)) x n pre post a)
@@ -167,14 +168,14 @@ module _ {x : List ℕ} {t lo tail : ℕ} (f : HasPredicate x lo (t - tail) true
 
   module _ {m : ℕ} (own : OwnStart x lo (t - tail) m) {z z₁ : List ℕ} {k : ℕ} (az : length z ≡ length x) (lz : length z₁ ≡ length z)
       (nnf : Maps into-nnf x m (t - tail - cell-words) z 0 k z₁) where
-    pub nnf-over : {widths : List ℕ} → length z₁ < k → Passes Room.maybe-push-join widths x t lo tail k x
+    pub nnf-over : {records : List ℕ} → length z₁ < k → Passes Room.maybe-push-join records x t lo tail k x
     nnf-over i =
         refuse (omega arith)
         (λ room schema a s og outer q l r u. ap (λ (c : Bool). c && leb (size (into-cnf q)) room)
         (form-over room (az ∙ a) (into-nnf q) (nnf q (predicate-here own og outer q l r u)) (omega arith) (omega arith)))
 
     module _ (i : k ≤ length z₁) {w w₁ : List ℕ} {end : ℕ} (aw : length w ≡ length x) (lw : length w₁ ≡ length w) (cnf : Maps distribute z₁ 0 k w 0 end w₁) where
-      pub cnf-over : {widths : List ℕ} → length w₁ < end → Passes Room.maybe-push-join widths x t lo tail end x
+      pub cnf-over : {records : List ℕ} → length w₁ < end → Passes Room.maybe-push-join records x t lo tail end x
       unfolding into-cnf
       cnf-over j =
           refuse (omega arith)
@@ -182,15 +183,15 @@ module _ {x : List ℕ} {t lo tail : ℕ} (f : HasPredicate x lo (t - tail) true
           (form-over room (aw ∙ a) (distribute (into-nnf q)) (cnf (into-nnf q) (nnf-here own lz nnf i og outer q l r u)) (omega arith) (omega arith))
           ∙ and-false (leb (size (into-nnf q)) room))
 
-      module _ (j : end ≤ length w₁) {widths x′ : List ℕ} {r : ℕ} (lx : length x′ ≡ length x) (g : Splits widths x t lo tail w₁ end r x′) where
-        placed : (schema : Schema) → Tables schema widths → {pre post : List ℕ} (p : Node) → Holds x t lo tail pre post p
+      module _ (j : end ≤ length w₁) {records x′ : List ℕ} {r : ℕ} (lx : length x′ ≡ length x) (g : Splits records x t lo tail w₁ end r x′) where
+        placed : (schema : Schema) → Tables records schema → {pre post : List ℕ} (p : Node) → Holds x t lo tail pre post p
             → Placed x′ r pre post (node-words (Optimizer.maybe-push-join schema p))
         unfolding Optimizer.maybe-push-join into-cnf-vec into-cnf
         placed schema given {pre} {post} p h =
             when-split (λ p. Placed x′ r pre post (node-words (Optimizer.maybe-push-join schema p)))
             (λ og outer q l r h. g schema given pre post og outer q l r h (distribute (into-nnf q)) (cnf-here own lz nnf i lw cnf j og outer q l r (holds-here h))) p h
 
-        pub pass-split : Passes Room.maybe-push-join widths x t lo tail r x′
+        pub pass-split : Passes Room.maybe-push-join records x t lo tail r x′
         pass-split schema text tables given room rest s pre post p fit h =
             subst (λ (a : Answer Node). Left (Kept schema text tables p) x′ r pre post a)
             (sym (when-split (λ p. Room.maybe-push-join room schema rest p ≡ step room schema rest (Optimizer.maybe-push-join schema p))

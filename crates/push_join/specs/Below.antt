@@ -110,7 +110,7 @@ Splits-below =
 -- So of the join that maybe_push_join is given: what it asks for is enough.
 abbrev pub Held-below : Type 0
 Held-below =
-    (widths x : List ℕ) (t lo tail : ℕ) (g : PassAt widths x t lo tail) (og : ℕ) (outer : Bool) (p : Expression) (l r : Node) → g .held .p ≡ join og outer (nested-loop (some p)) l r
+    (records x : List ℕ) (t lo tail : ℕ) (g : PassAt records x t lo tail) (og : ℕ) (outer : Bool) (p : Expression) (l r : Node) → g .held .p ≡ join og outer (nested-loop (some p)) l r
     → Arrays-below og outer p l r (columns (g .schema) l) (columns (g .schema) r)
 
 -- The contract of maybe_push_join beside Passes: in an array that has room for `cells` cells, each number in the words of the node that is there then is below the most

@@ -30,13 +30,13 @@ pub fn maybe_push_join(
     t: usize,
     lo: usize,
     tail: usize,
-    widths: &[usize],
+    tables: &[u8],
 ) -> usize
-    requires { ⌜ PassAt (now widths) (now x) t lo tail ⌝ }
+    requires { ⌜ PassAt (now tables) (now x) t lo tail ⌝ }
     requires { ⌜ length (now y) ≡ length (now x) ⌝ }
     requires { ⌜ length (now z) ≡ length (now x) ⌝ }
     requires { ⌜ length (now w) ≡ length (now x) ⌝ }
-    ensures { λ r. ⌜ Passes Room.maybe-push-join (now (widths .entry)) (now (x .entry)) t lo tail r (now (x .exit)) ⌝ }
+    ensures { λ r. ⌜ Passes Room.maybe-push-join (now (tables .entry)) (now (x .entry)) t lo tail r (now (x .exit)) ⌝ }
     ensures { λ r. ⌜ Passes-below (now (x .entry)) lo tail r (now (x .exit)) ⌝ }
 {
     let hi = t - tail;
@@ -50,7 +50,7 @@ pub fn maybe_push_join(
         if w.len() < end {
             return end;
         }
-        return split_join::split(x, y, w, end, z, t, lo, m, tail, widths);
+        return split_join::split(x, y, w, end, z, t, lo, m, tail, tables);
     }
     t
 }

@@ -175,8 +175,8 @@ module _ {y : List ℕ} {lo hi : ℕ} where
     pub projection-one : SourceCount y lo hi 1
     projection-one p u = a-projection (λ p. 1 ≡ Rattle.words.specs.Words.source-count p) (λ og is n u p k. refl) p u
 
-    module _ {b : Bool} (f : PassesThrough y m (hi - cell-words) (c .a) b) {widths : List ℕ} where
-      pub projection-source : b ≡ true → {w : ℕ} → ColumnCount widths y lo m w → w ≡ c .a → Projects widths y lo hi m
+    module _ {b : Bool} (f : PassesThrough y m (hi - cell-words) (c .a) b) {records : List ℕ} where
+      pub projection-source : b ≡ true → {w : ℕ} → ColumnCount records y lo m w → w ≡ c .a → Projects records y lo hi m
       projection-source h {w} g i schema p k u =
           a-projection (λ p. NodeHere y lo m (remove-useless schema p))
           (λ og is n u p j.
@@ -185,7 +185,7 @@ module _ {y : List ℕ} {lo hi : ℕ} where
           let r : is-noop schema is n ≡ true = ap (λ (t : Bool). t && pass-through 0 is) x ∙ sym (f is p j) ∙ h in
           subst (λ (t : Bool). NodeHere y lo m (cond t n (over og (other (projection is)) n))) (sym r) v) p u
 
-      pub projection-wide : {w : ℕ} → ColumnCount widths y lo m w → (w ≡ c .a → ⊥) → Projects widths y lo hi hi
+      pub projection-wide : {w : ℕ} → ColumnCount records y lo m w → (w ≡ c .a → ⊥) → Projects records y lo hi hi
       projection-wide {w} g i schema p k u =
           a-projection (λ p. NodeHere y lo hi (remove-useless schema p))
           (λ og is n u p j.
@@ -194,7 +194,7 @@ module _ {y : List ℕ} {lo hi : ℕ} where
           let r : is-noop schema is n ≡ false = ap (λ (t : Bool). t && pass-through 0 is) x in
           subst (λ (t : Bool). NodeHere y lo hi (cond t n (over og (other (projection is)) n))) (sym r) u) p u
 
-      pub projection-same : b ≡ false → Projects widths y lo hi hi
+      pub projection-same : b ≡ false → Projects records y lo hi hi
       projection-same h schema p k u =
           a-projection (λ p. NodeHere y lo hi (remove-useless schema p))
           (λ og is n u p j.
@@ -206,17 +206,17 @@ module _ {y : List ℕ} {lo hi : ℕ} where
           go false t k = refl
 
   -- ---- all nodes
-  module _ {widths : List ℕ} where
-    pub stays-removed : {r : ℕ} → Stays y lo hi r → Removes widths y lo hi r y
+  module _ {records : List ℕ} where
+    pub stays-removed : {r : ℕ} → Stays y lo hi r → Removes records y lo hi r y
     stays-removed f schema p k u = here-wrote (remove-useless schema p) (f schema p u)
 
-    pub projects-removed : {r : ℕ} → Projects widths y lo hi r → Removes widths y lo hi r y
+    pub projects-removed : {r : ℕ} → Projects records y lo hi r → Removes records y lo hi r y
     projects-removed f schema p k u = here-wrote (remove-useless schema p) (f schema p k u)
 
-    pub rewrites-removed : {r : ℕ} {y′ : List ℕ} → Rewrites y lo hi r y′ → Removes widths y lo hi r y′
+    pub rewrites-removed : {r : ℕ} {y′ : List ℕ} → Rewrites y lo hi r y′ → Removes records y lo hi r y′
     rewrites-removed f schema p k u = f schema p u
 
-    pub others-removed : (tag-at y hi ≡ 62 → ⊥) → (tag-at y hi ≡ 56 → ⊥) → (tag-at y hi ≡ 51 → ⊥) → (tag-at y hi ≡ 60 → ⊥) → Removes widths y lo hi hi y
+    pub others-removed : (tag-at y hi ≡ 62 → ⊥) → (tag-at y hi ≡ 56 → ⊥) → (tag-at y hi ≡ 51 → ⊥) → (tag-at y hi ≡ 60 → ⊥) → Removes records y lo hi hi y
     others-removed a b d e schema p k u = go p u (node-tag p u ∙ tagged p)
       where
         go : (p : Node) → NodeHere y lo hi p → tag-at y hi ≡ tag-of p → Wrote y lo (node-words (remove-useless schema p)) hi y

@@ -13,7 +13,7 @@ use Rattle.cells.specs.Cells.{Part}
 use Rattle.cells.specs.Room.{Wrote}
 use Rattle.words.specs.Words.{all-words, expression-words, optional-words, item-words, node-words}
 use Rattle.words.specs.Place.{NodeHere}
-use Rattle.nodes.specs.Columns.{Tables}
+use Rattle.records.specs.Records.{Tables}
 
 -- r says whether the expression that ends before word hi is always true.
 abbrev pub AlwaysTrue : List ℕ → ℕ → Bool → Type 0
@@ -49,9 +49,9 @@ abbrev pub Stays : List ℕ → ℕ → ℕ → ℕ → Type 0
 Stays y lo hi r = (schema : Schema) (p : Node) → NodeHere y lo hi p → NodeHere y lo r (remove-useless schema p)
 
 -- The same where columns are counted.
-abbrev pub Projects : (widths y : List ℕ) (lo hi r : ℕ) → Type 0
-Projects widths y lo hi r = (schema : Schema) (p : Node) → Tables schema widths → NodeHere y lo hi p → NodeHere y lo r (remove-useless schema p)
+abbrev pub Projects : (records y : List ℕ) (lo hi r : ℕ) → Type 0
+Projects records y lo hi r = (schema : Schema) (p : Node) → Tables records schema → NodeHere y lo hi p → NodeHere y lo r (remove-useless schema p)
 
-abbrev pub Removes : (widths y : List ℕ) (lo hi r : ℕ) → List ℕ → Type 0
-Removes widths y lo hi r y′ =
-    (schema : Schema) (p : Node) → Tables schema widths → NodeHere y lo hi p → Wrote y lo (node-words (remove-useless schema p)) r y′
+abbrev pub Removes : (records y : List ℕ) (lo hi r : ℕ) → List ℕ → Type 0
+Removes records y lo hi r y′ =
+    (schema : Schema) (p : Node) → Tables records schema → NodeHere y lo hi p → Wrote y lo (node-words (remove-useless schema p)) r y′

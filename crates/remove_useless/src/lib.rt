@@ -121,15 +121,15 @@ pub fn pass_through(s: &[u32], lo: usize, hi: usize, n: usize) -> bool
 }
 
 // A Projection, or its source alone if it passes the source's columns through. These are counted only for one that passes its first columns through.
-fn projection_or_source(y: &[u32], lo: usize, hi: usize, widths: &[usize]) -> usize
-    requires { ⌜ ColumnsAt (now widths) (now y) lo hi ⌝ }
+fn projection_or_source(y: &[u32], lo: usize, hi: usize, tables: &[u8]) -> usize
+    requires { ⌜ ColumnsAt (now tables) (now y) lo hi ⌝ }
     requires { ⌜ tag-at (now y) hi ≡ 60 ⌝ }
-    ensures { λ r. ⌜ Projects (now (widths .entry)) (now (y .entry)) lo hi r ⌝ }
+    ensures { λ r. ⌜ Projects (now (tables .entry)) (now (y .entry)) lo hi r ⌝ }
 {
     let m = nodes::own_start(y, lo, hi);
     let c = cells::cell_at(y, hi);
     if pass_through(y, m, hi - cells::CELL_WORDS, c.a as usize) {
-        let n = nodes::columns(y, lo, m, widths);
+        let n = nodes::columns(y, lo, m, tables);
         if n == c.a as usize {
             return m;
         }
@@ -138,9 +138,9 @@ fn projection_or_source(y: &[u32], lo: usize, hi: usize, widths: &[usize]) -> us
 }
 
 // The first match of short_circuit, by the node's tag: a Scan, a NestedLoopJoin, a Filter or a Projection may lose something, every other node stays.
-pub fn remove_useless(y: &mut [u32], lo: usize, hi: usize, widths: &[usize]) -> usize
-    requires { ⌜ ColumnsAt (now widths) (now y) lo hi ⌝ }
-    ensures { λ r. ⌜ Removes (now (widths .entry)) (now (y .entry)) lo hi r (now (y .exit)) ⌝ }
+pub fn remove_useless(y: &mut [u32], lo: usize, hi: usize, tables: &[u8]) -> usize
+    requires { ⌜ ColumnsAt (now tables) (now y) lo hi ⌝ }
+    ensures { λ r. ⌜ Removes (now (tables .entry)) (now (y .entry)) lo hi r (now (y .exit)) ⌝ }
 {
     let t = cells::tag_at(y, hi);
     if t == tags::SCAN {
@@ -153,7 +153,7 @@ pub fn remove_useless(y: &mut [u32], lo: usize, hi: usize, widths: &[usize]) -> 
         return filter_or_source(y, lo, hi);
     }
     if t == tags::PROJECTION {
-        return projection_or_source(y, lo, hi, widths);
+        return projection_or_source(y, lo, hi, tables);
     }
     hi
 }

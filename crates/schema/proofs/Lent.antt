@@ -1,124 +1,110 @@
--- What the passes are lent says what they ask of a schema: slices that were filled in from the records of a sheet, and its column records themselves.
+-- What the passes are lent: the table and column records of a sheet say its schema (crate records).
 -- Assumes nothing.
-use Prim.Native.Nat.{ℕ, zero, suc, _+_, _-_, _*_, _/_, _≤_, _<_}
+use Prim.Native.Nat.{ℕ, zero, suc, _+_, _-_, _*_, _≤_, _<_}
 use native.Mathlib.Omega.{arith}
-use native.Mathlib.Numerals.{add-one}
-use mathlib.Core.Logic.{⊎-elim}
-use mathlib.Core.Path.{_≡_, refl, sym, ap, _∙_, subst}
-use mathlib.Core.List.{List, map}
-use lib.ListN.{length, take, drop, getD, List·getD-map, List·getD-eq-default}
+use native.Mathlib.Decide.{decLt}
+use mathlib.Core.Path.{_≡_, refl, sym, ap, _∙_}
+use mathlib.Core.List.{List, _∷_, map}
+use lib.ListN.{length, take, drop, length-take, length-drop}
 use lib.Seq.{getD-take, getD-drop}
-use Rattle.sql.specs.Schema.{Column, Table, Schema, table-of, no-table}
+use Rattle.sql.specs.Schema.{Column, Schema}
 use Rattle.sql.specs.Plan.{up-to}
-use Rattle.sheet.specs.Bytes.{word}
-use Rattle.sheet.specs.Parts.{table-count, column-count, columns-at, cells-at, columns-of, columns-before}
+use Rattle.sheet.specs.Bytes.{byte, word}
+use Rattle.sheet.specs.Parts.{tables-at, columns-at, cells-at, table-count, column-count, record-at, columns-of, table-name, key-of, column-name}
 use Rattle.sheet.specs.Parts as Parts
-use Rattle.sheet.specs.Check.{table, schema}
-use Rattle.layout.specs.Layout.{parts-of}
+use Rattle.sheet.specs.Check.{column, table, schema}
 use Rattle.layout.proofs.Laws.{laid}
-use Rattle.cells.proofs.Laws.{lt-or-ge}
-use Rattle.nodes.specs.Columns.{Tables}
-use Rattle.labels.specs.Names.{Names, column-names, names-in, first-column}
-use Rattle.labels.proofs.Texts.{getD-up-to, first-none, first-next}
-use Rattle.indexes.specs.Indexes.{own-records, table-marks, Indexes}
-use Rattle.first_lookup.specs.First.{marks-in}
-use Rattle.schema.specs.Schema.{Recorded, column-records}
-use Rattle.schema.proofs.Fill.{map-within}
-use Rattle.schema.proofs.Laws.{width-is, tables-long, known, column-names-read}
-use Rattle.schema.proofs.Marked.{records-long, own-marks}
+use Rattle.records.specs.Records.{record-count, field, first-column, table-width, primary-key, column-in, table-in, schema-in, Records}
+use Rattle.records.proofs.Laws.{field-there, field-none}
+use Rattle.schema.specs.Schema.{Recorded, table-records, column-records}
+use Rattle.schema.proofs.Laws.{known}
 
--- A word of the n bytes from a place on.
+-- Two functions that agree on a range.
+map-within : {A : Type 0} (f g : ℕ → A) (k n : ℕ) → ((i : ℕ) → i < k + n → f i ≡ g i) → map f (up-to k n) ≡ map g (up-to k n)
+map-within f g k zero h = refl
+map-within {A} f g k (suc n) h =
+    ap (λ (x : A). x ∷ map f (up-to (suc k) n)) (h k (omega arith)) ∙ ap (λ (l : List A). g k ∷ l) (map-within f g (suc k) n (λ i z. h i (omega arith)))
+
+-- A byte, and a word, of the n bytes from a place on.
+byte-from : (s : List ℕ) (from n i m : ℕ) → m ≡ from + i → i < n → byte (take n (drop from s)) i ≡ byte s m
+byte-from s from n i m e h = getD-take n (drop from s) i 0 h ∙ (getD-drop from s i 0 ∙ ap (byte s) (sym e))
+
 word-from : (s : List ℕ) (from n i m : ℕ) → m ≡ from + i → i + 4 ≤ n → word (take n (drop from s)) i ≡ word s m
 unfolding word
 word-from s from n i m e h =
-    rw (byte-is i m (omega arith) (omega arith), byte-is (i + 1) (m + 1) (omega arith) (omega arith), byte-is (i + 2) (m + 2) (omega arith) (omega arith), byte-is (i + 3) (m + 3) (omega arith) (omega arith))
-  where
-    byte-is : (j p : ℕ) → p ≡ from + j → j < n → getD (take n (drop from s)) j 0 ≡ getD s p 0
-    byte-is j p e h = getD-take n (drop from s) j 0 h ∙ getD-drop from s j 0 ∙ ap (λ (k : ℕ). getD s k 0) (sym e)
+    rw (
+      byte-from s from n i m (omega arith) (omega arith),
+      byte-from s from n (i + 1) (m + 1) (omega arith) (omega arith),
+      byte-from s from n (i + 2) (m + 2) (omega arith) (omega arith),
+      byte-from s from n (i + 3) (m + 3) (omega arith) (omega arith),
+    )
 
 module _ (s : List ℕ) (r : Recorded s) where
-  table-is : (t : ℕ) → t < table-count s → table-of (schema s) t ≡ table s t
-  unfolding schema
-  table-is t h = let e : 0 + t ≡ t = omega arith in getD-up-to (table s) no-table 0 (table-count s) t h ∙ ap (table s) e
-
-  narrow : (t : ℕ) → length (table-of (schema s) t .columns) ≤ 256
-  narrow t = ⊎-elim
-      (λ (h : t < table-count s).
-      let e = ap (λ (u : Table). length (u .columns)) (table-is t h) in
-      omega (arith, width-is s t, known s r t h .within, laid (r .whole) .columns-few))
-      (λ (h : table-count s ≤ t).
-      let e = ap (λ (u : Table). length (u .columns)) (List·getD-eq-default (schema s) no-table {n = t} (omega (arith, tables-long s))) in
-      omega arith)
-      (lt-or-ge t (table-count s))
-
-  -- The names in the column records.
-  names-recorded : names-in (column-records s) ≡ column-names (schema s)
-  names-recorded =
+  tables-long : length (table-records s) ≡ 16 * table-count s
+  tables-long =
       let l = laid (r .whole) in
-      let e : length (column-records s) / 16 ≡ column-count s = omega (arith, records-long s r) in
-      ap (λ (n : ℕ). map (λ i. word (column-records s) (i * 16)) (up-to 0 n)) e
-      ∙ map-within (λ i. word (column-records s) (i * 16)) (λ i. word s (columns-at s + i * 16 + 0)) 0 (column-count s)
-      (λ i h. word-from s (columns-at s) (cells-at s - columns-at s) (i * 16) (columns-at s + i * 16 + 0) (omega arith) (omega (arith, l .columns-end)))
-      ∙ column-names-read s r l
+      let h = l .tables-end in
+      let j = l .columns-end in
+      let k = l .cells-end in
+      simp (length-take, length-drop) (omega arith)
 
-  -- The tables' numbers of columns (crate nodes).
-  pub tables-lent : {widths : List ℕ} → widths ≡ map (λ (t : Table). length (t .columns)) (schema s) → Tables (schema s) widths
-  tables-lent {widths} e =
+  columns-long : length (column-records s) ≡ 16 * column-count s
+  columns-long =
+      let l = laid (r .whole) in
+      let h = l .columns-end in
+      let k = l .cells-end in
+      simp (length-take, length-drop) (omega arith)
+
+  -- ---- a record
+
+  field-is : (k t n : ℕ) → k ≤ 12 → t < table-count s → n ≡ record-at (tables-at s) t + k → field k (table-records s) t ≡ word s n
+  field-is k t n i h e =
+      let l = laid (r .whole) .tables-end in
+      field-there k (table-records s) t (omega (arith, tables-long)) ∙ word-from s (tables-at s) (columns-at s - tables-at s) (t * 16 + k) n (omega arith) (omega arith)
+
+  column-is : (i : ℕ) → i < column-count s → column s i ≡ column-in (column-records s) i
+  column-is i h =
+      let l = laid (r .whole) .columns-end in
+      let bytes = cells-at s - columns-at s in
+      rw (
+        word-from s (columns-at s) bytes (i * 16) (record-at (columns-at s) i) refl (omega arith),
+        byte-from s (columns-at s) bytes (i * 16 + 4) (record-at (columns-at s) i + 4) (omega arith) (omega arith),
+        byte-from s (columns-at s) bytes (i * 16 + 5) (record-at (columns-at s) i + 5) (omega arith) (omega arith),
+      )
+
+  module _ (t : ℕ) (h : t < table-count s) where
+    first-is : first-column (table-records s) t ≡ Parts.first-column s t
+    first-is = field-is 4 t _ (omega arith) h refl
+
+    width-is : table-width (table-records s) t ≡ columns-of s t
+    width-is = field-is 8 t _ (omega arith) h refl
+
+    key-is : primary-key (table-records s) t ≡ key-of s t
+    key-is = field-is 12 t _ (omega arith) h refl
+
+    table-is : table s t ≡ table-in (table-records s) (column-records s) t
+    table-is =
+        rw (field-is 0 t (record-at (tables-at s) t) (omega arith) h (omega arith), first-is, width-is, key-is)
+        (ap (λ (l : List Column). record { name = table-name s t; primary-key = key-of s t; columns = l })
+        (map-within (column s) (column-in (column-records s)) (Parts.first-column s t) (columns-of s t) (λ i k. column-is i (omega (arith, known s r t h .within)))))
+
+  -- ---- all of them
+
+  pub records-said : Records (table-records s) (column-records s) (schema s)
+  unfolding schema schema-in
+  records-said =
+      let e : table-count s ≡ record-count (table-records s) = omega (arith, tables-long) in
       record {
-        counts = e;
-        few = λ t.
-            let f : getD widths t 0 ≡ length (table-of (schema s) t .columns) =
-            ap (λ (l : List ℕ). getD l t 0) e ∙ List·getD-map (λ (u : Table). length (u .columns)) (schema s) t no-table in
-            omega (arith, narrow t);
+        say =
+            map-within (table s) (table-in (table-records s) (column-records s)) 0 (table-count s) (λ t h. table-is t (omega arith))
+            ∙ ap (λ (n : ℕ). map (table-in (table-records s) (column-records s)) (up-to 0 n)) e;
+        inside = λ t. inside t (decLt t (table-count s));
+        key-inside = λ t h. let i : t < table-count s = omega arith in omega (arith, key-is t i, width-is t i, known s r t i .key);
+        few = omega (arith, columns-long, laid (r .whole) .columns-few);
       }
-
-  -- With the names of the tables and the column records (crate labels).
-  pub names-lent : {widths names columns : List ℕ} → widths ≡ map (λ (t : Table). length (t .columns)) (schema s) → names ≡ map (λ (t : Table). t .name) (schema s)
-      → columns ≡ column-records s → Names (schema s) widths names columns
-  names-lent {widths} {names} e f g =
-      subst (λ (l : List ℕ). Names (schema s) widths names l) (sym g)
-      (record {
-        tables = tables-lent e;
-        names-are = f;
-        columns-are = names-recorded;
-        few = omega (arith, records-long s r, laid (r .whole) .columns-few);
-      })
-
-  -- With the primary keys and the column records (crate indexes).
-
-  module _ {widths : List ℕ} (e : widths ≡ map (λ (t : Table). length (t .columns)) (schema s)) where
-    width-at : (t : ℕ) → t < table-count s → getD widths t 0 ≡ columns-of s t
-    width-at t h =
-        ap (λ (l : List ℕ). getD l t 0) e
-        ∙ (List·getD-map (λ (u : Table). length (u .columns)) (schema s) t no-table
-        ∙ (ap (λ (u : Table). length (u .columns)) (table-is t h) ∙ sym (width-is s t)))
-
-    first-at : (t : ℕ) → t ≤ table-count s → first-column widths t ≡ columns-before s t
-    first-at zero h = sym (first-none widths)
-    first-at (suc t) h =
-        let i : t < table-count s = omega arith in
-        sym (ap (first-column widths) (add-one t)) ∙ omega (arith, first-next widths t, first-at t (omega arith), width-at t i, known s r t i .starts)
-
-    own-is : (t : ℕ) → t < table-count s → marks-in (table-of (schema s) t .primary-key) (own-records widths (column-records s) t) ≡ table-marks (table-of (schema s) t)
-    own-is t h =
-        let f : first-column widths t ≡ Parts.first-column s t = first-at t (omega arith) ∙ sym (known s r t h .starts) in
-        rw (table-is t h, width-at t h, f) (own-marks s r t h)
-
-    pub indexes-lent : {keys columns : List ℕ} → keys ≡ map (λ (t : Table). t .primary-key) (schema s) → columns ≡ column-records s
-        → Indexes (schema s) widths keys columns
-    indexes-lent {keys} {columns} f g =
-        subst (λ (l : List ℕ). Indexes (schema s) widths keys l) (sym g)
-        (record {
-          tables = tables-lent e;
-          keys-are = f;
-          keys-inside = λ t h.
-              let i : t < table-count s = omega (arith, tables-long s) in
-              let k = known s r t i in
-              rw (table-is t i) (omega (arith, k .key, width-is s t));
-          inside = λ t h.
-              let i : t < table-count s = omega (arith, tables-long s) in
-              let k = known s r t i in
-              omega (arith, first-at t (omega arith), width-at t i, k .starts, k .within, records-long s r);
-          marks-are = λ t h. own-is t (omega (arith, tables-long s));
-          few = omega (arith, records-long s r, laid (r .whole) .columns-few);
-        })
+    where
+      inside : (t : ℕ) → Dec (t < table-count s) → 16 * (first-column (table-records s) t + table-width (table-records s) t) ≤ length (column-records s)
+      inside t (yes h) = omega (arith, first-is t h, width-is t h, known s r t h .within, columns-long)
+      inside t (no h) =
+          let k : record-count (table-records s) ≤ t = omega (arith, tables-long) in
+          omega (arith, field-none 4 (table-records s) t k, field-none 8 (table-records s) t k)

@@ -1,4 +1,2 @@
-pub mod Fill
 pub mod Laws
-pub mod Marked
 pub mod Lent

@@ -1,14 +1,14 @@
--- What the functions over a sheet's records are given, and what they fill in.
-use Prim.Native.Nat.{ℕ, _+_, _-_, _*_, _≤_}
+-- What the functions over a sheet's records are given, and what they hand out.
+use Prim.Native.Nat.{ℕ, _+_, _-_, _*_}
 use mathlib.Core.Path.{_≡_}
 use mathlib.Core.Bool.{Bool, _||_}
 use mathlib.Core.List.{List}
 use mathlib.Core.Option.{none}
 use lib.Dec.{eqb}
-use lib.ListN.{length, take, drop}
+use lib.ListN.{take, drop}
 use Rattle.sql.specs.Schema as Sql
 use Rattle.sheet.specs.Bytes.{byte}
-use Rattle.sheet.specs.Parts.{columns-at, cells-at, bad-record}
+use Rattle.sheet.specs.Parts.{tables-at, columns-at, cells-at, bad-record}
 use Rattle.layout.specs.Layout.{Whole}
 use Rattle.schema.specs.declared.Kind.{Kind}
 use Rattle.schema.specs.declared.Kind.the-variants.{Boolean, Integer, Float, String}
@@ -17,6 +17,10 @@ use Rattle.schema.specs.declared.Kind.the-variants.{Boolean, Integer, Fl
 pub record Recorded (s : List ℕ) : Type 0 where
   pub whole : Whole s
   pub records-are : bad-record s ≡ none
+
+-- The table records of a sheet, which stand before the column records.
+abbrev pub table-records : List ℕ → List ℕ
+table-records s = take (columns-at s - tables-at s) (drop (tables-at s) s)
 
 -- The column records of a sheet, which stand before the cells.
 abbrev pub column-records : List ℕ → List ℕ
@@ -34,8 +38,3 @@ number Boolean = 0
 number Integer = 1
 number Float = 2
 number String = 3
-
--- The first r elements of d are these.
-pub record Filled {A : Type 0} (values : List A) (r : ℕ) (d : List A) : Type 0 where
-  pub is : take r d ≡ values
-  pub inside : r ≤ length d

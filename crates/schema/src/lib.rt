@@ -1,15 +1,10 @@
-// schema.rs: tables and columns, read from the records of a sheet; and what the passes are lent of them, in slices.
+// schema.rs: tables and columns, read from the records of a sheet; and the records themselves, which the passes are lent (crate records).
 ghost use mathlib.Core.Path.{_≡_};
-ghost use mathlib.Core.List.{map};
-ghost use Prim.Native.Nat.{_+_, _*_, _≤_, _<_};
-ghost use lib.ListN.{length};
-ghost use Rattle.sql.specs.Schema as Schema;
-ghost use Rattle.sql.specs.Plan.{up-to};
-ghost use Rattle.sheet.specs.Bytes.{word};
+ghost use Prim.Native.Nat.{_<_};
 ghost use Rattle.sheet.specs.Parts.{table-count, column-count, kind-of};
 ghost use Rattle.sheet.specs.Check as Sheet;
 ghost use Rattle.layout.specs.Layout.{Whole};
-ghost use Rattle.schema.specs.Schema.{Recorded, column-records, as-kind, number, Filled};
+ghost use Rattle.schema.specs.Schema.{Recorded, table-records, column-records, as-kind, number};
 
 // ---- parts of a sheet
 
@@ -23,6 +18,17 @@ pub fn text<'a>(s: &'a [u8]) -> &'a [u8]
     &s[..end]
 }
 
+// The table records of a sheet, 16 bytes each.
+pub fn table_records<'a>(s: &'a [u8]) -> &'a [u8]
+    requires { ⌜ Whole (now s) ⌝ }
+    ensures { λ r. ⌜ now r ≡ table-records (now (s .entry)) ⌝ }
+{
+    let p = layout::parts_of(s);
+    let from = p.tables.at;
+    let to = p.columns.at;
+    &s[from..to]
+}
+
 // The column records of a sheet, 16 bytes each.
 pub fn column_records<'a>(s: &'a [u8]) -> &'a [u8]
     requires { ⌜ Whole (now s) ⌝ }
@@ -34,7 +40,7 @@ pub fn column_records<'a>(s: &'a [u8]) -> &'a [u8]
     &s[from..to]
 }
 
-// ---- one record, by schema.rs's fields: for who asks for one. The passes are lent slices.
+// ---- one record, by schema.rs's fields: for who asks for one. The passes are lent the records.
 
 // The kinds of columns, the Rust's DataType.
 pub enum Kind {
@@ -93,59 +99,4 @@ pub fn column_index(s: &[u8], i: usize) -> bool
 {
     let column = layout::column_at(s, i);
     column.index == 1
-}
-
-// ---- slices
-
-// The words at byte k of so many records from byte `from` on.
-fn record_words(s: &[u8], from: usize, count: usize, k: usize, out: &mut [usize]) -> usize
-    requires { ⌜ (from + count * 16 ≤ length (now s)) × ((k ≤ 12) × (count ≤ length (now out))) ⌝ }
-    ensures { λ r. ⌜ Filled (map (λ i. word (now (s .entry)) (from + i * 16 + k)) (up-to 0 count)) r (now (out .exit)) ⌝ }
-{
-    let mut i: usize = 0;
-    while i < count {
-        out[i] = layout::word_at(s, from + i * 16 + k);
-        i += 1;
-    }
-    i
-}
-
-// The same, as words of the working form.
-fn record_names(s: &[u8], from: usize, count: usize, k: usize, out: &mut [u32]) -> usize
-    requires { ⌜ (from + count * 16 ≤ length (now s)) × ((k ≤ 12) × (count ≤ length (now out))) ⌝ }
-    ensures { λ r. ⌜ Filled (map (λ i. word (now (s .entry)) (from + i * 16 + k)) (up-to 0 count)) r (now (out .exit)) ⌝ }
-{
-    let mut n: usize = 0;
-    while n < count {
-        out[n] = layout::word_at(s, from + n * 16 + k) as u32;
-        n += 1;
-    }
-    n
-}
-
-// The number of columns of each table.
-pub fn widths(s: &[u8], out: &mut [usize]) -> usize
-    requires { ⌜ Whole (now s) × (table-count (now s) ≤ length (now out)) ⌝ }
-    ensures { λ r. ⌜ Filled (map (λ (t : Schema.Table). length (t .columns)) (Sheet.schema (now (s .entry)))) r (now (out .exit)) ⌝ }
-{
-    let p = layout::parts_of(s);
-    record_words(s, p.tables.at, p.tables.count, 8, out)
-}
-
-// The name of each table.
-pub fn table_names(s: &[u8], out: &mut [u32]) -> usize
-    requires { ⌜ Whole (now s) × (table-count (now s) ≤ length (now out)) ⌝ }
-    ensures { λ r. ⌜ Filled (map (λ (t : Schema.Table). t .name) (Sheet.schema (now (s .entry)))) r (now (out .exit)) ⌝ }
-{
-    let p = layout::parts_of(s);
-    record_names(s, p.tables.at, p.tables.count, 0, out)
-}
-
-// The primary key of each table.
-pub fn primary_keys(s: &[u8], out: &mut [usize]) -> usize
-    requires { ⌜ Whole (now s) × (table-count (now s) ≤ length (now out)) ⌝ }
-    ensures { λ r. ⌜ Filled (map (λ (t : Schema.Table). t .primary-key) (Sheet.schema (now (s .entry)))) r (now (out .exit)) ⌝ }
-{
-    let p = layout::parts_of(s);
-    record_words(s, p.tables.at, p.tables.count, 12, out)
 }

@@ -1,10 +1,9 @@
 -- What holds of the plan of a sheet that is accepted, and what is lent of its schema.
 use Prim.Native.Nat.{ℕ, _+_, _*_, _%_, _≤_, _<_}
 use native.Mathlib.Omega.{arith}
-use mathlib.Core.Path.{_≡_, refl, sym, ap, _∙_}
-use mathlib.Core.List.{List, _++_, map}
+use mathlib.Core.Path.{_≡_, refl, sym, ap, _∙_, subst}
+use mathlib.Core.List.{List, _++_}
 use lib.ListN.{length, take}
-use Rattle.sql.specs.Schema.{Table}
 use Rattle.sql.specs.Plan.{Node, columns, node-size}
 use Rattle.sql.specs.Answer.{Answer, done}
 use Rattle.sheet.specs.Parts.{table-count}
@@ -26,9 +25,9 @@ use Rattle.cells.proofs.Laws.{fits as room-for}
 use Rattle.words.specs.Words.{node-words}
 use Rattle.words.proofs.Sizes.{words-long}
 use Rattle.kept.specs.Kept.{Kept}
-use Rattle.schema.specs.Schema.{Recorded, Filled}
+use Rattle.schema.specs.Schema.{table-records, column-records}
 use Rattle.schema.proofs.Laws.{recorded}
-use Rattle.schema.proofs.Lent.{names-lent, indexes-lent}
+use Rattle.schema.proofs.Lent.{records-said}
 use Rattle.encode.specs.Encode.{cells-in}
 use Rattle.encode.proofs.Says.{node-cells}
 use Rattle.decode.specs.Decode.{Acceptable, Decodes}
@@ -39,7 +38,7 @@ use Rattle.optimizer.specs.Choices.{chosen}
 use Rattle.optimizer.specs.declared.Chosen.{Chosen}
 use Rattle.optimizer.specs.declared.Chosen.the-variants.{One, All}
 use Rattle.passes.specs.Passes.{Lent, Plan-in, PlanAt, Alike, Leaves, Runs, For-all}
-use Rattle.sheet_passes.specs.SheetPasses.{RunAt, Lends, RunsOn}
+use Rattle.sheet_passes.specs.SheetPasses.{RunAt, RunsOn}
 
 module _ (s : List ℕ) (b : Bytes s) (n : Node) (h : plan s ≡ done n) where
   fit : Kept (schema s) (text s) (table-count s) n n
@@ -63,13 +62,8 @@ module _ (s : List ℕ) (b : Bytes s) (n : Node) (h : plan s ≡ done n) where
   text-short : length (text s) < 65536
   text-short = let p = parts-of (accepted s n h) in omega (arith, text-length s p)
 
-  lent : {widths names columns keys : List ℕ} → Lends s widths names columns keys → Lent (schema s) (text s) widths names columns keys
-  lent l =
-      record {
-        named = names-lent s (recorded s n h) (l .widths-are) (l .names-are) (l .columns-are);
-        inside = names-inside s b n h;
-        indexed = indexes-lent s (recorded s n h) (l .widths-are) (l .keys-are) (l .columns-are);
-      }
+  lent : Lent (table-records s) (column-records s) (schema s) (text s)
+  lent = record { records = records-said s (recorded s n h); named = names-inside s b n h }
 
   -- decoded, the plan is in x
   pub decoded : (x : List ℕ) (t : ℕ) (x′ : List ℕ) (room : ℕ) → Decodes s x t x′ → length x′ ≡ length x → length x ≤ most-words → length x ≡ cell-words * room → node-size n ≤ room
@@ -79,17 +73,17 @@ module _ (s : List ℕ) (b : Bytes s) (n : Node) (h : plan s ≡ done n) where
       let (e, w) = room-for (d n h) (omega (arith, short)) (omega (arith, long, all, fits)) in
       record { fit = fit; words-are = w; inside = omega (arith, e, long, same, all, fits); all = same ∙ all }
 
-  few-tables : table-count s ≤ 16
-  few-tables = parts-of (accepted s n h) .tables-few
-
-  pub given : (t : List ℕ) → t ≡ text s → {widths names columns keys : List ℕ} → Lends s widths names columns keys
-      → For-all t widths names columns keys (schema s) (text s)
-  given t e l = ((sym e, omega (arith, ap length e, text-short)), lent l)
+  pub given : (t : List ℕ) → t ≡ text s → {tables columns : List ℕ} → tables ≡ table-records s → columns ≡ column-records s
+      → For-all t tables columns (schema s) (text s)
+  given t e {tables} {columns} f g = (
+    (sym e, omega (arith, ap length e, text-short)),
+    subst (λ (l : List ℕ). Lent l columns (schema s) (text s)) (sym f) (subst (λ (l : List ℕ). Lent (table-records s) l (schema s) (text s)) (sym g) lent),
+  )
 
 -- What the passes ask for, and what is answered.
 module _ (s : List ℕ) (b : Bytes s) {x y z w : List ℕ} (at : RunAt s x y z w) (t : ℕ) (x′ : List ℕ) (d : Decodes s x t x′) (same : length x′ ≡ length x)
-    (text′ : List ℕ) (e : text′ ≡ text s) {widths names columns keys : List ℕ} (l : Lends s widths names columns keys) where
-  pub ready : PlanAt (For-all text′ widths names columns keys) x′ t
+    (text′ : List ℕ) (e : text′ ≡ text s) {tables columns : List ℕ} (f : tables ≡ table-records s) (g : columns ≡ column-records s) where
+  pub ready : PlanAt (For-all text′ tables columns) x′ t
   ready =
       record {
         schema = schema s;
@@ -97,7 +91,7 @@ module _ (s : List ℕ) (b : Bytes s) {x y z w : List ℕ} (at : RunAt s x y z w
         tables = table-count s;
         room = at .room;
         p = at .node;
-        given = given s b (at .node) (at .is) text′ e l;
+        given = given s b (at .node) (at .is) text′ e f g;
         plan = decoded s b (at .node) (at .is) x t x′ (at .room) d same (at .short) (at .all) (at .fits);
         short = omega (arith, at .short, same);
       }
@@ -113,11 +107,11 @@ module _ (s : List ℕ) (b : Bytes s) {x y z w : List ℕ} (at : RunAt s x y z w
       let a = at .alike in
       record { second = omega (arith, a .second, same); third = omega (arith, a .third, same); fourth = omega (arith, a .fourth, same) }
 
-  module _ (c : Chosen) (y′ : List ℕ) (long : length y′ ≡ length y) (r : Folded) (run : Runs (For-all text′ widths names columns keys) (chosen c) x′ t y′ r) where
+  module _ (c : Chosen) (y′ : List ℕ) (long : length y′ ≡ length y) (r : Folded) (run : Runs (For-all text′ tables columns) (chosen c) x′ t y′ r) where
     left : (node : Node) (room : ℕ) → plan s ≡ done node → node-size node ≤ room → length x ≡ cell-words * room
         → Leaves (Fit s node) y′ (chosen c room (schema s) node) r
     left node room is fits all =
-        run (schema s) (text s) (table-count s) room node (given s b node is text′ e l) (decoded s b node is x t x′ room d same (at .short) all fits)
+        run (schema s) (text s) (table-count s) room node (given s b node is text′ e f g) (decoded s b node is x t x′ room d same (at .short) all fits)
 
     pub answered : AnsweredAt s y′ r
     answered =
@@ -133,13 +127,8 @@ module _ (s : List ℕ) (b : Bytes s) {x y z w : List ℕ} (at : RunAt s x y z w
     pub runs-on : (count : ℕ) (out : List ℕ) (a : Code.Answer) (out′ : List ℕ) → HandsOut s y′ r count out a out′ → RunsOn s c count x out a out′
     runs-on count out a out′ h node room is fits all k = h node (chosen c room (schema s) node) is (left node room is fits all) k
 
--- Its schema, and how large that is.
-module _ (s : List ℕ) (b : Bytes s) {x y z w : List ℕ} (at : RunAt s x y z w) where
-  pub all-recorded : Recorded s
-  all-recorded = recorded s (at .node) (at .is)
-
-  pub tables-fit : Whole s × (table-count s ≤ 16)
-  tables-fit = (all-recorded .whole, few-tables s b (at .node) (at .is))
+pub all-whole : {s x y z w : List ℕ} → RunAt s x y z w → Whole s
+all-whole {s} at = recorded s (at .node) (at .is) .whole
 
 pub acceptable : {s x y z w : List ℕ} → RunAt s x y z w → Acceptable s
 acceptable at = record { node = at .node; is = at .is }

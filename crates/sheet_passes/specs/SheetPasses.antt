@@ -1,16 +1,14 @@
 -- The chosen passes on a sheet that is accepted, in buffers that are lent.
 use Prim.Native.Nat.{ℕ, _*_, _≤_}
 use mathlib.Core.Path.{_≡_}
-use mathlib.Core.List.{List, map}
+use mathlib.Core.List.{List}
 use lib.ListN.{length}
-use Rattle.sql.specs.Schema.{Table}
 use Rattle.sql.specs.Plan.{Node, columns, node-size}
 use Rattle.sql.specs.Answer.{done}
 use Rattle.sheet.specs.Check.{schema, plan}
 use Rattle.sheet.specs.Operations.{hand-out}
 use Rattle.checker.specs.declared.Answer as Code
 use Rattle.cells.specs.Room.{most-words}
-use Rattle.schema.specs.Schema.{column-records}
 use Rattle.passes.specs.Passes.{Alike}
 use Rattle.optimizer.specs.Choices.{chosen}
 use Rattle.optimizer.specs.declared.Chosen.{Chosen}
@@ -26,13 +24,6 @@ pub record RunAt (s x y z w : List ℕ) : Type 0 where
   pub fits : node-size node ≤ room
   pub alike : Alike x y z w
   pub short : length x ≤ most-words
-
--- The slices hold what the schema of s says: its tables' numbers of columns, their names, the records of all columns, and the primary keys.
-pub record Lends (s widths names columns keys : List ℕ) : Type 0 where
-  pub widths-are : widths ≡ map (λ (t : Table). length (t .columns)) (schema s)
-  pub names-are : names ≡ map (λ (t : Table). t .name) (schema s)
-  pub columns-are : columns ≡ column-records s
-  pub keys-are : keys ≡ map (λ (t : Table). t .primary-key) (schema s)
 
 -- What is answered and put out is that of the definition, with the buffers' room. `count` is the number of columns of the plan handed in.
 abbrev pub RunsOn : (s : List ℕ) → Chosen → (count : ℕ) (x out : List ℕ) → Code.Answer → List ℕ → Type 0

@@ -8,49 +8,49 @@ use Rattle.cells.specs.Cells.{cell-words}
 use Rattle.cells.specs.Room.{most-words}
 use Rattle.nodes.specs.Own.{OwnStart, SourceCount}
 use Rattle.nodes.specs.Columns.{ColumnsAt}
-use Rattle.labels.specs.Names.{NamesAt}
+use Rattle.records.specs.Records.{RecordsAt}
 use Rattle.chain.specs.Chain.{Bare, no-more, one-more}
 use Rattle.chain.proofs.Bare.{bare-in}
 use Rattle.stream.specs.Stream.{Finishes}
 use Rattle.stream.proofs.Streams.{stream-in}
 use Rattle.short_circuit.specs.ShortCircuit.{CircuitsNode, CircuitAt, Circuits, Climbing}
-use Rattle.short_circuit.proofs.Pass.{names-at, source-at, over-ready, over-stop, over-circuits}
+use Rattle.short_circuit.proofs.Pass.{records-at, source-at, over-ready, over-stop, over-circuits}
 
 -- what is left to read behind a node, and behind its source
 behind : (end hi tail : ℕ) → end + cell-words ≤ hi → tail + (hi - (end + cell-words)) + (end + cell-words - end) ≡ tail + (hi - end)
 behind end hi tail h = omega arith
 
-module _ {widths names columns x : List ℕ} {lo : ℕ} {y : List ℕ} {at : ℕ} where
-  at-as : {hi hi′ tail tail′ : ℕ} → hi ≡ hi′ → tail ≡ tail′ → CircuitAt widths names columns x lo hi tail y at → CircuitAt widths names columns x lo hi′ tail′ y at
+module _ {records columns x : List ℕ} {lo : ℕ} {y : List ℕ} {at : ℕ} where
+  at-as : {hi hi′ tail tail′ : ℕ} → hi ≡ hi′ → tail ≡ tail′ → CircuitAt records columns x lo hi tail y at → CircuitAt records columns x lo hi′ tail′ y at
   at-as {hi} {hi′} {tail} {tail′} e i d =
-      subst (λ (k : ℕ). CircuitAt widths names columns x lo hi′ k y at) i (subst (λ (k : ℕ). CircuitAt widths names columns x lo k tail y at) e d)
+      subst (λ (k : ℕ). CircuitAt records columns x lo hi′ k y at) i (subst (λ (k : ℕ). CircuitAt records columns x lo k tail y at) e d)
 
-  circuits-as : {hi hi′ tail tail′ n : ℕ} {y′ : List ℕ} → hi ≡ hi′ → tail ≡ tail′ → Circuits widths names columns x lo hi tail y at n y′
-      → Circuits widths names columns x lo hi′ tail′ y at n y′
+  circuits-as : {hi hi′ tail tail′ n : ℕ} {y′ : List ℕ} → hi ≡ hi′ → tail ≡ tail′ → Circuits records columns x lo hi tail y at n y′
+      → Circuits records columns x lo hi′ tail′ y at n y′
   circuits-as {hi} {hi′} {tail} {tail′} {n} {y′} e i a =
-      subst (λ (k : ℕ). Circuits widths names columns x lo hi′ k y at n y′) i (subst (λ (k : ℕ). Circuits widths names columns x lo k tail y at n y′) e a)
+      subst (λ (k : ℕ). Circuits records columns x lo hi′ k y at n y′) i (subst (λ (k : ℕ). Circuits records columns x lo k tail y at n y′) e a)
 
   module _ {hi tail : ℕ} where
     -- the node below
-    pub below-at : {end : ℕ} → Bare x lo hi end → CircuitAt widths names columns x lo hi tail y at → CircuitAt widths names columns x lo end (tail + (hi - end)) y at
+    pub below-at : {end : ℕ} → Bare x lo hi end → CircuitAt records columns x lo hi tail y at → CircuitAt records columns x lo end (tail + (hi - end)) y at
     below-at (no-more e) d = at-as (sym e) (omega arith) d
     below-at (one-more {end} c own b) d = at-as refl (behind end hi tail (bare-in b)) (source-at (below-at b d) c own)
 
     -- refused below
-    stopped : {end n : ℕ} {y₁ : List ℕ} → Bare x lo hi end → length y₁ < n → Circuits widths names columns x lo end (tail + (hi - end)) y at n y₁
-        → Circuits widths names columns x lo hi tail y at n y₁
+    stopped : {end n : ℕ} {y₁ : List ℕ} → Bare x lo hi end → length y₁ < n → Circuits records columns x lo end (tail + (hi - end)) y at n y₁
+        → Circuits records columns x lo hi tail y at n y₁
     stopped (no-more e) z a = circuits-as e (omega arith) a
     stopped (one-more {end} c own b) z a = stopped b z (over-stop c own (circuits-as refl (sym (behind end hi tail (bare-in b))) a) z)
 
-module _ {widths names columns x : List ℕ} {lo end hi tail : ℕ} {y₀ : List ℕ} {at u : ℕ} {y : List ℕ} (g : Climbing widths names columns x lo end hi tail y₀ at u y) where
-  pub climb-stop : length y < u → Circuits widths names columns x lo hi tail y₀ at u y
+module _ {records columns x : List ℕ} {lo end hi tail : ℕ} {y₀ : List ℕ} {at u : ℕ} {y : List ℕ} (g : Climbing records columns x lo end hi tail y₀ at u y) where
+  pub climb-stop : length y < u → Circuits records columns x lo hi tail y₀ at u y
   climb-stop z = stopped (g .bare) z (g .below)
 
-  pub climb-end : hi ≤ end → Circuits widths names columns x lo hi tail y₀ at u y
+  pub climb-end : hi ≤ end → Circuits records columns x lo hi tail y₀ at u y
   climb-end h = let k = bare-in (g .bare) in circuits-as (omega arith) (omega arith) (g .below)
 
-  pub climb-names : NamesAt widths names columns
-  climb-names = names-at (g .given)
+  pub climb-records : RecordsAt records columns
+  climb-records = records-at (g .given)
 
   module _ (h : end < hi) where
     -- the next bare node
@@ -73,15 +73,15 @@ module _ {widths names columns x : List ℕ} {lo end hi tail : ℕ} {y₀ : List
         ))
 
     module _ (z : u ≤ length y) {v : ℕ} {y₁ : List ℕ} (k : length y₁ ≡ length y) (f : Finishes x end (end + cell-words) y at u v y₁) where
-      pub climb-ready : ColumnsAt widths y₁ at v × ((v + (tail + (hi - (end + cell-words))) ≤ length y₁) × (length y₁ ≤ most-words))
+      pub climb-ready : ColumnsAt records y₁ at v × ((v + (tail + (hi - (end + cell-words))) ≤ length y₁) × (length y₁ ≤ most-words))
       climb-ready =
-          by-next (ColumnsAt widths y₁ at v × ((v + (tail + (hi - (end + cell-words))) ≤ length y₁) × (length y₁ ≤ most-words)))
+          by-next (ColumnsAt records y₁ at v × ((v + (tail + (hi - (end + cell-words))) ≤ length y₁) × (length y₁ ≤ most-words)))
           (λ c own b. over-ready (below-at b (g .given)) c own (g .long) (circuits-as refl (sym (behind end hi tail (bare-in b))) (g .below)) z k f)
 
-      pub climb-next : {n : ℕ} {y₂ : List ℕ} → length y₂ ≡ length y₁ → CircuitsNode widths names columns y₁ at v (tail + (hi - (end + cell-words))) n y₂
-          → Climbing widths names columns x lo (end + cell-words) hi tail y₀ at n y₂
+      pub climb-next : {n : ℕ} {y₂ : List ℕ} → length y₂ ≡ length y₁ → CircuitsNode records columns y₁ at v (tail + (hi - (end + cell-words))) n y₂
+          → Climbing records columns x lo (end + cell-words) hi tail y₀ at n y₂
       climb-next {n} {y₂} i e =
-          by-next (Climbing widths names columns x lo (end + cell-words) hi tail y₀ at n y₂)
+          by-next (Climbing records columns x lo (end + cell-words) hi tail y₀ at n y₂)
           (λ c own b. record {
             bare = b;
             given = g .given;

@@ -21,9 +21,10 @@ use Rattle.words.specs.Words.{cell, all-words, label-words, node-words}
 use Rattle.words.specs.Place.{NodeHere}
 use Rattle.words.proofs.Nodes.{node-in, node-cell-is}
 use Rattle.words.proofs.Sizes.{words-long, all-single, sized-long}
-use Rattle.nodes.specs.Columns.{Tables, Narrow, ColumnsAt, ColumnCount}
+use Rattle.nodes.specs.Columns.{Narrow, ColumnsAt, ColumnCount}
+use Rattle.records.specs.Records.{Records, RecordsAt, Tables}
+use Rattle.records.proofs.Laws.{tables-said}
 use Rattle.nodes.proofs.Widths.{few-columns}
-use Rattle.labels.specs.Names.{Names, NamesAt}
 use Rattle.column_labels.specs.ColumnLabels.{marked, WritesLabels}
 use Rattle.remove_useless.specs.RemoveUseless.{Removes}
 use Rattle.remove_useless.proofs.Standing.{wrote-part, wrote-here}
@@ -71,35 +72,35 @@ origin-is : {y : List ℕ} {lo hi : ℕ} (p : Node) → NodeHere y lo hi p → o
 unfolding cell
 origin-is p u = ap (λ (k : Cell). k .origin) (node-cell-is p u)
 
-module _ {widths y : List ℕ} {lo hi n : ℕ} (c : ColumnCount widths y lo hi n) where
-  pub no-room : {names columns′ : List ℕ} {tail r : ℕ} {y′ : List ℕ} → length y < lo + (cell-words * n + cell-words) + tail → length y < r → Empties widths names columns′ y lo hi tail r y′
+module _ {records y : List ℕ} {lo hi n : ℕ} (c : ColumnCount records y lo hi n) where
+  pub no-room : {columns′ : List ℕ} {tail r : ℕ} {y′ : List ℕ} → length y < lo + (cell-words * n + cell-words) + tail → length y < r → Empties records columns′ y lo hi tail r y′
   no-room h k schema p g u =
-      let e = c schema p (g .tables) u in
+      let e = c schema p (tables-said g) u in
       let l = nothing-long (node-origin p) schema p in
       record { fits = λ i. absurd (omega arith); full = λ i. k }
 
-  pub count-few : ColumnsAt widths y lo hi → n ≤ 4294967296
+  pub count-few : ColumnsAt records y lo hi → n ≤ 4294967296
   count-few t = omega (arith, few-columns t, c (t .schema) (t .p) (t .tables) (t .here))
 
-  module _ {new : ℕ} (o : new ≡ origin-at y hi) {names columns′ z : List ℕ} {end : ℕ} {z₁ : List ℕ} (k₁ : length z₁ ≡ length z) (f : WritesLabels new widths names columns′ y lo hi z 0 end z₁)
+  module _ {new : ℕ} (o : new ≡ origin-at y hi) {columns′ z : List ℕ} {end : ℕ} {z₁ : List ℕ} (k₁ : length z₁ ≡ length z) (f : WritesLabels new records columns′ y lo hi z 0 end z₁)
       (h : cell-words * n ≤ length z) (s : length z ≤ most-words) where
-    labels-part : (schema : Schema) (p : Node) → Names schema widths names columns′ → NodeHere y lo hi p → Part z₁ 0 end (all-words label-words (marked new (column-labels schema p)))
+    labels-part : (schema : Schema) (p : Node) → Records records columns′ schema → NodeHere y lo hi p → Part z₁ 0 end (all-words label-words (marked new (column-labels schema p)))
     labels-part schema p g u =
-        wrote-part k₁ (omega (arith, c schema p (g .tables) u, labels-long new schema p)) (omega (arith, c schema p (g .tables) u, labels-long new schema p)) (f schema p g u)
+        wrote-part k₁ (omega (arith, c schema p (tables-said g) u, labels-long new schema p)) (omega (arith, c schema p (tables-said g) u, labels-long new schema p)) (f schema p g u)
 
-    pub labels-end : NamesAt widths names columns′ → ColumnsAt widths y lo hi → end ≤ length z₁
+    pub labels-end : RecordsAt records columns′ → ColumnsAt records y lo hi → end ≤ length z₁
     labels-end g t =
         let p = labels-part (g .schema) (t .p) (g .given) (t .here) in
-        omega (arith, k₁, h, p .high, labels-long new (g .schema) (t .p), c (g .schema) (t .p) (g .given .tables) (t .here))
+        omega (arith, k₁, h, p .high, labels-long new (g .schema) (t .p), c (g .schema) (t .p) (tables-said (g .given)) (t .here))
 
     pub emptied : {tail : ℕ} → lo + (cell-words * n + cell-words) + tail ≤ length y → length y ≤ most-words → {at r : ℕ} {y₁ y₂ : List ℕ} → length y₁ ≡ length y → Copies z₁ 0 end y lo at y₁
-        → Seals y₁ lo at (record { origin = new; tag = 57; flag = 0; a = n; b = 0; c = 0 }) r y₂ → Empties widths names columns′ y lo hi tail r y₂
+        → Seals y₁ lo at (record { origin = new; tag = 57; flag = 0; a = n; b = 0; c = 0 }) r y₂ → Empties records columns′ y lo hi tail r y₂
     unfolding cell node-words
     emptied {tail} i j {at} {r} {y₁} {y₂} k₂ a b schema p g u =
         let w = all-words label-words (marked new (column-labels schema p)) in
-        let e : n ≡ length (marked new (column-labels schema p)) = c schema p (g .tables) u ∙ sym (marked-count new schema p) in
+        let e : n ≡ length (marked new (column-labels schema p)) = c schema p (tables-said g) u ∙ sym (marked-count new schema p) in
         subst (λ (og : ℕ). Fitted y lo (node-words (leaf og (nothing (marked og (column-labels schema p))))) tail r y₂) (o ∙ origin-is p u)
-        (wrote-fitted (omega (arith, nothing-long new schema p, c schema p (g .tables) u)) (omega arith)
+        (wrote-fitted (omega (arith, nothing-long new schema p, c schema p (tables-said g) u)) (omega arith)
         (subst (λ (m : ℕ). Wrote y lo (sized w (record { origin = new; tag = 57; flag = 0; a = m; b = 0; c = 0 })) r y₂) e
         (b y w k₂ (a w (labels-part schema p g u)))))
 
@@ -151,19 +152,19 @@ module _ (schema : Schema) where
   useless-narrow (join og outer (nested-loop q) l r) k = k
   useless-narrow (join og outer (hash i j) l r) k = k
 
-module _ {widths y : List ℕ} {lo hi end : ℕ} {y₁ : List ℕ} (k₁ : length y₁ ≡ length y) (f : Removes widths y lo hi end y₁) (s : length y ≤ most-words) where
+module _ {records y : List ℕ} {lo hi end : ℕ} {y₁ : List ℕ} (k₁ : length y₁ ≡ length y) (f : Removes records y lo hi end y₁) (s : length y ≤ most-words) where
   removed-fits : (schema : Schema) (p : Node) → NodeHere y lo hi p → lo + length (node-words (remove-useless schema p)) ≤ hi
   removed-fits schema p u = omega (arith, useless-size schema p, words-long (remove-useless schema p), words-long p, u .part .high)
 
-  removed-here : (schema : Schema) (p : Node) → Tables schema widths → NodeHere y lo hi p → NodeHere y₁ lo end (remove-useless schema p)
+  removed-here : (schema : Schema) (p : Node) → Tables records schema → NodeHere y lo hi p → NodeHere y₁ lo end (remove-useless schema p)
   removed-here schema p g u =
       let (a, b) = node-in p u in
       wrote-here (remove-useless schema p) k₁ (omega (arith, removed-fits schema p u)) (omega (arith, removed-fits schema p u)) (f schema p g u)
 
-  pub removed-in : ColumnsAt widths y lo hi → end ≤ hi
+  pub removed-in : ColumnsAt records y lo hi → end ≤ hi
   removed-in t = omega (arith, removed-here (t .schema) (t .p) (t .tables) (t .here) .part .high, removed-fits (t .schema) (t .p) (t .here))
 
-  pub removed-at : ColumnsAt widths y lo hi → ColumnsAt widths y₁ lo end
+  pub removed-at : ColumnsAt records y lo hi → ColumnsAt records y₁ lo end
   removed-at t =
       record {
         schema = t .schema;
@@ -174,18 +175,18 @@ module _ {widths y : List ℕ} {lo hi end : ℕ} {y₁ : List ℕ} (k₁ : lengt
         short = omega (arith, removed-in t, t .short);
       }
 
-  before-same : (schema : Schema) (p : Node) → Tables schema widths → NodeHere y lo hi p → take lo y₁ ≡ take lo y
+  before-same : (schema : Schema) (p : Node) → Tables records schema → NodeHere y lo hi p → take lo y₁ ≡ take lo y
   before-same schema p g u = wrote-before (omega (arith, removed-fits schema p u, node-in p u .1)) (omega arith) (f schema p g u)
 
-  module _ {names columns′ : List ℕ} {tail : ℕ} (h : hi + tail ≤ length y) {b : Bool} (e : IsEmpty y₁ lo end b) where
-    pub circuit-stays : b ≡ false → CircuitsNode widths names columns′ y lo hi tail end y₁
+  module _ {columns′ : List ℕ} {tail : ℕ} (h : hi + tail ≤ length y) {b : Bool} (e : IsEmpty y₁ lo end b) where
+    pub circuit-stays : b ≡ false → CircuitsNode records columns′ y lo hi tail end y₁
     circuit-stays i schema p g u =
         subst (λ (t : Bool). Fitted y lo (node-words (empty-or-node schema t (remove-useless schema p))) tail end y₁)
-        (sym i ∙ e (remove-useless schema p) (removed-here schema p (g .tables) u))
-        (wrote-fitted (omega (arith, removed-fits schema p u)) (omega arith) (f schema p (g .tables) u))
+        (sym i ∙ e (remove-useless schema p) (removed-here schema p (tables-said g) u))
+        (wrote-fitted (omega (arith, removed-fits schema p u)) (omega arith) (f schema p (tables-said g) u))
 
-    pub circuit-empties : b ≡ true → {n : ℕ} {y₂ : List ℕ} → Empties widths names columns′ y₁ lo end tail n y₂ → CircuitsNode widths names columns′ y lo hi tail n y₂
+    pub circuit-empties : b ≡ true → {n : ℕ} {y₂ : List ℕ} → Empties records columns′ y₁ lo end tail n y₂ → CircuitsNode records columns′ y lo hi tail n y₂
     circuit-empties i {n} {y₂} a schema p g u =
         subst (λ (t : Bool). Fitted y lo (node-words (empty-or-node schema t (remove-useless schema p))) tail n y₂)
-        (sym i ∙ e (remove-useless schema p) (removed-here schema p (g .tables) u))
-        (fitted-over k₁ (before-same schema p (g .tables) u) (a schema (remove-useless schema p) g (removed-here schema p (g .tables) u)))
+        (sym i ∙ e (remove-useless schema p) (removed-here schema p (tables-said g) u))
+        (fitted-over k₁ (before-same schema p (tables-said g) u) (a schema (remove-useless schema p) g (removed-here schema p (tables-said g) u)))

@@ -11,7 +11,7 @@ use Rattle.sql.specs.Room.{ShortCircuit}
 use Rattle.sound.specs.Sound.{Named}
 use Rattle.words.specs.Words.{node-words}
 use Rattle.words.specs.Place.{NodeHere}
-use Rattle.labels.specs.Names.{Names}
+use Rattle.records.specs.Records.{Records}
 use Rattle.column_labels.specs.ColumnLabels.{marked}
 use Rattle.chain.specs.Chain.{Bare}
 use Rattle.kept.specs.Kept.{Kept}
@@ -23,40 +23,40 @@ pub record Fitted (y : List ℕ) (at : ℕ) (w : List ℕ) (tail n : ℕ) (y′ 
   pub full : length y < at + length w + tail → length y < n
 
 -- The node from lo up to hi becomes a Nothing with its labels; these and the Nothing have the node's origin.
-abbrev pub Empties : (widths names columns y : List ℕ) (lo hi tail n : ℕ) → List ℕ → Type 0
-Empties widths names columns y lo hi tail n y′ =
-    (schema : Schema) (p : Node) → Names schema widths names columns → NodeHere y lo hi p
+abbrev pub Empties : (records columns y : List ℕ) (lo hi tail n : ℕ) → List ℕ → Type 0
+Empties records columns y lo hi tail n y′ =
+    (schema : Schema) (p : Node) → Records records columns schema → NodeHere y lo hi p
     → Fitted y lo (node-words (leaf (node-origin p) (nothing (marked (node-origin p) (column-labels schema p))))) tail n y′
 
 -- short_circuit takes the node's place.
-abbrev pub CircuitsNode : (widths names columns y : List ℕ) (lo hi tail n : ℕ) → List ℕ → Type 0
-CircuitsNode widths names columns y lo hi tail n y′ =
-    (schema : Schema) (p : Node) → Names schema widths names columns → NodeHere y lo hi p → Fitted y lo (node-words (short-circuit schema p)) tail n y′
+abbrev pub CircuitsNode : (records columns y : List ℕ) (lo hi tail n : ℕ) → List ℕ → Type 0
+CircuitsNode records columns y lo hi tail n y′ =
+    (schema : Schema) (p : Node) → Records records columns schema → NodeHere y lo hi p → Fitted y lo (node-words (short-circuit schema p)) tail n y′
 
 -- What the pass asks for.
-pub record CircuitAt (widths names columns x : List ℕ) (lo hi tail : ℕ) (y : List ℕ) (at : ℕ) : Type 0 where
-  pub stream : StreamAt (λ schema. Names schema widths names columns) x lo hi tail y at
+pub record CircuitAt (records columns x : List ℕ) (lo hi tail : ℕ) (y : List ℕ) (at : ℕ) : Type 0 where
+  pub stream : StreamAt (Records records columns) x lo hi tail y at
   pub named : Named (stream .schema) (length (stream .text))
 
 -- y′ with n words is y with `at` words after the pass.
-abbrev pub Circuits : (widths names columns x : List ℕ) (lo hi tail : ℕ) (y : List ℕ) (at n : ℕ) → List ℕ → Type 0
-Circuits widths names columns x lo hi tail y at n y′ =
-    (schema : Schema) (text : List ℕ) (tables : ℕ) → Names schema widths names columns → Named schema (length text) → (room rest : ℕ) (p : Node)
+abbrev pub Circuits : (records columns x : List ℕ) (lo hi tail : ℕ) (y : List ℕ) (at n : ℕ) → List ℕ → Type 0
+Circuits records columns x lo hi tail y at n y′ =
+    (schema : Schema) (text : List ℕ) (tables : ℕ) → Records records columns schema → Named schema (length text) → (room rest : ℕ) (p : Node)
     → Reading schema text tables x lo hi tail y at room rest p → Streamed (Kept schema text tables p) y at tail n y′ (ShortCircuit room schema rest p)
 
 -- What becomes of the node of x from lo up to `end` stands in y, u words with the first `at` of y₀, and bare nodes (crate chain) stand over it up to hi.
-pub record Climbing (widths names columns x : List ℕ) (lo end hi tail : ℕ) (y₀ : List ℕ) (at u : ℕ) (y : List ℕ) : Type 0 where
+pub record Climbing (records columns x : List ℕ) (lo end hi tail : ℕ) (y₀ : List ℕ) (at u : ℕ) (y : List ℕ) : Type 0 where
   pub bare : Bare x lo hi end
-  pub given : CircuitAt widths names columns x lo hi tail y₀ at
+  pub given : CircuitAt records columns x lo hi tail y₀ at
   pub long : length y ≡ length y₀
-  pub below : Circuits widths names columns x lo end (tail + (hi - end)) y₀ at u y
+  pub below : Circuits records columns x lo end (tail + (hi - end)) y₀ at u y
 
-pub record ClimbsAt (widths names columns x : List ℕ) (end hi tail : ℕ) (y : List ℕ) (at u : ℕ) : Type 0 where
+pub record ClimbsAt (records columns x : List ℕ) (end hi tail : ℕ) (y : List ℕ) (at u : ℕ) : Type 0 where
   pub lo : ℕ
   pub y₀ : List ℕ
-  pub is : Climbing widths names columns x lo end hi tail y₀ at u y
+  pub is : Climbing records columns x lo end hi tail y₀ at u y
 
 -- After that y′ with n words is y₀ after the pass on all of them.
-abbrev pub Climbs : (widths names columns x : List ℕ) (end hi tail : ℕ) (y : List ℕ) (at u n : ℕ) → List ℕ → Type 0
-Climbs widths names columns x end hi tail y at u n y′ =
-    (lo : ℕ) (y₀ : List ℕ) → Climbing widths names columns x lo end hi tail y₀ at u y → Circuits widths names columns x lo hi tail y₀ at n y′
+abbrev pub Climbs : (records columns x : List ℕ) (end hi tail : ℕ) (y : List ℕ) (at u n : ℕ) → List ℕ → Type 0
+Climbs records columns x end hi tail y at u n y′ =
+    (lo : ℕ) (y₀ : List ℕ) → Climbing records columns x lo end hi tail y₀ at u y → Circuits records columns x lo hi tail y₀ at n y′

@@ -1,11 +1,11 @@
 // optimizer.rs, pass 5: ShortCircuit. The plan is read in x, and what becomes of it is written to y, sources before the node (crate stream). z is a
-// scratch for labels. widths, names and columns are what is lent of the schema (crate labels).
+// scratch for labels. tables and columns are the schema's records (crate records).
 ghost use mathlib.Core.Path.{_≡_};
 ghost use Prim.Native.Nat.{_+_, _≤_};
 ghost use lib.ListN.{length};
 ghost use Rattle.cells.specs.Room.{most-words};
 ghost use Rattle.nodes.specs.Columns.{ColumnsAt};
-ghost use Rattle.labels.specs.Names.{NamesAt};
+ghost use Rattle.records.specs.Records.{RecordsAt};
 ghost use Rattle.short_circuit.specs.ShortCircuit.{Empties, CircuitsNode, CircuitAt, Circuits, ClimbsAt, Climbs};
 
 // The node from lo to hi, which can't produce anything, becomes a Nothing that keeps its labels; all have the node's origin. Room for these is asked for
@@ -16,21 +16,20 @@ fn into_nothing(
     hi: usize,
     tail: usize,
     z: &mut [u32],
-    widths: &[usize],
-    names: &[u32],
+    tables: &[u8],
     columns: &[u8],
 ) -> usize
-    requires { ⌜ ColumnsAt (now widths) (now y) lo hi ⌝ }
-    requires { ⌜ NamesAt (now widths) (now names) (now columns) ⌝ }
+    requires { ⌜ ColumnsAt (now tables) (now y) lo hi ⌝ }
+    requires { ⌜ RecordsAt (now tables) (now columns) ⌝ }
     requires { ⌜ (length (now z) ≡ length (now y)) × ((hi + tail ≤ length (now y)) × (length (now y) ≤ most-words)) ⌝ }
-    ensures { λ r. ⌜ Empties (now (widths .entry)) (now (names .entry)) (now (columns .entry)) (now (y .entry)) lo hi tail r (now (y .exit)) ⌝ }
+    ensures { λ r. ⌜ Empties (now (tables .entry)) (now (columns .entry)) (now (y .entry)) lo hi tail r (now (y .exit)) ⌝ }
 {
-    let n = nodes::columns(y, lo, hi, widths);
+    let n = nodes::columns(y, lo, hi, tables);
     if y.len() - tail - lo < cells::CELL_WORDS * n + cells::CELL_WORDS {
         return cells::FULL;
     }
     let origin = cells::origin_at(y, hi);
-    let end = column_labels::write_labels(y, lo, hi, z, 0, widths, names, columns, origin);
+    let end = column_labels::write_labels(y, lo, hi, z, 0, tables, columns, origin);
     let at = cells::copy(z, 0, end, y, lo);
     let k = cells::Cell {
         origin: origin,
@@ -50,18 +49,17 @@ fn short_circuit_node(
     hi: usize,
     tail: usize,
     z: &mut [u32],
-    widths: &[usize],
-    names: &[u32],
+    tables: &[u8],
     columns: &[u8],
 ) -> usize
-    requires { ⌜ ColumnsAt (now widths) (now y) lo hi ⌝ }
-    requires { ⌜ NamesAt (now widths) (now names) (now columns) ⌝ }
+    requires { ⌜ ColumnsAt (now tables) (now y) lo hi ⌝ }
+    requires { ⌜ RecordsAt (now tables) (now columns) ⌝ }
     requires { ⌜ (length (now z) ≡ length (now y)) × ((hi + tail ≤ length (now y)) × (length (now y) ≤ most-words)) ⌝ }
-    ensures { λ r. ⌜ CircuitsNode (now (widths .entry)) (now (names .entry)) (now (columns .entry)) (now (y .entry)) lo hi tail r (now (y .exit)) ⌝ }
+    ensures { λ r. ⌜ CircuitsNode (now (tables .entry)) (now (columns .entry)) (now (y .entry)) lo hi tail r (now (y .exit)) ⌝ }
 {
-    let end = remove_useless::remove_useless(y, lo, hi, widths);
+    let end = remove_useless::remove_useless(y, lo, hi, tables);
     if is_empty::is_empty(y, lo, end) {
-        return into_nothing(y, lo, end, tail, z, widths, names, columns);
+        return into_nothing(y, lo, end, tail, z, tables, columns);
     }
     end
 }
@@ -77,13 +75,12 @@ fn climb(
     at: usize,
     u: usize,
     z: &mut [u32],
-    widths: &[usize],
-    names: &[u32],
+    tables: &[u8],
     columns: &[u8],
 ) -> usize
-    requires { ⌜ ClimbsAt (now widths) (now names) (now columns) (now x) end hi tail (now y) at u ⌝ }
+    requires { ⌜ ClimbsAt (now tables) (now columns) (now x) end hi tail (now y) at u ⌝ }
     requires { ⌜ length (now z) ≡ length (now y) ⌝ }
-    ensures { λ r. ⌜ Climbs (now (widths .entry)) (now (names .entry)) (now (columns .entry)) (now (x .entry)) end hi tail (now (y .entry)) at u r (now (y .exit)) ⌝ }
+    ensures { λ r. ⌜ Climbs (now (tables .entry)) (now (columns .entry)) (now (x .entry)) end hi tail (now (y .entry)) at u r (now (y .exit)) ⌝ }
 {
     let mut m = end;
     let mut n = u;
@@ -93,7 +90,7 @@ fn climb(
         }
         let v = stream::finish(x, m, m + cells::CELL_WORDS, y, at, n);
         m += cells::CELL_WORDS;
-        n = short_circuit_node(y, at, v, tail + (hi - m), z, widths, names, columns);
+        n = short_circuit_node(y, at, v, tail + (hi - m), z, tables, columns);
     }
     n
 }
@@ -108,44 +105,43 @@ pub fn short_circuit(
     y: &mut [u32],
     at: usize,
     z: &mut [u32],
-    widths: &[usize],
-    names: &[u32],
+    tables: &[u8],
     columns: &[u8],
 ) -> usize
-    requires { ⌜ CircuitAt (now widths) (now names) (now columns) (now x) lo hi tail (now y) at ⌝ }
+    requires { ⌜ CircuitAt (now tables) (now columns) (now x) lo hi tail (now y) at ⌝ }
     requires { ⌜ length (now z) ≡ length (now y) ⌝ }
-    ensures { λ r. ⌜ Circuits (now (widths .entry)) (now (names .entry)) (now (columns .entry)) (now (x .entry)) lo hi tail (now (y .entry)) at r (now (y .exit)) ⌝ }
+    ensures { λ r. ⌜ Circuits (now (tables .entry)) (now (columns .entry)) (now (x .entry)) lo hi tail (now (y .entry)) at r (now (y .exit)) ⌝ }
 {
     let n = nodes::source_count(x, lo, hi);
     if n == 0 {
         let end = cells::copy(x, lo, hi, y, at);
-        return short_circuit_node(y, at, end, tail, z, widths, names, columns);
+        return short_circuit_node(y, at, end, tail, z, tables, columns);
     }
     let m = nodes::own_start(x, lo, hi);
     let back = tail + (hi - m);
     if n == 1 {
         let end = chain::descend_bare(x, lo, m);
         let behind = back + (m - end);
-        let u = short_circuit_source(x, lo, end, behind, y, at, z, widths, names, columns);
-        let v = climb(x, end, m, back, y, at, u, z, widths, names, columns);
+        let u = short_circuit_source(x, lo, end, behind, y, at, z, tables, columns);
+        let v = climb(x, end, m, back, y, at, u, z, tables, columns);
         if y.len() < v {
             return v;
         }
         let end = stream::finish(x, m, hi, y, at, v);
-        return short_circuit_node(y, at, end, tail, z, widths, names, columns);
+        return short_circuit_node(y, at, end, tail, z, tables, columns);
     }
     let mid = cells::start(x, m);
     let behind = tail + (hi - mid);
-    let u = short_circuit_source(x, lo, mid, behind, y, at, z, widths, names, columns);
+    let u = short_circuit_source(x, lo, mid, behind, y, at, z, tables, columns);
     if y.len() < u {
         return u;
     }
-    let v = short_circuit_source(x, mid, m, back, y, u, z, widths, names, columns);
+    let v = short_circuit_source(x, mid, m, back, y, u, z, tables, columns);
     if y.len() < v {
         return v;
     }
     let end = stream::finish(x, m, hi, y, at, v);
-    short_circuit_node(y, at, end, tail, z, widths, names, columns)
+    short_circuit_node(y, at, end, tail, z, tables, columns)
 }
 
 // The same for a source. A Scan without a filter, one cell alone, stays as it is, and needs no call of short_circuit.
@@ -157,18 +153,17 @@ fn short_circuit_source(
     y: &mut [u32],
     at: usize,
     z: &mut [u32],
-    widths: &[usize],
-    names: &[u32],
+    tables: &[u8],
     columns: &[u8],
 ) -> usize
-    requires { ⌜ CircuitAt (now widths) (now names) (now columns) (now x) lo hi tail (now y) at ⌝ }
+    requires { ⌜ CircuitAt (now tables) (now columns) (now x) lo hi tail (now y) at ⌝ }
     requires { ⌜ length (now z) ≡ length (now y) ⌝ }
-    ensures { λ r. ⌜ Circuits (now (widths .entry)) (now (names .entry)) (now (columns .entry)) (now (x .entry)) lo hi tail (now (y .entry)) at r (now (y .exit)) ⌝ }
+    ensures { λ r. ⌜ Circuits (now (tables .entry)) (now (columns .entry)) (now (x .entry)) lo hi tail (now (y .entry)) at r (now (y .exit)) ⌝ }
 {
     if hi - lo == cells::CELL_WORDS {
         if cells::tag_at(x, hi) == tags::SCAN {
             return cells::copy(x, lo, hi, y, at);
         }
     }
-    short_circuit(x, lo, hi, tail, y, at, z, widths, names, columns)
+    short_circuit(x, lo, hi, tail, y, at, z, tables, columns)
 }

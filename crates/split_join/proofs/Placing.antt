@@ -301,13 +301,13 @@ split-origin : {x : List ℕ} {t lo tail : ℕ} {pre post : List ℕ} (og : ℕ)
     → origin-at x (t - tail) ≡ og
 split-origin og outer p l r h = origin-here (join og outer (nested-loop (some p)) l r) (holds-here h)
 
-pub split-in : {widths x : List ℕ} {t lo tail : ℕ} → SplitAt widths x t lo tail → (tail ≤ t) × ((cell-words ≤ t - tail) × (t - tail ≤ length x))
+pub split-in : {records x : List ℕ} {t lo tail : ℕ} → SplitAt records x t lo tail → (tail ≤ t) × ((cell-words ≤ t - tail) × (t - tail ≤ length x))
 split-in g =
     let (a, b) = node-in (join (g .og) (g .outer) (nested-loop (some (g .p))) (g .l) (g .r)) (holds-here (g .holds)) in
     (omega arith, (omega arith, b))
 
 module _ {x : List ℕ} {t lo tail m : ℕ} (own : OwnStart x lo (t - tail) m) where
-  pub right-sized : {widths : List ℕ} → SplitAt widths x t lo tail → Sized x m
+  pub right-sized : {records : List ℕ} → SplitAt records x t lo tail → Sized x m
   right-sized g =
       sources-sized (g .og) (g .outer) (nested-loop (some (g .p))) (g .l) (g .r) (holds-here (g .holds)) (own (join (g .og) (g .outer) (nested-loop (some (g .p))) (g .l) (g .r)) (holds-here (g .holds)))
 
@@ -324,7 +324,7 @@ module _ {x : List ℕ} {t lo tail m : ℕ} (own : OwnStart x lo (t - tail) m) w
             right = join-right og outer (nested-loop (some p)) l r (holds-here h) (own (join og outer (nested-loop (some p)) l r) (holds-here h)) st .part .high;
           }
 
-    pub join-at : {widths : List ℕ} → SplitAt widths x t lo tail → {origin : ℕ} → origin ≡ origin-at x (t - tail) → JoinAt x t lo mid m tail origin
+    pub join-at : {records : List ℕ} → SplitAt records x t lo tail → {origin : ℕ} → origin ≡ origin-at x (t - tail) → JoinAt x t lo mid m tail origin
     join-at g q =
         subst (λ (og : ℕ). JoinAt x t lo mid m tail og) (sym (q ∙ split-origin (g .og) (g .outer) (g .p) (g .l) (g .r) (g .holds)))
         (record {
@@ -338,7 +338,7 @@ module _ {x : List ℕ} {t lo tail m : ℕ} (own : OwnStart x lo (t - tail) m) w
           short = omega (arith, g .short);
         })
 
-    pub left-columns : {widths : List ℕ} → SplitAt widths x t lo tail → ColumnsAt widths x lo mid
+    pub left-columns : {records : List ℕ} → SplitAt records x t lo tail → ColumnsAt records x lo mid
     left-columns g =
         record {
           schema = g .schema;
@@ -351,8 +351,8 @@ module _ {x : List ℕ} {t lo tail m : ℕ} (own : OwnStart x lo (t - tail) m) w
               omega (arith, h .right, end-below (g .og) (g .outer) (g .p) (g .l) (g .r) h .1 .0, g .holds .inside, g .short);
         }
 
-pub split-whole : {widths x : List ℕ} {t lo tail m mid n origin : ℕ} → OwnStart x lo (t - tail) m → mid ≡ start-at x m → ColumnCount widths x lo mid n → origin ≡ origin-at x (t - tail)
-    → {cnf : List ℕ} {end q : ℕ} {x′ : List ℕ} → SplitsBoth origin n x t lo mid m tail cnf end q x′ → Splits widths x t lo tail cnf end q x′
+pub split-whole : {records x : List ℕ} {t lo tail m mid n origin : ℕ} → OwnStart x lo (t - tail) m → mid ≡ start-at x m → ColumnCount records x lo mid n → origin ≡ origin-at x (t - tail)
+    → {cnf : List ℕ} {end q : ℕ} {x′ : List ℕ} → SplitsBoth origin n x t lo mid m tail cnf end q x′ → Splits records x t lo tail cnf end q x′
 split-whole {x = x} {t} {lo} {tail} {m} {mid} {n} own st count i {cnf} {end} {q} {x′} f schema tables pre post og outer p l r h e v =
     subst (λ (i : ℕ). Placed x′ q pre post (node-words (split og i outer (ands e) l r))) (count schema l tables (left-source own st og outer p l r h))
     (subst (λ (s : Node). Placed x′ q pre post (node-words s)) (split-is og n outer (ands e) l r)

@@ -15,7 +15,8 @@ use Rattle.cells.specs.Cells.{cell-words, sized}
 use Rattle.cells.specs.Room.{Short, most-words, Wrote}
 use Rattle.words.specs.Words.{cell, optional-words, node-words, join-cell}
 use Rattle.words.specs.Place.{ExpressionHere, NodeHere}
-use Rattle.nodes.specs.Columns.{Tables, Narrow}
+use Rattle.nodes.specs.Columns.{Narrow}
+use Rattle.records.specs.Records.{Tables}
 use Rattle.edit.specs.Edit.{Holds, Placed}
 use Rattle.copied_lookups.specs.declared.Source.the-variants.{Left, Right}
 use Rattle.push_part.specs.Part.{part-for}
@@ -64,9 +65,9 @@ pub record PredicateAt (s : List ℕ) (lo hi : ℕ) : Type 0 where
   pub here : NodeHere s lo hi (join og outer (nested-loop (some p)) l r)
 
 -- What the split asks for: some join with a predicate stands there, and its left source's columns can be counted (crate nodes, Columns).
-pub record SplitAt (widths x : List ℕ) (t lo tail : ℕ) : Type 0 where
+pub record SplitAt (records x : List ℕ) (t lo tail : ℕ) : Type 0 where
   pub schema : Schema
-  pub tables : Tables schema widths
+  pub tables : Tables records schema
   pub pre : List ℕ
   pub post : List ℕ
   pub og : ℕ
@@ -117,7 +118,7 @@ SplitsBoth og n x t lo mid m tail cnf end q x′ =
     → Placed x′ q pre post (node-words (join og outer (nested-loop (stays og n (ands e) l r)) (new-left og n (ands e) l) (new-right og n (ands e) r)))
 
 -- The join after the split takes the join's place, or has no room.
-abbrev pub Splits : (widths x : List ℕ) (t lo tail : ℕ) → List ℕ → ℕ → ℕ → List ℕ → Type 0
-Splits widths x t lo tail cnf end q x′ = (schema : Schema) → Tables schema widths → (pre post : List ℕ) (og : ℕ) (outer : Bool) (p : Expression) (l r : Node)
+abbrev pub Splits : (records x : List ℕ) (t lo tail : ℕ) → List ℕ → ℕ → ℕ → List ℕ → Type 0
+Splits records x t lo tail cnf end q x′ = (schema : Schema) → Tables records schema → (pre post : List ℕ) (og : ℕ) (outer : Bool) (p : Expression) (l r : Node)
     → Holds x t lo tail pre post (join og outer (nested-loop (some p)) l r) → (e : Expression) → ExpressionHere cnf 0 end e
     → Placed x′ q pre post (node-words (split og (columns schema l) outer (ands e) l r))

@@ -161,7 +161,7 @@ fn split_both(
     edit::reseal(x, u, lo, u - own - k)
 }
 
-// The join, whose predicate starts at m, after the split of its predicate. widths[i] is the number of columns of table i.
+// The join, whose predicate starts at m, after the split of its predicate. tables are the table records (crate records).
 pub fn split(
     x: &mut [u32],
     y: &mut [u32],
@@ -172,17 +172,17 @@ pub fn split(
     lo: usize,
     m: usize,
     tail: usize,
-    widths: &[usize],
+    tables: &[u8],
 ) -> usize
-    requires { ⌜ SplitAt (now widths) (now x) t lo tail ⌝ }
+    requires { ⌜ SplitAt (now tables) (now x) t lo tail ⌝ }
     requires { ⌜ OwnStart (now x) lo (t - tail) m ⌝ }
     requires { ⌜ length (now y) ≡ length (now x) ⌝ }
     requires { ⌜ ExpressionAt (now cnf) 0 end ⌝ }
     requires { ⌜ length (now g) ≡ length (now cnf) ⌝ }
-    ensures { λ r. ⌜ Splits (now (widths .entry)) (now (x .entry)) t lo tail (now (cnf .entry)) end r (now (x .exit)) ⌝ }
+    ensures { λ r. ⌜ Splits (now (tables .entry)) (now (x .entry)) t lo tail (now (cnf .entry)) end r (now (x .exit)) ⌝ }
 {
     let mid = cells::start(x, m);
-    let n = nodes::columns(x, lo, mid, widths);
+    let n = nodes::columns(x, lo, mid, tables);
     let origin = cells::origin_at(x, t - tail);
     split_both(x, y, cnf, end, g, t, lo, mid, m, tail, n, origin)
 }

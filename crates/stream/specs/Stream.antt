@@ -23,8 +23,8 @@ pub record Reading (schema : Schema) (text : List ℕ) (tables : ℕ) (x : List 
   pub shares : Shares y at tail room rest
   pub fits : at + (hi - lo) + tail ≤ length y
 
--- What a streamed function asks for. `Lent schema` says what the code is lent of the schema, such as its tables' numbers of columns: λ schema. Tables
--- schema widths. The slices are short enough for columns and words to be counted without overflow.
+-- What a streamed function asks for. `Lent schema` says what the code is lent of the schema, such as its tables' records: Tables records. The
+-- slices are short enough for columns and words to be counted without overflow.
 pub record StreamAt (Lent : Schema → Type 0) (x : List ℕ) (lo hi tail : ℕ) (y : List ℕ) (at : ℕ) : Type 0 where
   pub schema : Schema
   pub text : List ℕ

@@ -13,7 +13,7 @@ use Rattle.labels.proofs.table_label.Reads as table-label-reads
 use Rattle.labels.proofs.trace.Reads as trace-reads
 
 trace-requires : tie.Need-trace-requires
-trace-requires c κs = (c .before .before .before .before .pre .0, c .before .before .before .before .pre .1 .0)
+trace-requires c κs = (c .before .before .before .pre .0, c .before .before .before .pre .1 .0)
 
 enum-known-traced : tie.Need-enum-known-traced
 enum-known-traced c = search needs
@@ -22,7 +22,7 @@ enum-known-traced-2 : tie.Need-enum-known-traced-2
 enum-known-traced-2 c = search needs
 
 table-label-requires : tie.Need-table-label-requires
-table-label-requires c κs = c .before .before .before .before .before .before .before .before .pre .1 .1
+table-label-requires c κs = c .before .before .before .before .before .before .before .pre .1 .1
 
 returns : tie.Need-returns
 returns c = label-said-here (c .before .before .before .trace .ensures) (c .before .traced .given .0 .0) (c .before .traced .given .1)

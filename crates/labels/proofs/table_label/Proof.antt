@@ -10,21 +10,21 @@ use Rattle.labels.proofs.table_label.Tie as tie
 use Rattle.labels.proofs.table_label.Reads as reads
 use Rattle.labels.proofs.table_label.Lts as lts
 use Rattle.labels.proofs.column_name.Reads as column-name-reads
-use Rattle.labels.proofs.entry.Reads as entry-reads
+use Rattle.records.proofs.table_name.Reads as table-name-reads
 use Rattle.labels.proofs.qualifier.Reads as qualifier-reads
 
-name-of-requires : tie.Need-name-of-requires
-name-of-requires c κs = search needs
+table-name-requires : tie.Need-table-name-requires
+table-name-requires c κs = search needs
 
 qualifier-requires : tie.Need-qualifier-requires
 qualifier-requires c κs = search needs
 
 column-name-requires : tie.Need-column-name-requires
-column-name-requires c κs = c .before .before .before .before .before .pre
+column-name-requires c κs = c .before .before .before .before .pre
 
 returns : tie.Need-returns
-returns c = labels-table (c .before .before .before .before .before .before .args .t) (c .before .before .before .before .before .before .args .aliased) (c .before .before .before .before .before .before .args .alias) (c .before .before .before .before .before .before .args .i) (c .before .before .name-of .ensures) (c .before .qualifier .ensures) (c .column-name .ensures)
+returns c = labels-table (c .before .before .before .before .before .args .t) (c .before .before .before .before .before .args .aliased) (c .before .before .before .before .before .args .alias) (c .before .before .before .before .before .args .i) (c .before .before .table-name .ensures) (c .before .qualifier .ensures) (c .column-name .ensures)
 
 pub table-label-spec : {M : Type 1} → statement M
 table-label-spec =
-    tie.close (tie.spec name-of-requires qualifier-requires column-name-requires returns)
+    tie.close (tie.spec table-name-requires qualifier-requires column-name-requires returns)

@@ -12,10 +12,10 @@ use Rattle.labels.proofs.trace.Lts as lts
 use Rattle.labels.proofs.next_of.Reads as next-of-reads
 
 abbrev Inv-loop : tie.InvT-loop
-Inv-loop s lo hi i w widths start₀ end₀ column₀ columns₀ start end column columns = Way widths s lo hi i start end column columns
+Inv-loop s lo hi i w records start₀ end₀ column₀ columns₀ start end column columns = Way records s lo hi i start end column columns
 
 abbrev μ-loop : tie.MeasureT-loop
-μ-loop s lo hi i w widths start₀ end₀ column₀ columns₀ start end column columns = end - start
+μ-loop s lo hi i w records start₀ end₀ column₀ columns₀ start end column columns = end - start
 
 loop-holds : tie.Need-loop-holds Inv-loop μ-loop
 loop-holds c = way-first (c .before .before .pre .0) (c .before .before .pre .1)

@@ -15,10 +15,10 @@ use Rattle.nodes.proofs.own_start.Reads as own-start-reads
 use Rattle.nodes.proofs.said_columns.Reads as said-columns-reads
 
 abbrev Inv-loop : tie.InvT-loop
-Inv-loop s lo hi widths total₀ end₀ total end = Counting widths s lo hi end total
+Inv-loop s lo hi records total₀ end₀ total end = Counting records s lo hi end total
 
 abbrev μ-loop : tie.MeasureT-loop
-μ-loop s lo hi widths total₀ end₀ total end = end
+μ-loop s lo hi records total₀ end₀ total end = end
 
 loop-holds : tie.Need-loop-holds Inv-loop μ-loop
 loop-holds c = counting-first

@@ -11,7 +11,7 @@ use Rattle.nodes.proofs.leaf_columns.Tie as tie
 use Rattle.nodes.proofs.leaf_columns.Reads as reads
 use Rattle.nodes.proofs.leaf_columns.Lts as lts
 use Rattle.cells.proofs.cell_at.Reads as cell-at-reads
-use Rattle.nodes.proofs.table_columns.Reads as table-columns-reads
+use Rattle.records.proofs.table_width.Reads as table-width-reads
 use Rattle.nodes.proofs.trees_start.Reads as trees-start-reads
 
 cell-at-requires : tie.Need-cell-at-requires
@@ -47,14 +47,14 @@ cast-result-2 c = search needs
 returns-3 : tie.Need-returns-3
 returns-3 c = columns-values (c .before .before .before .before .before .before .before .before .before .before .cell-at .ensures) (c .before .before .before .before .before .before .if2 .taken) (c .before .before .before .before .if3 .left) (c .before .before .trees-start .ensures) (c .before .cell-at2 .ensures)
 
-cast-table-columns : tie.Need-cast-table-columns
-cast-table-columns c = search needs
+cast-table-width : tie.Need-cast-table-width
+cast-table-width c = search needs
 
-table-columns-requires : tie.Need-table-columns-requires
-table-columns-requires c κs = search needs
+table-width-requires : tie.Need-table-width-requires
+table-width-requires c κs = search needs
 
 returns-4 : tie.Need-returns-4
-returns-4 c = columns-table (c .before .before .before .before .before .before .cell-at .ensures) (c .before .before .before .before .before .before .before .before .before .pre .1) (c .before .before .before .before .if1 .left) (c .before .before .if2 .left) (c .table-columns .ensures)
+returns-4 c = columns-table (c .before .before .before .before .before .before .cell-at .ensures) (c .before .before .before .before .before .before .before .before .before .pre .1) (c .before .before .before .before .if1 .left) (c .before .before .if2 .left) (c .table-width .ensures)
 
 pub leaf-columns-spec : {M : Type 1} → statement M
 leaf-columns-spec =
@@ -71,6 +71,6 @@ leaf-columns-spec =
     cell-at-requires-2
     cast-result-2
     returns-3
-    cast-table-columns
-    table-columns-requires
+    cast-table-width
+    table-width-requires
     returns-4)

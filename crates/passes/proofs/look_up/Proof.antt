@@ -14,7 +14,7 @@ use Rattle.index_lookup.proofs.transform.Reads as transform-reads
 use Rattle.passes.proofs.in_room.Reads as in-room-reads
 
 transform-requires : tie.Need-transform-requires
-transform-requires c κs = (asked (λ schema text g. g) (c .before .before .before .before .before .before .before .before .before .before .pre .1 .second) (c .before .before .before .before .before .before .before .before .before .before .pre .0), (omega (arith, c .before .before .before .before .before .before .before .before .before .before .pre .1 .second, c .before .before .before .before .before .before .before .before .before .before .pre .1 .third), omega (arith, c .before .before .before .before .before .before .before .before .before .before .pre .1 .second, c .before .before .before .before .before .before .before .before .before .before .pre .1 .fourth)))
+transform-requires c κs = (asked (λ schema text g. g) (c .before .before .before .before .before .before .before .before .before .pre .1 .second) (c .before .before .before .before .before .before .before .before .before .pre .0), (omega (arith, c .before .before .before .before .before .before .before .before .before .pre .1 .second, c .before .before .before .before .before .before .before .before .before .pre .1 .third), omega (arith, c .before .before .before .before .before .before .before .before .before .pre .1 .second, c .before .before .before .before .before .before .before .before .before .pre .1 .fourth)))
 
 in-room-requires : tie.Need-in-room-requires
 in-room-requires c κs = search needs
@@ -29,7 +29,7 @@ same-length-3 : tie.Need-same-length-3
 same-length-3 c = search needs
 
 returns : tie.Need-returns
-returns c = runs (λ schema text g. g) (c .before .before .before .before .before .before .before .before .before .before .before .before .before .before .before .before .before .before .before .pre .1 .second) (c .before .before .before .before .before .before .before .before .before .before .before .before .before .before .before .before .before .before .before .pre .0 .short) IndexLookup (c .before .before .before .before .before .before .before .before .transform .ensures) (c .in-room .ensures)
+returns c = runs (λ schema text g. g) (c .before .before .before .before .before .before .before .before .before .before .before .before .before .before .before .before .before .before .pre .1 .second) (c .before .before .before .before .before .before .before .before .before .before .before .before .before .before .before .before .before .before .pre .0 .short) IndexLookup (c .before .before .before .before .before .before .before .before .transform .ensures) (c .in-room .ensures)
 
 pub look-up-spec : {M : Type 1} → statement M
 look-up-spec =

@@ -13,7 +13,7 @@ use Rattle.passes.proofs.in_room.Reads as in-room-reads
 use Rattle.short_circuit.proofs.short_circuit.Reads as short-circuit-reads
 
 short-circuit-requires : tie.Need-short-circuit-requires
-short-circuit-requires c κs = (circuit-asked (c .before .before .before .before .before .before .before .before .pre .1 .0) (c .before .before .before .before .before .before .before .before .pre .0), omega (arith, c .before .before .before .before .before .before .before .before .pre .1 .0, c .before .before .before .before .before .before .before .before .pre .1 .1))
+short-circuit-requires c κs = (circuit-asked (c .before .before .before .before .before .before .before .pre .1 .0) (c .before .before .before .before .before .before .before .pre .0), omega (arith, c .before .before .before .before .before .before .before .pre .1 .0, c .before .before .before .before .before .before .before .pre .1 .1))
 
 in-room-requires : tie.Need-in-room-requires
 in-room-requires c κs = search needs
@@ -25,7 +25,7 @@ same-length-2 : tie.Need-same-length-2
 same-length-2 c = search needs
 
 returns : tie.Need-returns
-returns c = circuited (c .before .before .before .before .before .before .before .before .before .before .before .before .before .before .before .pre .1 .0) (c .before .before .before .before .before .before .before .before .before .before .before .before .before .before .before .pre .0 .short) (c .before .before .before .before .before .before .short-circuit .ensures) (c .in-room .ensures)
+returns c = circuited (c .before .before .before .before .before .before .before .before .before .before .before .before .before .before .pre .1 .0) (c .before .before .before .before .before .before .before .before .before .before .before .before .before .before .pre .0 .short) (c .before .before .before .before .before .before .short-circuit .ensures) (c .in-room .ensures)
 
 pub short-circuit-spec : {M : Type 1} → statement M
 short-circuit-spec =

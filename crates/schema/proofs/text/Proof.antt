@@ -1,4 +1,3 @@
-use Rattle.schema.proofs.Laws.{tables-inside}
 use lib.Seq.{length-take-le}
 use Rattle.layout.proofs.Laws.{text-is}
 use Prim.Native.Nat.{ℕ, _+_, _-_, _*_, _≤_, _<_}
@@ -17,7 +16,7 @@ parts-of-requires : tie.Need-parts-of-requires
 parts-of-requires c κs = search needs
 
 slice-aggregate-result : tie.Need-slice-aggregate-result
-slice-aggregate-result c = sym (length-take-le (c .before .parts-of .result .tables .at) (c .before .before .before .args .s .now) (omega (arith, tables-inside (c .before .before .before .args .s .now) (c .before .parts-of .ensures))))
+slice-aggregate-result c = sym (length-take-le (c .before .parts-of .result .tables .at) (c .before .before .before .args .s .now) (let l = c .before .parts-of .ensures in omega (arith, l .tables-end, l .columns-end, l .cells-end)))
 
 returns : tie.Need-returns
 returns c = ap (λ (n : ℕ). take n (c .before .before .before .args .s .now)) (text-is (c .before .parts-of .ensures))

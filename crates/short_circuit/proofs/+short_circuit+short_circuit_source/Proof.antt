@@ -2,7 +2,7 @@ use Rattle.short_circuit.proofs.Climbing.{below-at}
 use Rattle.chain.proofs.Bare.{bare-in}
 use Rattle.nodes.proofs.Widths.{counted-as, two-left, join-sized}
 use Rattle.stream.proofs.Sources.{own-in, mid-in}
-use Rattle.short_circuit.proofs.Pass.{names-at, leaf-ready, source-at, over-ready, left-at, right-at, join-ready, leaf-circuits, scan-circuits, over-stop, over-circuits, left-stop, right-stop, join-circuits, node-there, node-inside}
+use Rattle.short_circuit.proofs.Pass.{records-at, leaf-ready, source-at, over-ready, left-at, right-at, join-ready, leaf-circuits, scan-circuits, over-stop, over-circuits, left-stop, right-stop, join-circuits, node-there, node-inside}
 use Prim.Native.Nat.{ℕ, _+_, _-_, _*_, _<_}
 use native.Mathlib.Omega.{arith}
 use mathlib.Core.Path.{refl, sym, _∙_}
@@ -27,38 +27,38 @@ use Rattle.stream.proofs.finish.Reads as finish-reads
 use Rattle.short_circuit.proofs.+short_circuit+short_circuit_source.{statement}
 use Rattle.short_circuit.proofs.+short_circuit+short_circuit_source.Tie.{close}
 
-abbrev μ-short-circuit : Measures 6 short-circuit-kinds.ps ℕ
+abbrev μ-short-circuit : Measures 5 short-circuit-kinds.ps ℕ
 μ-short-circuit κs a = 2 * (a .1 .1 .0 - a .1 .0)
 
-abbrev μ-short-circuit-source : Measures 6 short-circuit-source-kinds.ps ℕ
+abbrev μ-short-circuit-source : Measures 5 short-circuit-source-kinds.ps ℕ
 μ-short-circuit-source κs a = 2 * (a .1 .1 .0 - a .1 .0) + 1
 
-abbrev short-circuit-at : ℕ → In 6 short-circuit-kinds.ps
+abbrev short-circuit-at : ℕ → In 5 short-circuit-kinds.ps
 short-circuit-at t =
-    and 6 short-circuit-kinds.ps (is 6 short-circuit-kinds.ps μ-short-circuit t) short-circuit.Pre
+    and 5 short-circuit-kinds.ps (is 5 short-circuit-kinds.ps μ-short-circuit t) short-circuit.Pre
 
-abbrev short-circuit-below : ℕ → In 6 short-circuit-kinds.ps
+abbrev short-circuit-below : ℕ → In 5 short-circuit-kinds.ps
 short-circuit-below t =
     and
-    6
+    5
     short-circuit-kinds.ps
-    (falls 6 short-circuit-kinds.ps _<_ μ-short-circuit t)
+    (falls 5 short-circuit-kinds.ps _<_ μ-short-circuit t)
     short-circuit.Pre
 
-abbrev short-circuit-source-at : ℕ → In 6 short-circuit-source-kinds.ps
+abbrev short-circuit-source-at : ℕ → In 5 short-circuit-source-kinds.ps
 short-circuit-source-at t =
     and
-    6
+    5
     short-circuit-source-kinds.ps
-    (is 6 short-circuit-source-kinds.ps μ-short-circuit-source t)
+    (is 5 short-circuit-source-kinds.ps μ-short-circuit-source t)
     short-circuit-source.Pre
 
-abbrev short-circuit-source-below : ℕ → In 6 short-circuit-source-kinds.ps
+abbrev short-circuit-source-below : ℕ → In 5 short-circuit-source-kinds.ps
 short-circuit-source-below t =
     and
-    6
+    5
     short-circuit-source-kinds.ps
-    (falls 6 short-circuit-source-kinds.ps _<_ μ-short-circuit-source t)
+    (falls 5 short-circuit-source-kinds.ps _<_ μ-short-circuit-source t)
     short-circuit-source.Pre
 
 abbrev short-circuit-claims : ℕ → short-circuit-lts.Claims
@@ -68,13 +68,13 @@ abbrev short-circuit-source-claims : ℕ → short-circuit-source-lts.Claims
 short-circuit-source-claims t = (tag-at-reads.Asked, tag-at-reads.Learnt, copy-reads.Asked, copy-reads.Learnt, short-circuit-below t, short-circuit.Post)
 
 short-circuit-source-count-requires : (t : ℕ) → short-circuit-lts.Need-source-count-requires (short-circuit-claims t) (short-circuit-at t) short-circuit.Post
-short-circuit-source-count-requires t c κs = node-there (c .before .before .before .before .before .before .pre .1 .0)
+short-circuit-source-count-requires t c κs = node-there (c .before .before .before .before .before .pre .1 .0)
 
 short-circuit-copy-requires : (t : ℕ) → short-circuit-lts.Need-copy-requires (short-circuit-claims t) (short-circuit-at t) short-circuit.Post
-short-circuit-copy-requires t c κs = let (h, k) = node-inside (c .before .before .before .before .before .before .before .before .before .pre .1 .0) in (omega arith, k)
+short-circuit-copy-requires t c κs = let (h, k) = node-inside (c .before .before .before .before .before .before .before .before .pre .1 .0) in (omega arith, k)
 
 short-circuit-short-circuit-node-requires : (t : ℕ) → short-circuit-lts.Need-short-circuit-node-requires (short-circuit-claims t) (short-circuit-at t) short-circuit.Post
-short-circuit-short-circuit-node-requires t c κs = let (a, b) = leaf-ready (c .before .before .before .before .before .before .before .before .before .before .before .before .before .before .pre .1 .0) (counted-as (c .before .before .before .before .before .before .before .source-count .ensures) (c .before .before .before .before .before .before .if1 .taken)) (c .before .before .before .before .copy .kept .1 .1 .1 .0) (c .before .before .before .before .copy .ensures) in (a, (names-at (c .before .before .before .before .before .before .before .before .before .before .before .before .before .before .pre .1 .0), (c .before .before .before .before .before .before .before .before .before .before .before .before .before .before .pre .1 .1 ∙ sym (c .before .before .before .before .copy .kept .1 .1 .1 .0), b)))
+short-circuit-short-circuit-node-requires t c κs = let (a, b) = leaf-ready (c .before .before .before .before .before .before .before .before .before .before .before .before .before .pre .1 .0) (counted-as (c .before .before .before .before .before .before .before .source-count .ensures) (c .before .before .before .before .before .before .if1 .taken)) (c .before .before .before .before .copy .kept .1 .1 .1 .0) (c .before .before .before .before .copy .ensures) in (a, (records-at (c .before .before .before .before .before .before .before .before .before .before .before .before .before .pre .1 .0), (c .before .before .before .before .before .before .before .before .before .before .before .before .before .pre .1 .1 ∙ sym (c .before .before .before .before .copy .kept .1 .1 .1 .0), b)))
 
 short-circuit-same-length : (t : ℕ) → short-circuit-lts.Need-same-length (short-circuit-claims t) (short-circuit-at t) short-circuit.Post
 short-circuit-same-length t c = c .before .before .before .before .short-circuit-node .kept .0 ∙ c .before .before .before .before .before .before .before .before .before .copy .kept .1 .1 .1 .0
@@ -86,28 +86,28 @@ short-circuit-returns : (t : ℕ) → short-circuit-lts.Need-returns (short-circ
 short-circuit-returns t c = leaf-circuits (counted-as (c .before .before .before .before .before .before .before .before .before .before .before .before .source-count .ensures) (c .before .before .before .before .before .before .before .before .before .before .before .if1 .taken)) (c .before .before .before .before .before .before .before .before .before .copy .kept .1 .1 .1 .0) (c .before .before .before .before .before .before .before .before .before .copy .ensures) (c .before .before .before .before .short-circuit-node .kept .0) (c .before .before .before .before .short-circuit-node .ensures)
 
 short-circuit-own-start-requires : (t : ℕ) → short-circuit-lts.Need-own-start-requires (short-circuit-claims t) (short-circuit-at t) short-circuit.Post
-short-circuit-own-start-requires t c κs = node-there (c .before .before .before .before .before .before .before .before .pre .1 .0)
+short-circuit-own-start-requires t c κs = node-there (c .before .before .before .before .before .before .before .pre .1 .0)
 
 short-circuit-sub-back : (t : ℕ) → short-circuit-lts.Need-sub-back (short-circuit-claims t) (short-circuit-at t) short-circuit.Post
-short-circuit-sub-back t c = omega (arith, (own-in (c .before .before .before .before .before .before .before .before .before .pre .1 .0 .stream) (c .own-start .ensures)) .1 .0)
+short-circuit-sub-back t c = omega (arith, (own-in (c .before .before .before .before .before .before .before .before .pre .1 .0 .stream) (c .own-start .ensures)) .1 .0)
 
 short-circuit-add-back : (t : ℕ) → short-circuit-lts.Need-add-back (short-circuit-claims t) (short-circuit-at t) short-circuit.Post
-short-circuit-add-back t c = record { fits = omega (arith, (own-in (c .before .before .before .before .before .before .before .before .before .pre .1 .0 .stream) (c .own-start .ensures)) .1 .1) }
+short-circuit-add-back t c = record { fits = omega (arith, (own-in (c .before .before .before .before .before .before .before .before .pre .1 .0 .stream) (c .own-start .ensures)) .1 .1) }
 
 short-circuit-descend-bare-requires : (t : ℕ) → short-circuit-lts.Need-descend-bare-requires (short-circuit-claims t) (short-circuit-at t) short-circuit.Post
-short-circuit-descend-bare-requires t c κs = node-there (source-at (c .before .before .before .before .before .before .before .before .before .before .pre .1 .0) (counted-as (c .before .before .before .source-count .ensures) (c .if2 .taken)) (c .before .own-start .ensures))
+short-circuit-descend-bare-requires t c κs = node-there (source-at (c .before .before .before .before .before .before .before .before .before .pre .1 .0) (counted-as (c .before .before .before .source-count .ensures) (c .if2 .taken)) (c .before .own-start .ensures))
 
 short-circuit-sub-behind : (t : ℕ) → short-circuit-lts.Need-sub-behind (short-circuit-claims t) (short-circuit-at t) short-circuit.Post
 short-circuit-sub-behind t c = bare-in (c .descend-bare .ensures .down)
 
 short-circuit-add-behind : (t : ℕ) → short-circuit-lts.Need-add-behind (short-circuit-claims t) (short-circuit-at t) short-circuit.Post
-short-circuit-add-behind t c = let h = below-at (c .descend-bare .ensures .down) (source-at (c .before .before .before .before .before .before .before .before .before .before .before .pre .1 .0) (counted-as (c .before .before .before .before .source-count .ensures) (c .before .if2 .taken)) (c .before .before .own-start .ensures)) .stream .reading .fits in omega (arith, c .before .before .before .before .before .before .before .before .before .before .before .pre .1 .0 .stream .short-out)
+short-circuit-add-behind t c = let h = below-at (c .descend-bare .ensures .down) (source-at (c .before .before .before .before .before .before .before .before .before .before .pre .1 .0) (counted-as (c .before .before .before .before .source-count .ensures) (c .before .if2 .taken)) (c .before .before .own-start .ensures)) .stream .reading .fits in omega (arith, c .before .before .before .before .before .before .before .before .before .before .pre .1 .0 .stream .short-out)
 
 short-circuit-short-circuit-source-requires : (t : ℕ) → short-circuit-lts.Need-short-circuit-source-requires (short-circuit-claims t) (short-circuit-at t) short-circuit.Post
-short-circuit-short-circuit-source-requires t c κs = (omega (arith, c .before .before .before .before .before .before .before .before .before .before .before .before .before .pre .0, (own-in (c .before .before .before .before .before .before .before .before .before .before .before .before .before .pre .1 .0 .stream) (c .before .before .before .before .own-start .ensures)) .0, (own-in (c .before .before .before .before .before .before .before .before .before .before .before .before .before .pre .1 .0 .stream) (c .before .before .before .before .own-start .ensures)) .1 .0, bare-in (c .before .before .descend-bare .ensures .down)), (below-at (c .before .before .descend-bare .ensures .down) (source-at (c .before .before .before .before .before .before .before .before .before .before .before .before .before .pre .1 .0) (counted-as (c .before .before .before .before .before .before .source-count .ensures) (c .before .before .before .if2 .taken)) (c .before .before .before .before .own-start .ensures)), c .before .before .before .before .before .before .before .before .before .before .before .before .before .pre .1 .1))
+short-circuit-short-circuit-source-requires t c κs = (omega (arith, c .before .before .before .before .before .before .before .before .before .before .before .before .pre .0, (own-in (c .before .before .before .before .before .before .before .before .before .before .before .before .pre .1 .0 .stream) (c .before .before .before .before .own-start .ensures)) .0, (own-in (c .before .before .before .before .before .before .before .before .before .before .before .before .pre .1 .0 .stream) (c .before .before .before .before .own-start .ensures)) .1 .0, bare-in (c .before .before .descend-bare .ensures .down)), (below-at (c .before .before .descend-bare .ensures .down) (source-at (c .before .before .before .before .before .before .before .before .before .before .before .before .pre .1 .0) (counted-as (c .before .before .before .before .before .before .source-count .ensures) (c .before .before .before .if2 .taken)) (c .before .before .before .before .own-start .ensures)), c .before .before .before .before .before .before .before .before .before .before .before .before .pre .1 .1))
 
 short-circuit-climb-requires : (t : ℕ) → short-circuit-lts.Need-climb-requires (short-circuit-claims t) (short-circuit-at t) short-circuit.Post
-short-circuit-climb-requires t c κs = (record { lo = c .before .before .before .before .before .before .before .before .before .before .before .before .before .before .before .before .before .before .before .before .args .lo; y₀ = c .before .before .before .before .before .before .before .before .before .before .before .before .before .before .before .before .before .before .before .before .args .y .now; is = (record { bare = (c .before .before .before .before .before .before .before .before .before .descend-bare .ensures .down); given = (source-at (c .before .before .before .before .before .before .before .before .before .before .before .before .before .before .before .before .before .before .before .before .pre .1 .0) (counted-as (c .before .before .before .before .before .before .before .before .before .before .before .before .before .source-count .ensures) (c .before .before .before .before .before .before .before .before .before .before .if2 .taken)) (c .before .before .before .before .before .before .before .before .before .before .before .own-start .ensures)); long = c .before .before .before .before .before .before .short-circuit-source .kept .1 .1 .1 .1 .0; below = c .before .before .before .before .before .before .short-circuit-source .ensures }) }, c .before .before .before .before .before .before .short-circuit-source .kept .1 .1 .1 .1 .1 .1 .0 ∙ c .before .before .before .before .before .before .before .before .before .before .before .before .before .before .before .before .before .before .before .before .pre .1 .1 ∙ sym (c .before .before .before .before .before .before .short-circuit-source .kept .1 .1 .1 .1 .0))
+short-circuit-climb-requires t c κs = (record { lo = c .before .before .before .before .before .before .before .before .before .before .before .before .before .before .before .before .before .before .before .args .lo; y₀ = c .before .before .before .before .before .before .before .before .before .before .before .before .before .before .before .before .before .before .before .args .y .now; is = (record { bare = (c .before .before .before .before .before .before .before .before .before .descend-bare .ensures .down); given = (source-at (c .before .before .before .before .before .before .before .before .before .before .before .before .before .before .before .before .before .before .before .pre .1 .0) (counted-as (c .before .before .before .before .before .before .before .before .before .before .before .before .before .source-count .ensures) (c .before .before .before .before .before .before .before .before .before .before .if2 .taken)) (c .before .before .before .before .before .before .before .before .before .before .before .own-start .ensures)); long = c .before .before .before .before .before .before .short-circuit-source .kept .1 .1 .1 .1 .0; below = c .before .before .before .before .before .before .short-circuit-source .ensures }) }, c .before .before .before .before .before .before .short-circuit-source .kept .1 .1 .1 .1 .1 .1 .0 ∙ c .before .before .before .before .before .before .before .before .before .before .before .before .before .before .before .before .before .before .before .pre .1 .1 ∙ sym (c .before .before .before .before .before .before .short-circuit-source .kept .1 .1 .1 .1 .0))
 
 short-circuit-same-length-3 : (t : ℕ) → short-circuit-lts.Need-same-length-3 (short-circuit-claims t) (short-circuit-at t) short-circuit.Post
 short-circuit-same-length-3 t c = c .before .before .before .before .before .climb .kept .1 .1 .1 .1 .0 ∙ c .before .before .before .before .before .before .before .before .before .before .before .before .short-circuit-source .kept .1 .1 .1 .1 .0
@@ -116,13 +116,13 @@ short-circuit-same-length-4 : (t : ℕ) → short-circuit-lts.Need-same-length-4
 short-circuit-same-length-4 t c = c .before .before .before .before .before .climb .kept .1 .1 .1 .1 .1 .1 .1 .0 ∙ c .before .before .before .before .before .before .before .before .before .before .before .before .short-circuit-source .kept .1 .1 .1 .1 .1 .1 .0
 
 short-circuit-returns-2 : (t : ℕ) → short-circuit-lts.Need-returns-2 (short-circuit-claims t) (short-circuit-at t) short-circuit.Post
-short-circuit-returns-2 t c = over-stop (counted-as (c .before .before .before .before .before .before .before .before .before .before .before .before .before .before .before .before .before .before .before .source-count .ensures) (c .before .before .before .before .before .before .before .before .before .before .before .before .before .before .before .before .if2 .taken)) (c .before .before .before .before .before .before .before .before .before .before .before .before .before .before .before .before .before .own-start .ensures) (c .before .before .before .before .before .climb .ensures (c .before .before .before .before .before .before .before .before .before .before .before .before .before .before .before .before .before .before .before .before .before .before .before .before .before .before .args .lo) (c .before .before .before .before .before .before .before .before .before .before .before .before .before .before .before .before .before .before .before .before .before .before .before .before .before .before .args .y .now) (record { bare = (c .before .before .before .before .before .before .before .before .before .before .before .before .before .before .before .descend-bare .ensures .down); given = (source-at (c .before .before .before .before .before .before .before .before .before .before .before .before .before .before .before .before .before .before .before .before .before .before .before .before .before .before .pre .1 .0) (counted-as (c .before .before .before .before .before .before .before .before .before .before .before .before .before .before .before .before .before .before .before .source-count .ensures) (c .before .before .before .before .before .before .before .before .before .before .before .before .before .before .before .before .if2 .taken)) (c .before .before .before .before .before .before .before .before .before .before .before .before .before .before .before .before .before .own-start .ensures)); long = c .before .before .before .before .before .before .before .before .before .before .before .before .short-circuit-source .kept .1 .1 .1 .1 .0; below = c .before .before .before .before .before .before .before .before .before .before .before .before .short-circuit-source .ensures })) (c .if3 .taken)
+short-circuit-returns-2 t c = over-stop (counted-as (c .before .before .before .before .before .before .before .before .before .before .before .before .before .before .before .before .before .before .before .source-count .ensures) (c .before .before .before .before .before .before .before .before .before .before .before .before .before .before .before .before .if2 .taken)) (c .before .before .before .before .before .before .before .before .before .before .before .before .before .before .before .before .before .own-start .ensures) (c .before .before .before .before .before .climb .ensures (c .before .before .before .before .before .before .before .before .before .before .before .before .before .before .before .before .before .before .before .before .before .before .before .before .before .args .lo) (c .before .before .before .before .before .before .before .before .before .before .before .before .before .before .before .before .before .before .before .before .before .before .before .before .before .args .y .now) (record { bare = (c .before .before .before .before .before .before .before .before .before .before .before .before .before .before .before .descend-bare .ensures .down); given = (source-at (c .before .before .before .before .before .before .before .before .before .before .before .before .before .before .before .before .before .before .before .before .before .before .before .before .before .pre .1 .0) (counted-as (c .before .before .before .before .before .before .before .before .before .before .before .before .before .before .before .before .before .before .before .source-count .ensures) (c .before .before .before .before .before .before .before .before .before .before .before .before .before .before .before .before .if2 .taken)) (c .before .before .before .before .before .before .before .before .before .before .before .before .before .before .before .before .before .own-start .ensures)); long = c .before .before .before .before .before .before .before .before .before .before .before .before .short-circuit-source .kept .1 .1 .1 .1 .0; below = c .before .before .before .before .before .before .before .before .before .before .before .before .short-circuit-source .ensures })) (c .if3 .taken)
 
 short-circuit-finish-requires : (t : ℕ) → short-circuit-lts.Need-finish-requires (short-circuit-claims t) (short-circuit-at t) short-circuit.Post
-short-circuit-finish-requires t c κs = ((own-in (c .before .before .before .before .before .before .before .before .before .before .before .before .before .before .before .before .before .before .before .before .before .before .before .before .before .before .before .pre .1 .0 .stream) (c .before .before .before .before .before .before .before .before .before .before .before .before .before .before .before .before .before .before .own-start .ensures)) .1 .0, node-inside (c .before .before .before .before .before .before .before .before .before .before .before .before .before .before .before .before .before .before .before .before .before .before .before .before .before .before .before .pre .1 .0) .1)
+short-circuit-finish-requires t c κs = ((own-in (c .before .before .before .before .before .before .before .before .before .before .before .before .before .before .before .before .before .before .before .before .before .before .before .before .before .before .pre .1 .0 .stream) (c .before .before .before .before .before .before .before .before .before .before .before .before .before .before .before .before .before .before .own-start .ensures)) .1 .0, node-inside (c .before .before .before .before .before .before .before .before .before .before .before .before .before .before .before .before .before .before .before .before .before .before .before .before .before .before .pre .1 .0) .1)
 
 short-circuit-short-circuit-node-requires-2 : (t : ℕ) → short-circuit-lts.Need-short-circuit-node-requires-2 (short-circuit-claims t) (short-circuit-at t) short-circuit.Post
-short-circuit-short-circuit-node-requires-2 t c κs = let (a, b) = over-ready (c .before .before .before .before .before .before .before .before .before .before .before .before .before .before .before .before .before .before .before .before .before .before .before .before .before .before .before .before .before .before .before .before .pre .1 .0) (counted-as (c .before .before .before .before .before .before .before .before .before .before .before .before .before .before .before .before .before .before .before .before .before .before .before .before .before .source-count .ensures) (c .before .before .before .before .before .before .before .before .before .before .before .before .before .before .before .before .before .before .before .before .before .before .if2 .taken)) (c .before .before .before .before .before .before .before .before .before .before .before .before .before .before .before .before .before .before .before .before .before .before .before .own-start .ensures) (c .before .before .before .before .before .before .before .before .before .before .before .climb .kept .1 .1 .1 .1 .0 ∙ c .before .before .before .before .before .before .before .before .before .before .before .before .before .before .before .before .before .before .short-circuit-source .kept .1 .1 .1 .1 .0) (c .before .before .before .before .before .before .before .before .before .before .before .climb .ensures (c .before .before .before .before .before .before .before .before .before .before .before .before .before .before .before .before .before .before .before .before .before .before .before .before .before .before .before .before .before .before .before .before .args .lo) (c .before .before .before .before .before .before .before .before .before .before .before .before .before .before .before .before .before .before .before .before .before .before .before .before .before .before .before .before .before .before .before .before .args .y .now) (record { bare = (c .before .before .before .before .before .before .before .before .before .before .before .before .before .before .before .before .before .before .before .before .before .descend-bare .ensures .down); given = (source-at (c .before .before .before .before .before .before .before .before .before .before .before .before .before .before .before .before .before .before .before .before .before .before .before .before .before .before .before .before .before .before .before .before .pre .1 .0) (counted-as (c .before .before .before .before .before .before .before .before .before .before .before .before .before .before .before .before .before .before .before .before .before .before .before .before .before .source-count .ensures) (c .before .before .before .before .before .before .before .before .before .before .before .before .before .before .before .before .before .before .before .before .before .before .if2 .taken)) (c .before .before .before .before .before .before .before .before .before .before .before .before .before .before .before .before .before .before .before .before .before .before .before .own-start .ensures)); long = c .before .before .before .before .before .before .before .before .before .before .before .before .before .before .before .before .before .before .short-circuit-source .kept .1 .1 .1 .1 .0; below = c .before .before .before .before .before .before .before .before .before .before .before .before .before .before .before .before .before .before .short-circuit-source .ensures })) (c .before .before .before .before .before .before .if3 .left) (c .before .before .before .before .finish .kept .1 .1 .1 .0) (c .before .before .before .before .finish .ensures) in (a, (names-at (c .before .before .before .before .before .before .before .before .before .before .before .before .before .before .before .before .before .before .before .before .before .before .before .before .before .before .before .before .before .before .before .before .pre .1 .0), (c .before .before .before .before .before .before .before .before .before .before .before .climb .kept .1 .1 .1 .1 .1 .1 .1 .0 ∙ c .before .before .before .before .before .before .before .before .before .before .before .before .before .before .before .before .before .before .short-circuit-source .kept .1 .1 .1 .1 .1 .1 .0 ∙ c .before .before .before .before .before .before .before .before .before .before .before .before .before .before .before .before .before .before .before .before .before .before .before .before .before .before .before .before .before .before .before .before .pre .1 .1 ∙ sym (c .before .before .before .before .finish .kept .1 .1 .1 .0 ∙ c .before .before .before .before .before .before .before .before .before .before .before .climb .kept .1 .1 .1 .1 .0 ∙ c .before .before .before .before .before .before .before .before .before .before .before .before .before .before .before .before .before .before .short-circuit-source .kept .1 .1 .1 .1 .0), b)))
+short-circuit-short-circuit-node-requires-2 t c κs = let (a, b) = over-ready (c .before .before .before .before .before .before .before .before .before .before .before .before .before .before .before .before .before .before .before .before .before .before .before .before .before .before .before .before .before .before .before .pre .1 .0) (counted-as (c .before .before .before .before .before .before .before .before .before .before .before .before .before .before .before .before .before .before .before .before .before .before .before .before .before .source-count .ensures) (c .before .before .before .before .before .before .before .before .before .before .before .before .before .before .before .before .before .before .before .before .before .before .if2 .taken)) (c .before .before .before .before .before .before .before .before .before .before .before .before .before .before .before .before .before .before .before .before .before .before .before .own-start .ensures) (c .before .before .before .before .before .before .before .before .before .before .before .climb .kept .1 .1 .1 .1 .0 ∙ c .before .before .before .before .before .before .before .before .before .before .before .before .before .before .before .before .before .before .short-circuit-source .kept .1 .1 .1 .1 .0) (c .before .before .before .before .before .before .before .before .before .before .before .climb .ensures (c .before .before .before .before .before .before .before .before .before .before .before .before .before .before .before .before .before .before .before .before .before .before .before .before .before .before .before .before .before .before .before .args .lo) (c .before .before .before .before .before .before .before .before .before .before .before .before .before .before .before .before .before .before .before .before .before .before .before .before .before .before .before .before .before .before .before .args .y .now) (record { bare = (c .before .before .before .before .before .before .before .before .before .before .before .before .before .before .before .before .before .before .before .before .before .descend-bare .ensures .down); given = (source-at (c .before .before .before .before .before .before .before .before .before .before .before .before .before .before .before .before .before .before .before .before .before .before .before .before .before .before .before .before .before .before .before .pre .1 .0) (counted-as (c .before .before .before .before .before .before .before .before .before .before .before .before .before .before .before .before .before .before .before .before .before .before .before .before .before .source-count .ensures) (c .before .before .before .before .before .before .before .before .before .before .before .before .before .before .before .before .before .before .before .before .before .before .if2 .taken)) (c .before .before .before .before .before .before .before .before .before .before .before .before .before .before .before .before .before .before .before .before .before .before .before .own-start .ensures)); long = c .before .before .before .before .before .before .before .before .before .before .before .before .before .before .before .before .before .before .short-circuit-source .kept .1 .1 .1 .1 .0; below = c .before .before .before .before .before .before .before .before .before .before .before .before .before .before .before .before .before .before .short-circuit-source .ensures })) (c .before .before .before .before .before .before .if3 .left) (c .before .before .before .before .finish .kept .1 .1 .1 .0) (c .before .before .before .before .finish .ensures) in (a, (records-at (c .before .before .before .before .before .before .before .before .before .before .before .before .before .before .before .before .before .before .before .before .before .before .before .before .before .before .before .before .before .before .before .pre .1 .0), (c .before .before .before .before .before .before .before .before .before .before .before .climb .kept .1 .1 .1 .1 .1 .1 .1 .0 ∙ c .before .before .before .before .before .before .before .before .before .before .before .before .before .before .before .before .before .before .short-circuit-source .kept .1 .1 .1 .1 .1 .1 .0 ∙ c .before .before .before .before .before .before .before .before .before .before .before .before .before .before .before .before .before .before .before .before .before .before .before .before .before .before .before .before .before .before .before .pre .1 .1 ∙ sym (c .before .before .before .before .finish .kept .1 .1 .1 .0 ∙ c .before .before .before .before .before .before .before .before .before .before .before .climb .kept .1 .1 .1 .1 .0 ∙ c .before .before .before .before .before .before .before .before .before .before .before .before .before .before .before .before .before .before .short-circuit-source .kept .1 .1 .1 .1 .0), b)))
 
 short-circuit-same-length-5 : (t : ℕ) → short-circuit-lts.Need-same-length-5 (short-circuit-claims t) (short-circuit-at t) short-circuit.Post
 short-circuit-same-length-5 t c = c .before .before .before .before .short-circuit-node2 .kept .0 ∙ c .before .before .before .before .before .before .before .before .before .finish .kept .1 .1 .1 .0 ∙ c .before .before .before .before .before .before .before .before .before .before .before .before .before .before .before .before .climb .kept .1 .1 .1 .1 .0 ∙ c .before .before .before .before .before .before .before .before .before .before .before .before .before .before .before .before .before .before .before .before .before .before .before .short-circuit-source .kept .1 .1 .1 .1 .0
@@ -131,19 +131,19 @@ short-circuit-same-length-6 : (t : ℕ) → short-circuit-lts.Need-same-length-6
 short-circuit-same-length-6 t c = c .before .before .before .before .short-circuit-node2 .kept .1 .1 .1 .1 .0 ∙ c .before .before .before .before .before .before .before .before .before .before .before .before .before .before .before .before .climb .kept .1 .1 .1 .1 .1 .1 .1 .0 ∙ c .before .before .before .before .before .before .before .before .before .before .before .before .before .before .before .before .before .before .before .before .before .before .before .short-circuit-source .kept .1 .1 .1 .1 .1 .1 .0
 
 short-circuit-returns-3 : (t : ℕ) → short-circuit-lts.Need-returns-3 (short-circuit-claims t) (short-circuit-at t) short-circuit.Post
-short-circuit-returns-3 t c = over-circuits (counted-as (c .before .before .before .before .before .before .before .before .before .before .before .before .before .before .before .before .before .before .before .before .before .before .before .before .before .before .before .before .before .before .source-count .ensures) (c .before .before .before .before .before .before .before .before .before .before .before .before .before .before .before .before .before .before .before .before .before .before .before .before .before .before .before .if2 .taken)) (c .before .before .before .before .before .before .before .before .before .before .before .before .before .before .before .before .before .before .before .before .before .before .before .before .before .before .before .before .own-start .ensures) (c .before .before .before .before .before .before .before .before .before .before .before .before .before .before .before .before .climb .ensures (c .before .before .before .before .before .before .before .before .before .before .before .before .before .before .before .before .before .before .before .before .before .before .before .before .before .before .before .before .before .before .before .before .before .before .before .before .before .args .lo) (c .before .before .before .before .before .before .before .before .before .before .before .before .before .before .before .before .before .before .before .before .before .before .before .before .before .before .before .before .before .before .before .before .before .before .before .before .before .args .y .now) (record { bare = (c .before .before .before .before .before .before .before .before .before .before .before .before .before .before .before .before .before .before .before .before .before .before .before .before .before .before .descend-bare .ensures .down); given = (source-at (c .before .before .before .before .before .before .before .before .before .before .before .before .before .before .before .before .before .before .before .before .before .before .before .before .before .before .before .before .before .before .before .before .before .before .before .before .before .pre .1 .0) (counted-as (c .before .before .before .before .before .before .before .before .before .before .before .before .before .before .before .before .before .before .before .before .before .before .before .before .before .before .before .before .before .before .source-count .ensures) (c .before .before .before .before .before .before .before .before .before .before .before .before .before .before .before .before .before .before .before .before .before .before .before .before .before .before .before .if2 .taken)) (c .before .before .before .before .before .before .before .before .before .before .before .before .before .before .before .before .before .before .before .before .before .before .before .before .before .before .before .before .own-start .ensures)); long = c .before .before .before .before .before .before .before .before .before .before .before .before .before .before .before .before .before .before .before .before .before .before .before .short-circuit-source .kept .1 .1 .1 .1 .0; below = c .before .before .before .before .before .before .before .before .before .before .before .before .before .before .before .before .before .before .before .before .before .before .before .short-circuit-source .ensures })) (c .before .before .before .before .before .before .before .before .before .before .before .before .before .before .before .before .climb .kept .1 .1 .1 .1 .0 ∙ c .before .before .before .before .before .before .before .before .before .before .before .before .before .before .before .before .before .before .before .before .before .before .before .short-circuit-source .kept .1 .1 .1 .1 .0) (c .before .before .before .before .before .before .before .before .before .before .before .if3 .left) (c .before .before .before .before .before .before .before .before .before .finish .kept .1 .1 .1 .0) (c .before .before .before .before .before .before .before .before .before .finish .ensures) (c .before .before .before .before .short-circuit-node2 .kept .0) (c .before .before .before .before .short-circuit-node2 .ensures)
+short-circuit-returns-3 t c = over-circuits (counted-as (c .before .before .before .before .before .before .before .before .before .before .before .before .before .before .before .before .before .before .before .before .before .before .before .before .before .before .before .before .before .before .source-count .ensures) (c .before .before .before .before .before .before .before .before .before .before .before .before .before .before .before .before .before .before .before .before .before .before .before .before .before .before .before .if2 .taken)) (c .before .before .before .before .before .before .before .before .before .before .before .before .before .before .before .before .before .before .before .before .before .before .before .before .before .before .before .before .own-start .ensures) (c .before .before .before .before .before .before .before .before .before .before .before .before .before .before .before .before .climb .ensures (c .before .before .before .before .before .before .before .before .before .before .before .before .before .before .before .before .before .before .before .before .before .before .before .before .before .before .before .before .before .before .before .before .before .before .before .before .args .lo) (c .before .before .before .before .before .before .before .before .before .before .before .before .before .before .before .before .before .before .before .before .before .before .before .before .before .before .before .before .before .before .before .before .before .before .before .before .args .y .now) (record { bare = (c .before .before .before .before .before .before .before .before .before .before .before .before .before .before .before .before .before .before .before .before .before .before .before .before .before .before .descend-bare .ensures .down); given = (source-at (c .before .before .before .before .before .before .before .before .before .before .before .before .before .before .before .before .before .before .before .before .before .before .before .before .before .before .before .before .before .before .before .before .before .before .before .before .pre .1 .0) (counted-as (c .before .before .before .before .before .before .before .before .before .before .before .before .before .before .before .before .before .before .before .before .before .before .before .before .before .before .before .before .before .before .source-count .ensures) (c .before .before .before .before .before .before .before .before .before .before .before .before .before .before .before .before .before .before .before .before .before .before .before .before .before .before .before .if2 .taken)) (c .before .before .before .before .before .before .before .before .before .before .before .before .before .before .before .before .before .before .before .before .before .before .before .before .before .before .before .before .own-start .ensures)); long = c .before .before .before .before .before .before .before .before .before .before .before .before .before .before .before .before .before .before .before .before .before .before .before .short-circuit-source .kept .1 .1 .1 .1 .0; below = c .before .before .before .before .before .before .before .before .before .before .before .before .before .before .before .before .before .before .before .before .before .before .before .short-circuit-source .ensures })) (c .before .before .before .before .before .before .before .before .before .before .before .before .before .before .before .before .climb .kept .1 .1 .1 .1 .0 ∙ c .before .before .before .before .before .before .before .before .before .before .before .before .before .before .before .before .before .before .before .before .before .before .before .short-circuit-source .kept .1 .1 .1 .1 .0) (c .before .before .before .before .before .before .before .before .before .before .before .if3 .left) (c .before .before .before .before .before .before .before .before .before .finish .kept .1 .1 .1 .0) (c .before .before .before .before .before .before .before .before .before .finish .ensures) (c .before .before .before .before .short-circuit-node2 .kept .0) (c .before .before .before .before .short-circuit-node2 .ensures)
 
 short-circuit-start-requires : (t : ℕ) → short-circuit-lts.Need-start-requires (short-circuit-claims t) (short-circuit-at t) short-circuit.Post
-short-circuit-start-requires t c κs = join-sized (two-left (c .before .before .before .source-count .ensures) (c .before .before .if1 .left) (c .if2 .left)) (c .before .own-start .ensures) (node-there (c .before .before .before .before .before .before .before .before .before .before .pre .1 .0))
+short-circuit-start-requires t c κs = join-sized (two-left (c .before .before .before .source-count .ensures) (c .before .before .if1 .left) (c .if2 .left)) (c .before .own-start .ensures) (node-there (c .before .before .before .before .before .before .before .before .before .pre .1 .0))
 
 short-circuit-sub-behind-2 : (t : ℕ) → short-circuit-lts.Need-sub-behind-2 (short-circuit-claims t) (short-circuit-at t) short-circuit.Post
-short-circuit-sub-behind-2 t c = omega (arith, (mid-in (two-left (c .before .before .before .before .source-count .ensures) (c .before .before .before .if1 .left) (c .before .if2 .left)) refl (c .before .before .own-start .ensures) (c .start .ensures) (c .before .before .before .before .before .before .before .before .before .before .before .pre .1 .0 .stream)) .1 .0, (own-in (c .before .before .before .before .before .before .before .before .before .before .before .pre .1 .0 .stream) (c .before .before .own-start .ensures)) .1 .0)
+short-circuit-sub-behind-2 t c = omega (arith, (mid-in (two-left (c .before .before .before .before .source-count .ensures) (c .before .before .before .if1 .left) (c .before .if2 .left)) refl (c .before .before .own-start .ensures) (c .start .ensures) (c .before .before .before .before .before .before .before .before .before .before .pre .1 .0 .stream)) .1 .0, (own-in (c .before .before .before .before .before .before .before .before .before .before .pre .1 .0 .stream) (c .before .before .own-start .ensures)) .1 .0)
 
 short-circuit-add-behind-2 : (t : ℕ) → short-circuit-lts.Need-add-behind-2 (short-circuit-claims t) (short-circuit-at t) short-circuit.Post
-short-circuit-add-behind-2 t c = record { fits = omega (arith, (mid-in (two-left (c .before .before .before .before .source-count .ensures) (c .before .before .before .if1 .left) (c .before .if2 .left)) refl (c .before .before .own-start .ensures) (c .start .ensures) (c .before .before .before .before .before .before .before .before .before .before .before .pre .1 .0 .stream)) .1 .1) }
+short-circuit-add-behind-2 t c = record { fits = omega (arith, (mid-in (two-left (c .before .before .before .before .source-count .ensures) (c .before .before .before .if1 .left) (c .before .if2 .left)) refl (c .before .before .own-start .ensures) (c .start .ensures) (c .before .before .before .before .before .before .before .before .before .before .pre .1 .0 .stream)) .1 .1) }
 
 short-circuit-short-circuit-source-requires-2 : (t : ℕ) → short-circuit-lts.Need-short-circuit-source-requires-2 (short-circuit-claims t) (short-circuit-at t) short-circuit.Post
-short-circuit-short-circuit-source-requires-2 t c κs = (omega (arith, c .before .before .before .before .before .before .before .before .before .before .before .before .before .pre .0, (mid-in (two-left (c .before .before .before .before .before .before .source-count .ensures) (c .before .before .before .before .before .if1 .left) (c .before .before .before .if2 .left)) refl (c .before .before .before .before .own-start .ensures) (c .before .before .start .ensures) (c .before .before .before .before .before .before .before .before .before .before .before .before .before .pre .1 .0 .stream)) .0, (mid-in (two-left (c .before .before .before .before .before .before .source-count .ensures) (c .before .before .before .before .before .if1 .left) (c .before .before .before .if2 .left)) refl (c .before .before .before .before .own-start .ensures) (c .before .before .start .ensures) (c .before .before .before .before .before .before .before .before .before .before .before .before .before .pre .1 .0 .stream)) .1 .0, (own-in (c .before .before .before .before .before .before .before .before .before .before .before .before .before .pre .1 .0 .stream) (c .before .before .before .before .own-start .ensures)) .1 .0), (left-at (c .before .before .before .before .before .before .before .before .before .before .before .before .before .pre .1 .0) (two-left (c .before .before .before .before .before .before .source-count .ensures) (c .before .before .before .before .before .if1 .left) (c .before .before .before .if2 .left)) (c .before .before .before .before .own-start .ensures) (c .before .before .start .ensures), c .before .before .before .before .before .before .before .before .before .before .before .before .before .pre .1 .1))
+short-circuit-short-circuit-source-requires-2 t c κs = (omega (arith, c .before .before .before .before .before .before .before .before .before .before .before .before .pre .0, (mid-in (two-left (c .before .before .before .before .before .before .source-count .ensures) (c .before .before .before .before .before .if1 .left) (c .before .before .before .if2 .left)) refl (c .before .before .before .before .own-start .ensures) (c .before .before .start .ensures) (c .before .before .before .before .before .before .before .before .before .before .before .before .pre .1 .0 .stream)) .0, (mid-in (two-left (c .before .before .before .before .before .before .source-count .ensures) (c .before .before .before .before .before .if1 .left) (c .before .before .before .if2 .left)) refl (c .before .before .before .before .own-start .ensures) (c .before .before .start .ensures) (c .before .before .before .before .before .before .before .before .before .before .before .before .pre .1 .0 .stream)) .1 .0, (own-in (c .before .before .before .before .before .before .before .before .before .before .before .before .pre .1 .0 .stream) (c .before .before .before .before .own-start .ensures)) .1 .0), (left-at (c .before .before .before .before .before .before .before .before .before .before .before .before .pre .1 .0) (two-left (c .before .before .before .before .before .before .source-count .ensures) (c .before .before .before .before .before .if1 .left) (c .before .before .before .if2 .left)) (c .before .before .before .before .own-start .ensures) (c .before .before .start .ensures), c .before .before .before .before .before .before .before .before .before .before .before .before .pre .1 .1))
 
 short-circuit-same-length-7 : (t : ℕ) → short-circuit-lts.Need-same-length-7 (short-circuit-claims t) (short-circuit-at t) short-circuit.Post
 short-circuit-same-length-7 t c = c .before .before .before .before .before .short-circuit-source2 .kept .1 .1 .1 .1 .0
@@ -155,7 +155,7 @@ short-circuit-returns-4 : (t : ℕ) → short-circuit-lts.Need-returns-4 (short-
 short-circuit-returns-4 t c = left-stop (two-left (c .before .before .before .before .before .before .before .before .before .before .before .before .source-count .ensures) (c .before .before .before .before .before .before .before .before .before .before .before .if1 .left) (c .before .before .before .before .before .before .before .before .before .if2 .left)) (c .before .before .before .before .before .before .before .before .before .before .own-start .ensures) (c .before .before .before .before .before .before .before .before .start .ensures) (c .before .before .before .before .before .short-circuit-source2 .ensures) (c .if4 .taken)
 
 short-circuit-short-circuit-source-requires-3 : (t : ℕ) → short-circuit-lts.Need-short-circuit-source-requires-3 (short-circuit-claims t) (short-circuit-at t) short-circuit.Post
-short-circuit-short-circuit-source-requires-3 t c κs = (omega (arith, c .before .before .before .before .before .before .before .before .before .before .before .before .before .before .before .before .before .before .before .before .before .pre .0, (mid-in (two-left (c .before .before .before .before .before .before .before .before .before .before .before .before .before .before .source-count .ensures) (c .before .before .before .before .before .before .before .before .before .before .before .before .before .if1 .left) (c .before .before .before .before .before .before .before .before .before .before .before .if2 .left)) refl (c .before .before .before .before .before .before .before .before .before .before .before .before .own-start .ensures) (c .before .before .before .before .before .before .before .before .before .before .start .ensures) (c .before .before .before .before .before .before .before .before .before .before .before .before .before .before .before .before .before .before .before .before .before .pre .1 .0 .stream)) .0, (mid-in (two-left (c .before .before .before .before .before .before .before .before .before .before .before .before .before .before .source-count .ensures) (c .before .before .before .before .before .before .before .before .before .before .before .before .before .if1 .left) (c .before .before .before .before .before .before .before .before .before .before .before .if2 .left)) refl (c .before .before .before .before .before .before .before .before .before .before .before .before .own-start .ensures) (c .before .before .before .before .before .before .before .before .before .before .start .ensures) (c .before .before .before .before .before .before .before .before .before .before .before .before .before .before .before .before .before .before .before .before .before .pre .1 .0 .stream)) .1 .0, (own-in (c .before .before .before .before .before .before .before .before .before .before .before .before .before .before .before .before .before .before .before .before .before .pre .1 .0 .stream) (c .before .before .before .before .before .before .before .before .before .before .before .before .own-start .ensures)) .1 .0), (right-at (c .before .before .before .before .before .before .before .before .before .before .before .before .before .before .before .before .before .before .before .before .before .pre .1 .0) (two-left (c .before .before .before .before .before .before .before .before .before .before .before .before .before .before .source-count .ensures) (c .before .before .before .before .before .before .before .before .before .before .before .before .before .if1 .left) (c .before .before .before .before .before .before .before .before .before .before .before .if2 .left)) (c .before .before .before .before .before .before .before .before .before .before .before .before .own-start .ensures) (c .before .before .before .before .before .before .before .before .before .before .start .ensures) (c .before .before .before .before .before .before .before .short-circuit-source2 .kept .1 .1 .1 .1 .0) (c .before .before .before .before .before .before .before .short-circuit-source2 .ensures) (c .before .before .if4 .left), c .before .before .before .before .before .before .before .short-circuit-source2 .kept .1 .1 .1 .1 .1 .1 .0 ∙ c .before .before .before .before .before .before .before .before .before .before .before .before .before .before .before .before .before .before .before .before .before .pre .1 .1 ∙ sym (c .before .before .before .before .before .before .before .short-circuit-source2 .kept .1 .1 .1 .1 .0)))
+short-circuit-short-circuit-source-requires-3 t c κs = (omega (arith, c .before .before .before .before .before .before .before .before .before .before .before .before .before .before .before .before .before .before .before .before .pre .0, (mid-in (two-left (c .before .before .before .before .before .before .before .before .before .before .before .before .before .before .source-count .ensures) (c .before .before .before .before .before .before .before .before .before .before .before .before .before .if1 .left) (c .before .before .before .before .before .before .before .before .before .before .before .if2 .left)) refl (c .before .before .before .before .before .before .before .before .before .before .before .before .own-start .ensures) (c .before .before .before .before .before .before .before .before .before .before .start .ensures) (c .before .before .before .before .before .before .before .before .before .before .before .before .before .before .before .before .before .before .before .before .pre .1 .0 .stream)) .0, (mid-in (two-left (c .before .before .before .before .before .before .before .before .before .before .before .before .before .before .source-count .ensures) (c .before .before .before .before .before .before .before .before .before .before .before .before .before .if1 .left) (c .before .before .before .before .before .before .before .before .before .before .before .if2 .left)) refl (c .before .before .before .before .before .before .before .before .before .before .before .before .own-start .ensures) (c .before .before .before .before .before .before .before .before .before .before .start .ensures) (c .before .before .before .before .before .before .before .before .before .before .before .before .before .before .before .before .before .before .before .before .pre .1 .0 .stream)) .1 .0, (own-in (c .before .before .before .before .before .before .before .before .before .before .before .before .before .before .before .before .before .before .before .before .pre .1 .0 .stream) (c .before .before .before .before .before .before .before .before .before .before .before .before .own-start .ensures)) .1 .0), (right-at (c .before .before .before .before .before .before .before .before .before .before .before .before .before .before .before .before .before .before .before .before .pre .1 .0) (two-left (c .before .before .before .before .before .before .before .before .before .before .before .before .before .before .source-count .ensures) (c .before .before .before .before .before .before .before .before .before .before .before .before .before .if1 .left) (c .before .before .before .before .before .before .before .before .before .before .before .if2 .left)) (c .before .before .before .before .before .before .before .before .before .before .before .before .own-start .ensures) (c .before .before .before .before .before .before .before .before .before .before .start .ensures) (c .before .before .before .before .before .before .before .short-circuit-source2 .kept .1 .1 .1 .1 .0) (c .before .before .before .before .before .before .before .short-circuit-source2 .ensures) (c .before .before .if4 .left), c .before .before .before .before .before .before .before .short-circuit-source2 .kept .1 .1 .1 .1 .1 .1 .0 ∙ c .before .before .before .before .before .before .before .before .before .before .before .before .before .before .before .before .before .before .before .before .pre .1 .1 ∙ sym (c .before .before .before .before .before .before .before .short-circuit-source2 .kept .1 .1 .1 .1 .0)))
 
 short-circuit-same-length-9 : (t : ℕ) → short-circuit-lts.Need-same-length-9 (short-circuit-claims t) (short-circuit-at t) short-circuit.Post
 short-circuit-same-length-9 t c = c .before .before .before .before .before .short-circuit-source3 .kept .1 .1 .1 .1 .0 ∙ c .before .before .before .before .before .before .before .before .before .before .before .before .before .short-circuit-source2 .kept .1 .1 .1 .1 .0
@@ -167,10 +167,10 @@ short-circuit-returns-5 : (t : ℕ) → short-circuit-lts.Need-returns-5 (short-
 short-circuit-returns-5 t c = right-stop (two-left (c .before .before .before .before .before .before .before .before .before .before .before .before .before .before .before .before .before .before .before .before .source-count .ensures) (c .before .before .before .before .before .before .before .before .before .before .before .before .before .before .before .before .before .before .before .if1 .left) (c .before .before .before .before .before .before .before .before .before .before .before .before .before .before .before .before .before .if2 .left)) (c .before .before .before .before .before .before .before .before .before .before .before .before .before .before .before .before .before .before .own-start .ensures) (c .before .before .before .before .before .before .before .before .before .before .before .before .before .before .before .before .start .ensures) (c .before .before .before .before .before .before .before .before .before .before .before .before .before .short-circuit-source2 .ensures) (c .before .before .before .before .before .before .before .before .before .before .before .before .before .short-circuit-source2 .kept .1 .1 .1 .1 .0) (c .before .before .before .before .before .before .before .before .if4 .left) (c .before .before .before .before .before .short-circuit-source3 .ensures) (c .if5 .taken)
 
 short-circuit-finish-requires-2 : (t : ℕ) → short-circuit-lts.Need-finish-requires-2 (short-circuit-claims t) (short-circuit-at t) short-circuit.Post
-short-circuit-finish-requires-2 t c κs = ((own-in (c .before .before .before .before .before .before .before .before .before .before .before .before .before .before .before .before .before .before .before .before .before .before .before .before .before .before .before .before .pre .1 .0 .stream) (c .before .before .before .before .before .before .before .before .before .before .before .before .before .before .before .before .before .before .before .own-start .ensures)) .1 .0, node-inside (c .before .before .before .before .before .before .before .before .before .before .before .before .before .before .before .before .before .before .before .before .before .before .before .before .before .before .before .before .pre .1 .0) .1)
+short-circuit-finish-requires-2 t c κs = ((own-in (c .before .before .before .before .before .before .before .before .before .before .before .before .before .before .before .before .before .before .before .before .before .before .before .before .before .before .before .pre .1 .0 .stream) (c .before .before .before .before .before .before .before .before .before .before .before .before .before .before .before .before .before .before .before .own-start .ensures)) .1 .0, node-inside (c .before .before .before .before .before .before .before .before .before .before .before .before .before .before .before .before .before .before .before .before .before .before .before .before .before .before .before .pre .1 .0) .1)
 
 short-circuit-short-circuit-node-requires-3 : (t : ℕ) → short-circuit-lts.Need-short-circuit-node-requires-3 (short-circuit-claims t) (short-circuit-at t) short-circuit.Post
-short-circuit-short-circuit-node-requires-3 t c κs = let (a, b) = join-ready (c .before .before .before .before .before .before .before .before .before .before .before .before .before .before .before .before .before .before .before .before .before .before .before .before .before .before .before .before .before .before .before .before .before .pre .1 .0) (two-left (c .before .before .before .before .before .before .before .before .before .before .before .before .before .before .before .before .before .before .before .before .before .before .before .before .before .before .source-count .ensures) (c .before .before .before .before .before .before .before .before .before .before .before .before .before .before .before .before .before .before .before .before .before .before .before .before .before .if1 .left) (c .before .before .before .before .before .before .before .before .before .before .before .before .before .before .before .before .before .before .before .before .before .before .before .if2 .left)) (c .before .before .before .before .before .before .before .before .before .before .before .before .before .before .before .before .before .before .before .before .before .before .before .before .own-start .ensures) (c .before .before .before .before .before .before .before .before .before .before .before .before .before .before .before .before .before .before .before .before .before .before .start .ensures) (c .before .before .before .before .before .before .before .before .before .before .before .before .before .before .before .before .before .before .before .short-circuit-source2 .kept .1 .1 .1 .1 .0) (c .before .before .before .before .before .before .before .before .before .before .before .before .before .before .before .before .before .before .before .short-circuit-source2 .ensures) (c .before .before .before .before .before .before .before .before .before .before .before .before .before .before .if4 .left) (c .before .before .before .before .before .before .before .before .before .before .before .short-circuit-source3 .kept .1 .1 .1 .1 .0) (c .before .before .before .before .before .before .before .before .before .before .before .short-circuit-source3 .ensures) (c .before .before .before .before .before .before .if5 .left) (c .before .before .before .before .finish2 .kept .1 .1 .1 .0) (c .before .before .before .before .finish2 .ensures) in (a, (names-at (c .before .before .before .before .before .before .before .before .before .before .before .before .before .before .before .before .before .before .before .before .before .before .before .before .before .before .before .before .before .before .before .before .before .pre .1 .0), (c .before .before .before .before .before .before .before .before .before .before .before .short-circuit-source3 .kept .1 .1 .1 .1 .1 .1 .0 ∙ c .before .before .before .before .before .before .before .before .before .before .before .before .before .before .before .before .before .before .before .short-circuit-source2 .kept .1 .1 .1 .1 .1 .1 .0 ∙ c .before .before .before .before .before .before .before .before .before .before .before .before .before .before .before .before .before .before .before .before .before .before .before .before .before .before .before .before .before .before .before .before .before .pre .1 .1 ∙ sym ((c .before .before .before .before .finish2 .kept .1 .1 .1 .0) ∙ (c .before .before .before .before .before .before .before .before .before .before .before .short-circuit-source3 .kept .1 .1 .1 .1 .0) ∙ (c .before .before .before .before .before .before .before .before .before .before .before .before .before .before .before .before .before .before .before .short-circuit-source2 .kept .1 .1 .1 .1 .0)), b)))
+short-circuit-short-circuit-node-requires-3 t c κs = let (a, b) = join-ready (c .before .before .before .before .before .before .before .before .before .before .before .before .before .before .before .before .before .before .before .before .before .before .before .before .before .before .before .before .before .before .before .before .pre .1 .0) (two-left (c .before .before .before .before .before .before .before .before .before .before .before .before .before .before .before .before .before .before .before .before .before .before .before .before .before .before .source-count .ensures) (c .before .before .before .before .before .before .before .before .before .before .before .before .before .before .before .before .before .before .before .before .before .before .before .before .before .if1 .left) (c .before .before .before .before .before .before .before .before .before .before .before .before .before .before .before .before .before .before .before .before .before .before .before .if2 .left)) (c .before .before .before .before .before .before .before .before .before .before .before .before .before .before .before .before .before .before .before .before .before .before .before .before .own-start .ensures) (c .before .before .before .before .before .before .before .before .before .before .before .before .before .before .before .before .before .before .before .before .before .before .start .ensures) (c .before .before .before .before .before .before .before .before .before .before .before .before .before .before .before .before .before .before .before .short-circuit-source2 .kept .1 .1 .1 .1 .0) (c .before .before .before .before .before .before .before .before .before .before .before .before .before .before .before .before .before .before .before .short-circuit-source2 .ensures) (c .before .before .before .before .before .before .before .before .before .before .before .before .before .before .if4 .left) (c .before .before .before .before .before .before .before .before .before .before .before .short-circuit-source3 .kept .1 .1 .1 .1 .0) (c .before .before .before .before .before .before .before .before .before .before .before .short-circuit-source3 .ensures) (c .before .before .before .before .before .before .if5 .left) (c .before .before .before .before .finish2 .kept .1 .1 .1 .0) (c .before .before .before .before .finish2 .ensures) in (a, (records-at (c .before .before .before .before .before .before .before .before .before .before .before .before .before .before .before .before .before .before .before .before .before .before .before .before .before .before .before .before .before .before .before .before .pre .1 .0), (c .before .before .before .before .before .before .before .before .before .before .before .short-circuit-source3 .kept .1 .1 .1 .1 .1 .1 .0 ∙ c .before .before .before .before .before .before .before .before .before .before .before .before .before .before .before .before .before .before .before .short-circuit-source2 .kept .1 .1 .1 .1 .1 .1 .0 ∙ c .before .before .before .before .before .before .before .before .before .before .before .before .before .before .before .before .before .before .before .before .before .before .before .before .before .before .before .before .before .before .before .before .pre .1 .1 ∙ sym ((c .before .before .before .before .finish2 .kept .1 .1 .1 .0) ∙ (c .before .before .before .before .before .before .before .before .before .before .before .short-circuit-source3 .kept .1 .1 .1 .1 .0) ∙ (c .before .before .before .before .before .before .before .before .before .before .before .before .before .before .before .before .before .before .before .short-circuit-source2 .kept .1 .1 .1 .1 .0)), b)))
 
 short-circuit-same-length-11 : (t : ℕ) → short-circuit-lts.Need-same-length-11 (short-circuit-claims t) (short-circuit-at t) short-circuit.Post
 short-circuit-same-length-11 t c = c .before .before .before .before .short-circuit-node3 .kept .0 ∙ c .before .before .before .before .before .before .before .before .before .finish2 .kept .1 .1 .1 .0 ∙ c .before .before .before .before .before .before .before .before .before .before .before .before .before .before .before .before .short-circuit-source3 .kept .1 .1 .1 .1 .0 ∙ c .before .before .before .before .before .before .before .before .before .before .before .before .before .before .before .before .before .before .before .before .before .before .before .before .short-circuit-source2 .kept .1 .1 .1 .1 .0
@@ -182,13 +182,13 @@ short-circuit-returns-6 : (t : ℕ) → short-circuit-lts.Need-returns-6 (short-
 short-circuit-returns-6 t c = join-circuits (two-left (c .before .before .before .before .before .before .before .before .before .before .before .before .before .before .before .before .before .before .before .before .before .before .before .before .before .before .before .before .before .before .before .source-count .ensures) (c .before .before .before .before .before .before .before .before .before .before .before .before .before .before .before .before .before .before .before .before .before .before .before .before .before .before .before .before .before .before .if1 .left) (c .before .before .before .before .before .before .before .before .before .before .before .before .before .before .before .before .before .before .before .before .before .before .before .before .before .before .before .before .if2 .left)) (c .before .before .before .before .before .before .before .before .before .before .before .before .before .before .before .before .before .before .before .before .before .before .before .before .before .before .before .before .before .own-start .ensures) (c .before .before .before .before .before .before .before .before .before .before .before .before .before .before .before .before .before .before .before .before .before .before .before .before .before .before .before .start .ensures) (c .before .before .before .before .before .before .before .before .before .before .before .before .before .before .before .before .before .before .before .before .before .before .before .before .short-circuit-source2 .ensures) (c .before .before .before .before .before .before .before .before .before .before .before .before .before .before .before .before .before .before .before .before .before .before .before .before .short-circuit-source2 .kept .1 .1 .1 .1 .0) (c .before .before .before .before .before .before .before .before .before .before .before .before .before .before .before .before .before .before .before .if4 .left) (c .before .before .before .before .before .before .before .before .before .before .before .before .before .before .before .before .short-circuit-source3 .ensures) (c .before .before .before .before .before .before .before .before .before .before .before .before .before .before .before .before .short-circuit-source3 .kept .1 .1 .1 .1 .0) (c .before .before .before .before .before .before .before .before .before .before .before .if5 .left) (c .before .before .before .before .before .before .before .before .before .finish2 .kept .1 .1 .1 .0) (c .before .before .before .before .before .before .before .before .before .finish2 .ensures) (c .before .before .before .before .short-circuit-node3 .kept .0) (c .before .before .before .before .short-circuit-node3 .ensures)
 
 short-circuit-source-sub-if1 : (t : ℕ) → short-circuit-source-lts.Need-sub-if1 (short-circuit-source-claims t) (short-circuit-source-at t) short-circuit-source.Post
-short-circuit-source-sub-if1 t c = omega (arith, node-inside (c .before .before .before .before .before .before .pre .1 .0) .0)
+short-circuit-source-sub-if1 t c = omega (arith, node-inside (c .before .before .before .before .before .pre .1 .0) .0)
 
 short-circuit-source-tag-at-requires : (t : ℕ) → short-circuit-source-lts.Need-tag-at-requires (short-circuit-source-claims t) (short-circuit-source-at t) short-circuit-source.Post
-short-circuit-source-tag-at-requires t c κs = let (h, k) = node-inside (c .before .before .before .before .before .before .before .pre .1 .0) in (omega arith, k)
+short-circuit-source-tag-at-requires t c κs = let (h, k) = node-inside (c .before .before .before .before .before .before .pre .1 .0) in (omega arith, k)
 
 short-circuit-source-copy-requires : (t : ℕ) → short-circuit-source-lts.Need-copy-requires (short-circuit-source-claims t) (short-circuit-source-at t) short-circuit-source.Post
-short-circuit-source-copy-requires t c κs = let (h, k) = node-inside (c .before .before .before .before .before .before .before .before .before .before .pre .1 .0) in (omega arith, k)
+short-circuit-source-copy-requires t c κs = let (h, k) = node-inside (c .before .before .before .before .before .before .before .before .before .pre .1 .0) in (omega arith, k)
 
 short-circuit-source-same-length : (t : ℕ) → short-circuit-source-lts.Need-same-length (short-circuit-source-claims t) (short-circuit-source-at t) short-circuit-source.Post
 short-circuit-source-same-length t c = search needs
@@ -197,7 +197,7 @@ short-circuit-source-returns : (t : ℕ) → short-circuit-source-lts.Need-retur
 short-circuit-source-returns t c = scan-circuits (c .before .before .before .before .before .before .if1 .taken) (sym (c .before .before .before .before .before .tag-at .ensures) ∙ c .before .before .before .before .if2 .taken) (c .before .before .copy .kept .1 .1 .1 .0) (c .before .before .copy .ensures)
 
 short-circuit-source-short-circuit-requires : (t : ℕ) → short-circuit-source-lts.Need-short-circuit-requires (short-circuit-source-claims t) (short-circuit-source-at t) short-circuit-source.Post
-short-circuit-source-short-circuit-requires t c κs = (omega (arith, c .before .before .before .before .before .before .before .before .before .pre .0), c .before .before .before .before .before .before .before .before .before .pre .1)
+short-circuit-source-short-circuit-requires t c κs = (omega (arith, c .before .before .before .before .before .before .before .before .pre .0), c .before .before .before .before .before .before .before .before .pre .1)
 
 short-circuit-source-same-length-2 : (t : ℕ) → short-circuit-source-lts.Need-same-length-2 (short-circuit-source-claims t) (short-circuit-source-at t) short-circuit-source.Post
 short-circuit-source-same-length-2 t c = search needs

@@ -1,4 +1,4 @@
-use Rattle.short_circuit.proofs.Climbing.{climb-stop, climb-end, climb-names, climb-in, climb-ready, climb-next}
+use Rattle.short_circuit.proofs.Climbing.{climb-stop, climb-end, climb-records, climb-in, climb-ready, climb-next}
 use Rattle.short_circuit.specs.ShortCircuit.{Climbing}
 use Prim.Native.Nat.{ℕ, _-_}
 use native.Mathlib.Omega.{arith}
@@ -13,13 +13,13 @@ use Rattle.short_circuit.proofs.short_circuit_node.Reads as short-circu
 use Rattle.stream.proofs.finish.Reads as finish-reads
 
 abbrev Inv-loop : tie.InvT-loop
-Inv-loop x end hi tail y₀ at u z₀ widths names columns m₀ n₀ y z m n =
+Inv-loop x end hi tail y₀ at u z₀ records columns m₀ n₀ y z m n =
     (length z ≡ length z₀)
     × ((length y ≡ length y₀)
-    × ((lo : ℕ) (s : List ℕ) → Climbing widths names columns x lo end hi tail s at u y₀ → Climbing widths names columns x lo m hi tail s at n y))
+    × ((lo : ℕ) (s : List ℕ) → Climbing records columns x lo end hi tail s at u y₀ → Climbing records columns x lo m hi tail s at n y))
 
 abbrev μ-loop : tie.MeasureT-loop
-μ-loop x end hi tail y₀ at u z₀ widths names columns m₀ n₀ y z m n = hi - m
+μ-loop x end hi tail y₀ at u z₀ records columns m₀ n₀ y z m n = hi - m
 
 loop-holds : tie.Need-loop-holds Inv-loop μ-loop
 loop-holds c = (refl, (refl, λ lo s g. g))
@@ -34,25 +34,25 @@ returns : tie.Need-returns Inv-loop μ-loop
 returns c = λ lo s g. climb-stop (c .before .before .loop .inv .1 .1 lo s g) (c .if1 .taken)
 
 add-finish : tie.Need-add-finish Inv-loop μ-loop
-add-finish c = let (h, (i, (j, k))) = climb-in (c .before .before .loop .inv .1 .1 (c .before .before .before .before .before .before .before .before .before .pre .0 .lo) (c .before .before .before .before .before .before .before .before .before .pre .0 .y₀) (c .before .before .before .before .before .before .before .before .before .pre .0 .is)) (c .before .loop-test .taken) in omega arith
+add-finish c = let (h, (i, (j, k))) = climb-in (c .before .before .loop .inv .1 .1 (c .before .before .before .before .before .before .before .before .pre .0 .lo) (c .before .before .before .before .before .before .before .before .pre .0 .y₀) (c .before .before .before .before .before .before .before .before .pre .0 .is)) (c .before .loop-test .taken) in omega arith
 
 finish-requires : tie.Need-finish-requires Inv-loop μ-loop
-finish-requires c κs = let (h, (i, (j, k))) = climb-in (c .before .before .before .loop .inv .1 .1 (c .before .before .before .before .before .before .before .before .before .before .pre .0 .lo) (c .before .before .before .before .before .before .before .before .before .before .pre .0 .y₀) (c .before .before .before .before .before .before .before .before .before .before .pre .0 .is)) (c .before .before .loop-test .taken) in (omega arith, omega arith)
+finish-requires c κs = let (h, (i, (j, k))) = climb-in (c .before .before .before .loop .inv .1 .1 (c .before .before .before .before .before .before .before .before .before .pre .0 .lo) (c .before .before .before .before .before .before .before .before .before .pre .0 .y₀) (c .before .before .before .before .before .before .before .before .before .pre .0 .is)) (c .before .before .loop-test .taken) in (omega arith, omega arith)
 
 add-m : tie.Need-add-m Inv-loop μ-loop
-add-m c = let (h, (i, (j, k))) = climb-in (c .before .before .before .before .before .before .loop .inv .1 .1 (c .before .before .before .before .before .before .before .before .before .before .before .before .before .pre .0 .lo) (c .before .before .before .before .before .before .before .before .before .before .before .before .before .pre .0 .y₀) (c .before .before .before .before .before .before .before .before .before .before .before .before .before .pre .0 .is)) (c .before .before .before .before .before .loop-test .taken) in omega arith
+add-m c = let (h, (i, (j, k))) = climb-in (c .before .before .before .before .before .before .loop .inv .1 .1 (c .before .before .before .before .before .before .before .before .before .before .before .before .pre .0 .lo) (c .before .before .before .before .before .before .before .before .before .before .before .before .pre .0 .y₀) (c .before .before .before .before .before .before .before .before .before .before .before .before .pre .0 .is)) (c .before .before .before .before .before .loop-test .taken) in omega arith
 
 sub-short-circuit-node : tie.Need-sub-short-circuit-node Inv-loop μ-loop
-sub-short-circuit-node c = omega (arith, climb-in (c .before .before .before .before .before .before .before .loop .inv .1 .1 (c .before .before .before .before .before .before .before .before .before .before .before .before .before .before .pre .0 .lo) (c .before .before .before .before .before .before .before .before .before .before .before .before .before .before .pre .0 .y₀) (c .before .before .before .before .before .before .before .before .before .before .before .before .before .before .pre .0 .is)) (c .before .before .before .before .before .before .loop-test .taken) .0)
+sub-short-circuit-node c = omega (arith, climb-in (c .before .before .before .before .before .before .before .loop .inv .1 .1 (c .before .before .before .before .before .before .before .before .before .before .before .before .before .pre .0 .lo) (c .before .before .before .before .before .before .before .before .before .before .before .before .before .pre .0 .y₀) (c .before .before .before .before .before .before .before .before .before .before .before .before .before .pre .0 .is)) (c .before .before .before .before .before .before .loop-test .taken) .0)
 
 add-short-circuit-node : tie.Need-add-short-circuit-node Inv-loop μ-loop
-add-short-circuit-node c = let (h, (i, (j, k))) = climb-in (c .before .before .before .before .before .before .before .loop .inv .1 .1 (c .before .before .before .before .before .before .before .before .before .before .before .before .before .before .pre .0 .lo) (c .before .before .before .before .before .before .before .before .before .before .before .before .before .before .pre .0 .y₀) (c .before .before .before .before .before .before .before .before .before .before .before .before .before .before .pre .0 .is)) (c .before .before .before .before .before .before .loop-test .taken) in omega arith
+add-short-circuit-node c = let (h, (i, (j, k))) = climb-in (c .before .before .before .before .before .before .before .loop .inv .1 .1 (c .before .before .before .before .before .before .before .before .before .before .before .before .before .pre .0 .lo) (c .before .before .before .before .before .before .before .before .before .before .before .before .before .pre .0 .y₀) (c .before .before .before .before .before .before .before .before .before .before .before .before .before .pre .0 .is)) (c .before .before .before .before .before .before .loop-test .taken) in omega arith
 
 short-circuit-node-requires : tie.Need-short-circuit-node-requires Inv-loop μ-loop
-short-circuit-node-requires c κs = let (a, b) = climb-ready (c .before .before .before .before .before .before .before .before .loop .inv .1 .1 (c .before .before .before .before .before .before .before .before .before .before .before .before .before .before .before .pre .0 .lo) (c .before .before .before .before .before .before .before .before .before .before .before .before .before .before .before .pre .0 .y₀) (c .before .before .before .before .before .before .before .before .before .before .before .before .before .before .before .pre .0 .is)) (c .before .before .before .before .before .before .before .loop-test .taken) (c .before .before .before .before .before .before .if1 .left) (c .before .before .before .before .finish .kept .1 .1 .1 .0) (c .before .before .before .before .finish .ensures) in (a, (climb-names (c .before .before .before .before .before .before .before .before .loop .inv .1 .1 (c .before .before .before .before .before .before .before .before .before .before .before .before .before .before .before .pre .0 .lo) (c .before .before .before .before .before .before .before .before .before .before .before .before .before .before .before .pre .0 .y₀) (c .before .before .before .before .before .before .before .before .before .before .before .before .before .before .before .pre .0 .is)), (c .before .before .before .before .before .before .before .before .loop .inv .0 ∙ c .before .before .before .before .before .before .before .before .before .before .before .before .before .before .before .pre .1 ∙ sym (c .before .before .before .before .finish .kept .1 .1 .1 .0 ∙ c .before .before .before .before .before .before .before .before .loop .inv .1 .0), b)))
+short-circuit-node-requires c κs = let (a, b) = climb-ready (c .before .before .before .before .before .before .before .before .loop .inv .1 .1 (c .before .before .before .before .before .before .before .before .before .before .before .before .before .before .pre .0 .lo) (c .before .before .before .before .before .before .before .before .before .before .before .before .before .before .pre .0 .y₀) (c .before .before .before .before .before .before .before .before .before .before .before .before .before .before .pre .0 .is)) (c .before .before .before .before .before .before .before .loop-test .taken) (c .before .before .before .before .before .before .if1 .left) (c .before .before .before .before .finish .kept .1 .1 .1 .0) (c .before .before .before .before .finish .ensures) in (a, (climb-records (c .before .before .before .before .before .before .before .before .loop .inv .1 .1 (c .before .before .before .before .before .before .before .before .before .before .before .before .before .before .pre .0 .lo) (c .before .before .before .before .before .before .before .before .before .before .before .before .before .before .pre .0 .y₀) (c .before .before .before .before .before .before .before .before .before .before .before .before .before .before .pre .0 .is)), (c .before .before .before .before .before .before .before .before .loop .inv .0 ∙ c .before .before .before .before .before .before .before .before .before .before .before .before .before .before .pre .1 ∙ sym (c .before .before .before .before .finish .kept .1 .1 .1 .0 ∙ c .before .before .before .before .before .before .before .before .loop .inv .1 .0), b)))
 
 loop-less : tie.Need-loop-less Inv-loop μ-loop
-loop-less c = let (h, (i, (j, k))) = climb-in (c .before .before .before .before .before .before .before .before .before .before .before .before .before .loop .inv .1 .1 (c .before .before .before .before .before .before .before .before .before .before .before .before .before .before .before .before .before .before .before .before .pre .0 .lo) (c .before .before .before .before .before .before .before .before .before .before .before .before .before .before .before .before .before .before .before .before .pre .0 .y₀) (c .before .before .before .before .before .before .before .before .before .before .before .before .before .before .before .before .before .before .before .before .pre .0 .is)) (c .before .before .before .before .before .before .before .before .before .before .before .before .loop-test .taken) in omega arith
+loop-less c = let (h, (i, (j, k))) = climb-in (c .before .before .before .before .before .before .before .before .before .before .before .before .before .loop .inv .1 .1 (c .before .before .before .before .before .before .before .before .before .before .before .before .before .before .before .before .before .before .before .pre .0 .lo) (c .before .before .before .before .before .before .before .before .before .before .before .before .before .before .before .before .before .before .before .pre .0 .y₀) (c .before .before .before .before .before .before .before .before .before .before .before .before .before .before .before .before .before .before .before .pre .0 .is)) (c .before .before .before .before .before .before .before .before .before .before .before .before .loop-test .taken) in omega arith
 
 loop-again : tie.Need-loop-again Inv-loop μ-loop
 loop-again c = (c .before .before .before .before .short-circuit-node .kept .1 .1 .1 .1 .0 ∙ c .before .before .before .before .before .before .before .before .before .before .before .before .before .loop .inv .0, (c .before .before .before .before .short-circuit-node .kept .0 ∙ c .before .before .before .before .before .before .before .before .before .finish .kept .1 .1 .1 .0 ∙ c .before .before .before .before .before .before .before .before .before .before .before .before .before .loop .inv .1 .0, λ lo s g. climb-next (c .before .before .before .before .before .before .before .before .before .before .before .before .before .loop .inv .1 .1 lo s g) (c .before .before .before .before .before .before .before .before .before .before .before .before .loop-test .taken) (c .before .before .before .before .before .before .before .before .before .before .before .if1 .left) (c .before .before .before .before .before .before .before .before .before .finish .kept .1 .1 .1 .0) (c .before .before .before .before .before .before .before .before .before .finish .ensures) (c .before .before .before .before .short-circuit-node .kept .0) (c .before .before .before .before .short-circuit-node .ensures)))

@@ -1,1 +1,0 @@
-// What is lent of a schema to find lookups by: definitions alone.
