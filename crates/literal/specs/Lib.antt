@@ -5,4 +5,5 @@ pub mod Shift
 pub mod Rust
 pub mod Value
 pub mod Expression
+pub mod Plan
 pub mod Law

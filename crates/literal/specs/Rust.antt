@@ -120,6 +120,17 @@ abbrev pub pop : {A : Type 0} → List A → Option (A × List A)
 pop [] = none
 pop (x ∷ xs) = some (put-first x (pop xs))
 
+-- vec![x; n]
+abbrev pub replicate : {A : Type 0} → ℕ → A → List A
+replicate zero x = []
+replicate (suc n) x = x ∷ replicate n x
+
+-- v[i] = x, where there is such a place
+abbrev pub set-at : {A : Type 0} → List A → ℕ → A → List A
+set-at [] i x = []
+set-at (y ∷ ys) zero x = x ∷ ys
+set-at (y ∷ ys) (suc i) x = y ∷ set-at ys i x
+
 -- Vec::remove: the one at a place, and the others; it panics where there is none
 abbrev pub remove : {A : Type 0} → List A → ℕ → Run (A × List A)
 remove [] i = Panic
@@ -150,6 +161,10 @@ flatten = filter-map (λ x. x)
 abbrev pub find-map : {A B : Type 0} → (A → Option B) → List A → Option B
 find-map f [] = none
 find-map f (x ∷ xs) = f x ∣ find-map f xs
+
+abbrev pub position : {A : Type 0} → (A → Bool) → List A → Option ℕ
+position test [] = none
+position test (x ∷ xs) = cond (test x) (some 0) (position test xs ⇒ λ i. suc i)
 
 abbrev pub all : {A : Type 0} → (A → Bool) → List A → Bool
 all test [] = true
