@@ -6,4 +6,5 @@ pub mod Rust
 pub mod Value
 pub mod Expression
 pub mod Plan
+pub mod Optimizer
 pub mod Law
