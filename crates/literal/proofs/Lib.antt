@@ -1,3 +1,4 @@
 pub mod Value
 pub mod Expression
 pub mod Plan
+pub mod Folding
