@@ -412,13 +412,13 @@ lookup-same (binary og (function f) l r) = refl
 
 -- ---- into_column_values: of a lookup of the column it never panics
 
-no-number : {A : Type 0} {c : ℕ} → _≡_ {A = Option ℕ} none (some c) → A
+pub no-number : {A : Type 0} {c : ℕ} → _≡_ {A = Option ℕ} none (some c) → A
 no-number h = absurd (let y : _≡_ {A = ℕ} 0 1 = cc in omega arith)
 
 asserted : {A : Type 0} (a b : ℕ) (r : Run A) → _≡_ {A = Option ℕ} (some a) (some b) → assert-eq a b r ≡ r
 asserted a b r h = let e : a ≡ b = cc in ap (λ z. cond z r Panic) (eq-eqb a b e)
 
-same-column-both : (a b : Option ℕ) (c : ℕ) → same-column a b ≡ some c → (a ≡ some c) × (b ≡ some c)
+pub same-column-both : (a b : Option ℕ) (c : ℕ) → same-column a b ≡ some c → (a ≡ some c) × (b ≡ some c)
 same-column-both none b c h = no-number h
 same-column-both (some x) none c h = no-number h
 same-column-both (some x) (some y) c h = go (eqb x y) refl h

@@ -2,3 +2,4 @@ pub mod Value
 pub mod Expression
 pub mod Plan
 pub mod Folding
+pub mod Right
