@@ -3,3 +3,4 @@ pub mod Expression
 pub mod Plan
 pub mod Folding
 pub mod Right
+pub mod Pushdown

@@ -138,7 +138,7 @@ module _ (schema : Schema) where
   abbrev pub push-filters-of : Node → Node
   push-filters-of n = push-filters schema (node-size n) n
 
-  push-enough : (k : ℕ) (n : Node) → nodes n ≤ k → push-filters schema k n ≡ push-filters-of n
+  pub push-enough : (k : ℕ) (n : Node) → nodes n ≤ k → push-filters schema k n ≡ push-filters-of n
   push-enough k n h = ap (maybe-push-join schema) (filter-enough k (node-size n) n h (nodes-cells n))
 
   -- maybe_push_filter, by the Rust's text: a Filter that its source takes is gone, and push_filters goes on with the source

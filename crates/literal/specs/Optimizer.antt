@@ -107,15 +107,15 @@ copy-lookups left-lookups right-lookups (push-left, push-right) expr =
 abbrev pub push-to-left : ℕ → (push-left : List Expression) → Node → List Expression → Node × List Expression
 push-to-left new push-left left predicate =
     (and-vec new push-left ⇒ λ expr.
-        (push-into new expr left .1, (push-into new expr left .0 ⇒ λ expr. push predicate expr) else predicate))
+        (push-into new expr left .1, (push-into new expr left .0 ⇒ λ back. push predicate back) else predicate))
     else (left, predicate)
 
 -- 226: the right one; n is left.columns()
 abbrev pub push-to-right : ℕ → ℕ → (push-right : List Expression) → Node → List Expression → Run (Node × List Expression)
 push-to-right new n push-right right predicate =
-    (and-vec new push-right ⇒ λ expr. shift-column (negℤ (pos n)) expr >>= λ expr.
-        (push-into new expr right .0 ⇒ λ back. shift-column (pos n) back >>= λ expr. Ok (push-into new expr right .1, push predicate expr))
-        else Ok (push-into new expr right .1, predicate))
+    (and-vec new push-right ⇒ λ expr. shift-column (negℤ (pos n)) expr >>= λ shifted.
+        (push-into new shifted right .0 ⇒ λ expr. shift-column (pos n) expr >>= λ back. Ok (push-into new shifted right .1, push predicate back))
+        else Ok (push-into new shifted right .1, predicate))
     else Ok (right, predicate)
 
 module _ (schema : Schema) where
@@ -140,7 +140,7 @@ module _ (schema : Schema) where
   maybe-push-filter zero node = Panic
   maybe-push-filter (suc depth) node =
       (Filter? node ⇒ λ (og, source, predicate).
-          (push-into og predicate source .0 ⇒ λ predicate. Ok (over og (filter predicate) (push-into og predicate source .1)))
+          (push-into og predicate source .0 ⇒ λ back. Ok (over og (filter back) (push-into og predicate source .1)))
           else push-filters-by (maybe-push-filter depth) (push-into og predicate source .1))
       else Ok node
 
