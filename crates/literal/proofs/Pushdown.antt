@@ -266,3 +266,127 @@ module _ (p : List Expression) where
     to-right-same new es right h =
         ap (λ (o : Option Expression). (o ⇒ λ e. shift-column (negℤ (pos n)) e >>= λ x. shift-back (push-into new x right)) else Ok (right, p)) (and-vec-same new es)
         ∙ right-part new right (Defined.and-vec new es) h
+
+-- ---- maybe_push_join
+
+no-node : {A : Type 0} {n : Node} → _≡_ {A = Option Node} none (some n) → A
+no-node h = absurd (let y : _≡_ {A = ℕ} 0 1 = cc in omega arith)
+
+some-node : {a b : Node} → _≡_ {A = Option Node} (some a) (some b) → a ≡ b
+some-node h = cc
+
+module _ (schema : Schema) where
+  abbrev width : Node → ℕ
+  width = Defined-plan.columns schema
+
+  -- what is pushed into keeps its columns
+  into-width : (new : ℕ) (e : Expression) (n m : Node) → Optimizer.push-into new e n ≡ some m → width m ≡ width n
+  into-width new e (leaf og (scan table alias p)) m h = ap width (sym (some-node h))
+  into-width new e (leaf og (lookup by table alias constants)) m h = no-node h
+  into-width new e (leaf og (nothing labels)) m h = no-node h
+  into-width new e (leaf og (values rows)) m h = no-node h
+  into-width new e (over og (filter p) source) m h = ap width (sym (some-node h))
+  into-width new e (over og (other o) source) m h = no-node h
+  into-width new e (join og outer (nested-loop p) left right) m h = ap width (sym (some-node h))
+  into-width new e (join og outer (hash a b) left right) m h = no-node h
+
+  part-width : (new : ℕ) (o : Option Expression) (n : Node) → width (push-part new o n .0) ≡ width n
+  part-width new none n = refl
+  part-width new (some e) n = go (Optimizer.push-into new e n) refl
+    where
+      go : (o : Option Node) → Optimizer.push-into new e n ≡ o → width (pushed-or-back e n o .0) ≡ width n
+      go none h = refl
+      go (some m) h = into-width new e n m h
+
+  module _ (og : ℕ) (outer : Bool) (left right : Node) where
+    -- the text from line 219 on
+    abbrev made : Node → Node × List Expression → Run Node
+    made l q = Ok (join og outer (nested-loop (and-vec og (q .1))) l (q .0))
+
+    abbrev to-sources : List Expression → List Expression × List Expression → Run Node
+    to-sources p lists =
+        let l = push-to-left og (lists .0) left p in
+        push-to-right og (columns schema (l .0)) (lists .1) right (l .1) >>= made (l .0)
+
+    -- the text from line 159 on
+    abbrev from-cnf : List Expression → Run Node
+    from-cnf cnf =
+        let parts = split (columns schema left) cnf in
+        try-fold (copy-lookups (lookups (parts .0)) (lookups (parts .1))) (parts .0, parts .1) (parts .2) >>= to-sources (parts .2)
+
+    module _ (cnf : List Expression) where
+      abbrev n : ℕ
+      n = width left
+
+      abbrev l : Node × List Expression
+      l = push-part og (Defined.and-vec og (push-left n cnf)) left
+
+      abbrev r : Node × List Expression
+      r = push-part og (map-optional (shift-column-down n) (Defined.and-vec og (push-right n cnf))) right
+
+      sources-same : to-sources (for-both n cnf) (push-left n cnf, push-right n cnf) ≡ Ok (Optimizer.split og n outer cnf left right)
+      sources-same =
+          ap (λ (q : Node × List Expression). push-to-right og (columns schema (q .0)) (push-right n cnf) right (q .1) >>= made (q .0)) (to-left-same (for-both n cnf) og (push-left n cnf) left)
+          ∙ (ap (λ k. push-to-right og k (push-right n cnf) right (for-both n cnf ++ l .1) >>= made (l .0)) (columns-same schema (l .0) ∙ part-width og (Defined.and-vec og (push-left n cnf)) left)
+          ∙ (ap (λ (x : Run (Node × List Expression)). x >>= made (l .0)) (to-right-same (for-both n cnf ++ l .1) n og (push-right n cnf) right (right-refers n og cnf))
+          ∙ ap (λ z. Ok (join og outer (nested-loop z) (l .0) (r .0)))
+          (and-vec-same og ((for-both n cnf ++ l .1) ++ map (shift-column-up n) (r .1))
+          ∙ ap (Defined.and-vec og) (append-assoc (for-both n cnf) (l .1) (map (shift-column-up n) (r .1))))))
+
+      cnf-same : from-cnf cnf ≡ Ok (Optimizer.split og n outer cnf left right)
+      cnf-same =
+          ap (λ (parts : Parts). try-fold (copy-lookups (lookups (parts .0)) (lookups (parts .1))) (parts .0, parts .1) (parts .2) >>= to-sources (parts .2))
+          (ap (λ k. split k cnf) (columns-same schema left) ∙ split-same n cnf)
+          ∙ (ap (λ (x : Run (List Expression × List Expression)). x >>= to-sources (for-both n cnf)) (copies-same (for-left n cnf) (for-right n cnf) (for-both n cnf))
+          ∙ sources-same)
+
+  pub push-join-same : (n : Node) → maybe-push-join schema n ≡ Ok (Optimizer.maybe-push-join schema n)
+  unfolding Optimizer.maybe-push-join
+  push-join-same (leaf og l) = go l
+    where
+      go : (l : Leaf) → maybe-push-join schema (leaf og l) ≡ Ok (leaf og l)
+      go l = refl
+  push-join-same (over og o source) = refl
+  push-join-same (join og outer (nested-loop none) left right) = refl
+  push-join-same (join og outer (nested-loop (some p)) left right) =
+      ap (λ (x : Run (List Expression)). x >>= from-cnf og outer left right) (cnf-vec-same p) ∙ cnf-same og outer left right (Defined.into-cnf-vec p)
+  push-join-same (join og outer (hash a b) left right) = refl
+
+  -- ---- push_filters and maybe_push_filter
+
+  filter-same : (k : ℕ) (n : Node) → nodes n ≤ k → maybe-push-filter schema k n ≡ Ok (Optimizer.maybe-push-filter schema k n)
+  unfolding Optimizer.maybe-push-filter
+  filter-same zero n h = absurd (let p = nodes-positive n in omega arith)
+  filter-same (suc k) (leaf og l) h = refl
+  filter-same (suc k) (over og (filter p) source) h =
+      ap (λ (b : Option Expression × Node). (b .0 ⇒ λ back. Ok (over og (filter back) (b .1))) else push-filters-by schema (maybe-push-filter schema k) (b .1)) (into-same og p source)
+      ∙ go (Optimizer.push-into og p source) refl (filter-same k)
+    where
+      go : (o : Option Node) → Optimizer.push-into og p source ≡ o → ((n : Node) → nodes n ≤ k → maybe-push-filter schema k n ≡ Ok (Optimizer.maybe-push-filter schema k n))
+          → ((back p source o .0 ⇒ λ b. Ok (over og (filter b) (back p source o .1))) else push-filters-by schema (maybe-push-filter schema k) (back p source o .1))
+          ≡ Ok (go-on (λ pushed. Optimizer.maybe-push-join schema (Optimizer.maybe-push-filter schema k pushed)) (over og (filter p) source) o)
+      go none e below = refl
+      go (some pushed) e below =
+          let c = nodes-into og p source pushed e in
+          ap (λ (x : Run Node). x >>= maybe-push-join schema) (below pushed (omega arith)) ∙ push-join-same (Optimizer.maybe-push-filter schema k pushed)
+  filter-same (suc k) (over og (other o) source) h = refl
+  filter-same (suc k) (join og outer j left right) h = refl
+
+  pub push-same : (n : Node) → push-filters schema n ≡ Ok (push-filters-of schema n)
+  push-same n =
+      ap (λ (x : Run Node). x >>= maybe-push-join schema) (filter-same (node-size n) n (nodes-cells n)) ∙ push-join-same (Optimizer.maybe-push-filter schema (node-size n) n)
+
+  -- ---- the pass
+
+  pushed-fits : (k : ℕ) (n : Node) → nodes n ≤ suc k → Fits nodes k (push-filters-of schema n)
+  pushed-fits k n h = go (push-filters-of schema n) (let q = nodes-push schema (node-size n) n in omega arith)
+    where
+      go : (m : Node) → nodes m ≤ suc k → Fits nodes k m
+      go (leaf og l) i = omega arith
+      go (over og o source) i = omega arith
+      go (join og outer j left right) i = let p = nodes-positive left in let q = nodes-positive right in (omega arith, omega arith)
+
+  pub pushdown-same : (n : Node) → FilterPushdown schema n ≡ Ok (Optimizer.FilterPushdown schema n)
+  pushdown-same n =
+      before-same nodes nodes-positive (push-filters schema) (push-filters-of schema) (Optimizer.FilterPushdown schema) push-same pushed-fits (λ m. sym (pushdown-literal schema m))
+      (node-size n) n (nodes-cells n)
