@@ -130,7 +130,7 @@ Fits n (column og c) = 0 ≤ n
 Fits n (unary og o x) = size x ≤ n
 Fits n (binary og o l r) = (size l ≤ n) × (size r ≤ n)
 
-size-positive : (e : Expression) → 1 ≤ size e
+pub size-positive : (e : Expression) → 1 ≤ size e
 size-positive (constant og v) = omega arith
 size-positive (column og c) = omega arith
 size-positive (unary og o x) = omega arith

@@ -4,3 +4,4 @@ pub mod Plan
 pub mod Folding
 pub mod Right
 pub mod Pushdown
+pub mod Passes

@@ -1,0 +1,310 @@
+-- IndexLookup, HashJoin and ShortCircuit, as transcribed, give what crate sql defines; HashJoin with document 01's departure.
+use Prim.Native.Nat.{ℕ, zero, suc, _+_, _-_, _≤_}
+use mathlib.Core.Path.{_≡_, refl, sym, ap, ap₂, _∙_}
+use mathlib.Core.Bool.{Bool, true, false, not, _&&_, _||_, cond}
+use mathlib.Core.List.{List, [], _∷_, map}
+use mathlib.Core.Option.{Option, none, some}
+use native.Mathlib.Omega.{arith}
+use lib.Dec.{eqb, ltb, eqb·zero-suc}
+use lib.ListN.{length}
+use Rattle.value.specs.Value.{False, Unknown, True, Value, truth, datum}
+use Rattle.sql.specs.Schema.{Schema, table-of, column-of}
+use Rattle.sql.specs.Expression.{Marked, logical, Equal, function, Expression, constant, column, unary, binary, size}
+use Rattle.sql.specs.Expression as Defined
+use Rattle.sql.specs.Plan.{Label, unlabelled, unqualified, qualified, Access, by-key, by-index, Leaf, scan, lookup, nothing, values, Other, limit, offset, order, projection, remap, aggregate, Over, filter, other, Join, nested-loop, hash, Node, leaf, over, join, node-origin, up-to, leaf-size, over-size, join-size, node-size}
+use Rattle.sql.specs.Plan as Defined-plan
+use Rattle.sql.specs.Optimizer.{map-sources, Found, filtered, has-index, with-index, found-here, find-lookup, access, lookup-or-scan, equijoin, hash-pair, verdict, optional-verdict, is-always, is-never, remove-true, is-unlabelled, is-column-number, pass-through, is-nothing, remove-useless, empty-or-node}
+use Rattle.sql.specs.Optimizer as Optimizer
+use Rattle.literal.specs.Rust.{Run, Ok, Err, Panic, _>>=_, _⇒_, _∣_, _&_, _if_, _else_, matches, and-then, remove, enumerate, find-map, all}
+use Rattle.literal.specs.Value.{document-01}
+use Rattle.literal.specs.Expression.{Column?, into-cnf-vec, and-vec, is-column-lookup, into-column-values}
+use Rattle.literal.specs.Plan.{Filter?, Nothing?, columns, column-label, transform-sources, transform}
+use Rattle.literal.specs.Optimizer.{Constant-Boolean?, Constant-False-Null?, index-lookup, IndexLookup, minus, hash-join, HashJoin, is-none, is-column, over-nothing, emptied, is-noop, without-useless, short-circuit, ShortCircuit}
+use Rattle.literal.specs.Nodes.{nodes, nodes-positive, nodes-cells, index-lookup-node, hash-join-node}
+use Rattle.literal.proofs.Expression.{size-positive, cnf-vec-same, and-vec-same, lookup-same, values-same, no-number}
+use Rattle.literal.proofs.Plan.{columns-same, label-same, Fits, before-same}
+
+-- ======== IndexLookup
+
+module _ (schema : Schema) (table : ℕ) where
+  abbrev choose-at : ℕ × Expression → Option (ℕ × ℕ)
+  choose-at (i, e) = is-column-lookup e if (λ c. eqb c (table-of schema table .primary-key) || column-of schema table c .index) ⇒ λ c. (i, c)
+
+  abbrev choose : ℕ → List Expression → Option (ℕ × ℕ)
+  choose k cnf = find-map choose-at (enumerate k cnf)
+
+  abbrev next : Option (ℕ × ℕ) → Option (ℕ × ℕ)
+  next o = o ⇒ λ (i, c). (suc i, c)
+
+  counted : (k : ℕ) (cnf : List Expression) → choose (suc k) cnf ≡ next (choose k cnf)
+  counted k [] = refl
+  counted k (e ∷ es) = go (is-column-lookup e if has-index schema table) (counted (suc k) es)
+    where
+      go : (o : Option ℕ) → choose (suc (suc k)) es ≡ next (choose (suc k) es)
+          → ((o ⇒ λ c. (suc k, c)) ∣ choose (suc (suc k)) es) ≡ next ((o ⇒ λ c. (k, c)) ∣ choose (suc k) es)
+      go none h = h
+      go (some c) h = refl
+
+  -- the column that is chosen, and what `remove` gives; and crate sql's Found
+  abbrev removed : List Expression → Option (ℕ × ℕ) → Option (ℕ × Run (Expression × List Expression))
+  removed cnf o = o ⇒ λ (i, c). (c, remove cnf i)
+
+  abbrev taken : Option Found → Option (ℕ × Run (Expression × List Expression))
+  taken o = o ⇒ λ f. (f .column-number, Ok (f .conjunct, f .remaining))
+
+  with-index-same : (o : Option ℕ) → (o if has-index schema table) ≡ with-index schema table o
+  with-index-same none = refl
+  with-index-same (some c) = refl
+
+  chosen : (cnf : List Expression) → removed cnf (choose 0 cnf) ≡ taken (find-lookup schema table cnf)
+  chosen [] = refl
+  chosen (e ∷ es) =
+      ap (λ (o : Option ℕ). removed (e ∷ es) ((o if has-index schema table ⇒ λ c. (0, c)) ∣ choose 1 es)) (lookup-same e)
+      ∙ (ap (λ (o : Option ℕ). removed (e ∷ es) ((o ⇒ λ c. (0, c)) ∣ choose 1 es)) (with-index-same (Defined.is-column-lookup e))
+      ∙ go (with-index schema table (Defined.is-column-lookup e)) (counted 0 es) (chosen es))
+    where
+      behind : ℕ × Run (Expression × List Expression) → ℕ × Run (Expression × List Expression)
+      behind q = (q .0, q .1 >>= λ p. Ok (p .0, e ∷ p .1))
+
+      moved : (o : Option (ℕ × ℕ)) → removed (e ∷ es) (next o) ≡ (removed es o ⇒ behind)
+      moved none = refl
+      moved (some p) = refl
+
+      later : (o : Option Found) → (taken o ⇒ behind) ≡ taken (found-here schema table e es none o)
+      later none = refl
+      later (some f) = refl
+
+      go : (o : Option ℕ) → choose 1 es ≡ next (choose 0 es) → removed es (choose 0 es) ≡ taken (find-lookup schema table es)
+          → removed (e ∷ es) ((o ⇒ λ c. (0, c)) ∣ choose 1 es) ≡ taken (found-here schema table e es o (find-lookup schema table es))
+      go none h k = ap (removed (e ∷ es)) h ∙ (moved (choose 0 es) ∙ (ap (λ (o : Option (ℕ × Run (Expression × List Expression))). o ⇒ behind) k ∙ later (find-lookup schema table es)))
+      go (some c) h k = refl
+
+  no-found : {A : Type 0} {f : Found} → _≡_ {A = Option Found} none (some f) → A
+  no-found h = absurd (let y : _≡_ {A = ℕ} 0 1 = cc in omega arith)
+
+  indexed : (o : Option ℕ) (c : ℕ) → with-index schema table o ≡ some c → o ≡ some c
+  indexed none c h = no-number h
+  indexed (some d) c h = go (has-index schema table d) h
+    where
+      go : (b : Bool) → cond b (some d) none ≡ some c → _≡_ {A = Option ℕ} (some d) (some c)
+      go true i = i
+      go false i = no-number i
+
+  found-lookup : (cnf : List Expression) (f : Found) → find-lookup schema table cnf ≡ some f → Defined.is-column-lookup (f .conjunct) ≡ some (f .column-number)
+  found-lookup [] f h = no-found h
+  found-lookup (e ∷ es) f h = go (with-index schema table (Defined.is-column-lookup e)) refl (find-lookup schema table es) refl h (found-lookup es)
+    where
+      go : (o : Option ℕ) → with-index schema table (Defined.is-column-lookup e) ≡ o → (q : Option Found) → find-lookup schema table es ≡ q → found-here schema table e es o q ≡ some f
+          → ((f : Found) → find-lookup schema table es ≡ some f → Defined.is-column-lookup (f .conjunct) ≡ some (f .column-number))
+          → Defined.is-column-lookup (f .conjunct) ≡ some (f .column-number)
+      go none k none l i later = no-found i
+      go none k (some g) l i later =
+          let a : g .conjunct ≡ f .conjunct = cc in let b : g .column-number ≡ f .column-number = cc in
+          ap Defined.is-column-lookup (sym a) ∙ (later g l ∙ ap some b)
+      go (some c) k q l i later =
+          let a : e ≡ f .conjunct = cc in let b : c ≡ f .column-number = cc in
+          ap Defined.is-column-lookup (sym a) ∙ (indexed (Defined.is-column-lookup e) c k ∙ ap some b)
+
+  module _ (og : ℕ) (alias : Option ℕ) (predicate : Expression) where
+    abbrev made : ℕ → List (Marked Value) → Node
+    made c vs = cond (eqb c (table-of schema table .primary-key)) (leaf og (lookup by-key table alias vs)) (leaf og (lookup (by-index c) table alias vs))
+
+    -- the text from line 279 on
+    abbrev built : ℕ → Expression × List Expression → Run Node
+    built c q = into-column-values c (q .0) >>= λ vs. Ok ((and-vec og (q .1) ⇒ λ p. over og (filter p) (made c vs)) else made c vs)
+
+    made-same : (c : ℕ) (vs : List (Marked Value)) → made c vs ≡ leaf og (lookup (access schema table c) table alias vs)
+    made-same c vs = go (eqb c (table-of schema table .primary-key))
+      where
+        go : (b : Bool) → cond b (leaf og (lookup by-key table alias vs)) (leaf og (lookup (by-index c) table alias vs)) ≡ leaf og (lookup (cond b by-key (by-index c)) table alias vs)
+        go true = refl
+        go false = refl
+
+    filtered-same : (o : Option Expression) (n : Node) → ((o ⇒ λ p. over og (filter p) n) else n) ≡ filtered og o n
+    filtered-same none n = refl
+    filtered-same (some p) n = refl
+
+    chosen-same : (cnf : List Expression)
+        → ((choose 0 cnf ⇒ λ (i, c). remove cnf i >>= built c) else Ok (leaf og (scan table alias (some predicate)))) ≡ Ok (lookup-or-scan schema table og alias predicate (find-lookup schema table cnf))
+    chosen-same cnf =
+        (regroup (choose 0 cnf)
+        ∙ ap (λ (o : Option (ℕ × Run (Expression × List Expression))). (o ⇒ λ q. q .1 >>= built (q .0)) else Ok (leaf og (scan table alias (some predicate)))) (chosen cnf))
+        ∙ go (find-lookup schema table cnf) (found-lookup cnf)
+      where
+        regroup : (o : Option (ℕ × ℕ)) → ((o ⇒ λ (i, c). remove cnf i >>= built c) else Ok (leaf og (scan table alias (some predicate))))
+            ≡ ((removed cnf o ⇒ λ q. q .1 >>= built (q .0)) else Ok (leaf og (scan table alias (some predicate))))
+        regroup none = refl
+        regroup (some p) = refl
+
+        go : (o : Option Found) → ((f : Found) → o ≡ some f → Defined.is-column-lookup (f .conjunct) ≡ some (f .column-number))
+            → ((taken o ⇒ λ q. q .1 >>= built (q .0)) else Ok (leaf og (scan table alias (some predicate)))) ≡ Ok (lookup-or-scan schema table og alias predicate o)
+        go none h = refl
+        go (some f) h =
+            let c = f .column-number in
+            let vs = Defined.into-column-values (f .conjunct) in
+            ap (λ (r : Run (List (Marked Value))). r >>= λ vs. Ok ((and-vec og (f .remaining) ⇒ λ p. over og (filter p) (made c vs)) else made c vs)) (values-same (f .conjunct) c (h f refl))
+            ∙ (ap₂ (λ (o : Option Expression) n. Ok ((o ⇒ λ p. over og (filter p) n) else n)) (and-vec-same og (f .remaining)) (made-same c vs)
+            ∙ ap Ok (filtered-same (Defined.and-vec og (f .remaining)) (leaf og (lookup (access schema table c) table alias vs))))
+
+module _ (schema : Schema) where
+  pub index-lookup-same : (n : Node) → index-lookup schema n ≡ Ok (index-lookup-node schema n)
+  unfolding Optimizer.index-lookup
+  index-lookup-same (leaf og (scan table alias none)) = refl
+  index-lookup-same (leaf og (scan table alias (some p))) =
+      ap (λ (r : Run (List Expression)). r >>= λ cnf. (choose schema table 0 cnf ⇒ λ (i, c). remove cnf i >>= built schema table og alias p c) else Ok (leaf og (scan table alias (some p)))) (cnf-vec-same p)
+      ∙ chosen-same schema table og alias p (Defined.into-cnf-vec p)
+  index-lookup-same (leaf og (lookup by table alias constants)) = refl
+  index-lookup-same (leaf og (nothing labels)) = refl
+  index-lookup-same (leaf og (values rows)) = refl
+  index-lookup-same (over og o source) = refl
+  index-lookup-same (join og outer j left right) = refl
+
+  -- how deep `transform` goes: a Scan with a filter may become a Filter over a lookup
+  abbrev leaf-steps : Leaf → ℕ
+  leaf-steps (scan table alias none) = 1
+  leaf-steps (scan table alias (some p)) = 2
+  leaf-steps (lookup by table alias constants) = 1
+  leaf-steps (nothing labels) = 1
+  leaf-steps (values rows) = 1
+
+  abbrev steps : Node → ℕ
+  steps (leaf og l) = leaf-steps l
+  steps (over og o source) = suc (steps source)
+  steps (join og outer j left right) = suc (steps left + steps right)
+
+  steps-positive : (n : Node) → 1 ≤ steps n
+  steps-positive (leaf og (scan table alias none)) = omega arith
+  steps-positive (leaf og (scan table alias (some p))) = omega arith
+  steps-positive (leaf og (lookup by table alias constants)) = omega arith
+  steps-positive (leaf og (nothing labels)) = omega arith
+  steps-positive (leaf og (values rows)) = omega arith
+  steps-positive (over og o source) = omega arith
+  steps-positive (join og outer j left right) = omega arith
+
+  over-positive : (o : Over) → 1 ≤ over-size o
+  over-positive (filter p) = omega arith
+  over-positive (other (limit amount)) = omega arith
+  over-positive (other (offset amount)) = omega arith
+  over-positive (other (order key)) = omega arith
+  over-positive (other (projection items)) = omega arith
+  over-positive (other (remap targets)) = omega arith
+  over-positive (other (aggregate group-by aggregates)) = omega arith
+
+  join-positive : (j : Join) → 1 ≤ join-size j
+  join-positive (nested-loop p) = omega arith
+  join-positive (hash a b) = omega arith
+
+  steps-cells : (n : Node) → steps n ≤ node-size n
+  steps-cells (leaf og (scan table alias none)) = omega arith
+  steps-cells (leaf og (scan table alias (some p))) = let q = size-positive p in omega arith
+  steps-cells (leaf og (lookup by table alias constants)) = omega arith
+  steps-cells (leaf og (nothing labels)) = omega arith
+  steps-cells (leaf og (values rows)) = omega arith
+  steps-cells (over og o source) = let h = steps-cells source in let p = over-positive o in omega arith
+  steps-cells (join og outer j left right) = let h = steps-cells left in let k = steps-cells right in let p = join-positive j in omega arith
+
+  found-fits : (k og table : ℕ) (alias : Option ℕ) (p : Expression) (o : Option Found) → 1 ≤ k → Fits steps k (lookup-or-scan schema table og alias p o)
+  found-fits k og table alias p none h = omega arith
+  found-fits k og table alias p (some f) h = go (Defined.and-vec og (f .remaining))
+    where
+      go : (q : Option Expression)
+          → Fits steps k (filtered og q (leaf og (lookup (access schema table (f .column-number)) table alias (Defined.into-column-values (f .conjunct)))))
+      go none = omega arith
+      go (some q) = h
+
+  index-fits : (k : ℕ) (n : Node) → steps n ≤ suc k → Fits steps k (index-lookup-node schema n)
+  unfolding Optimizer.index-lookup
+  index-fits k (leaf og (scan table alias none)) h = omega arith
+  index-fits k (leaf og (scan table alias (some p))) h = found-fits k og table alias p (find-lookup schema table (Defined.into-cnf-vec p)) (omega arith)
+  index-fits k (leaf og (lookup by table alias constants)) h = omega arith
+  index-fits k (leaf og (nothing labels)) h = omega arith
+  index-fits k (leaf og (values rows)) h = omega arith
+  index-fits k (over og o source) h = omega arith
+  index-fits k (join og outer j left right) h = let p = steps-positive left in let q = steps-positive right in (omega arith, omega arith)
+
+  found-stays : (og table : ℕ) (alias : Option ℕ) (p : Expression) (o : Option Found)
+      → map-sources (Optimizer.IndexLookup schema) (lookup-or-scan schema table og alias p o) ≡ lookup-or-scan schema table og alias p o
+  unfolding Optimizer.IndexLookup Optimizer.index-lookup
+  found-stays og table alias p none = refl
+  found-stays og table alias p (some f) = go (Defined.and-vec og (f .remaining)) (access schema table (f .column-number)) (Defined.into-column-values (f .conjunct))
+    where
+      go : (q : Option Expression) (by : Access) (vs : List (Marked Value))
+          → map-sources (Optimizer.IndexLookup schema) (filtered og q (leaf og (lookup by table alias vs))) ≡ filtered og q (leaf og (lookup by table alias vs))
+      go none by vs = refl
+      go (some q) by vs = refl
+
+  index-step : (n : Node) → map-sources (Optimizer.IndexLookup schema) (index-lookup-node schema n) ≡ Optimizer.IndexLookup schema n
+  unfolding Optimizer.IndexLookup Optimizer.index-lookup
+  index-step (leaf og (scan table alias none)) = refl
+  index-step (leaf og (scan table alias (some p))) = found-stays og table alias p (find-lookup schema table (Defined.into-cnf-vec p))
+  index-step (leaf og (lookup by table alias constants)) = refl
+  index-step (leaf og (nothing labels)) = refl
+  index-step (leaf og (values rows)) = refl
+  index-step (over og o source) = refl
+  index-step (join og outer j left right) = refl
+
+  pub index-same : (n : Node) → IndexLookup schema n ≡ Ok (Optimizer.IndexLookup schema n)
+  index-same n =
+      before-same steps steps-positive (index-lookup schema) (index-lookup-node schema) (Optimizer.IndexLookup schema) index-lookup-same index-fits index-step (node-size n) n (steps-cells n)
+
+-- ======== HashJoin
+
+and-left : (a b : Bool) → (a && b) ≡ true → b ≡ true
+and-left true b h = h
+and-left false b h = absurd (let y : _≡_ {A = ℕ} 0 1 = cc in omega arith)
+
+not-true : (b : Bool) → not b ≡ true → b ≡ false
+not-true true h = absurd (let y : _≡_ {A = ℕ} 0 1 = cc in omega arith)
+not-true false h = refl
+
+module _ (schema : Schema) where
+  hash-pair-same : (og : ℕ) (outer : Bool) (left right : Node) (predicate : Expression) (n : ℕ) (p : ℕ × ℕ)
+      → cond (ltb (p .0) n && not (ltb (p .1) n)) (minus (p .1) n >>= λ c. Ok (join og outer (hash (p .0) c) left right)) (Ok (join og outer (nested-loop (some predicate)) left right))
+      ≡ Ok (join og outer (hash-pair n predicate (some p)) left right)
+  hash-pair-same og outer left right predicate n p = go (ltb (p .0) n && not (ltb (p .1) n)) refl
+    where
+      go : (b : Bool) → (ltb (p .0) n && not (ltb (p .1) n)) ≡ b
+          → cond b (minus (p .1) n >>= λ c. Ok (join og outer (hash (p .0) c) left right)) (Ok (join og outer (nested-loop (some predicate)) left right))
+          ≡ Ok (join og outer (cond b (hash (p .0) (p .1 - n)) (nested-loop (some predicate))) left right)
+      go true h =
+          ap (λ (b : Bool). cond b Panic (Ok (p .1 - n)) >>= λ c. Ok (join og outer (hash (p .0) c) left right))
+          (not-true (ltb (p .1) n) (and-left (ltb (p .0) n) (not (ltb (p .1) n)) h))
+      go false h = refl
+
+  pub hash-join-same : (n : Node) → hash-join document-01 schema n ≡ Ok (hash-join-node schema n)
+  hash-join-same (leaf og l) = refl
+  hash-join-same (over og o source) = refl
+  hash-join-same (join og outer (hash a b) left right) = refl
+  hash-join-same (join og outer (nested-loop none) left right) = refl
+  hash-join-same (join og outer (nested-loop (some (constant o v))) left right) = refl
+  hash-join-same (join og outer (nested-loop (some (column o c))) left right) = refl
+  hash-join-same (join og outer (nested-loop (some (unary o f x))) left right) = refl
+  hash-join-same (join og outer (nested-loop (some (binary o (logical f) x y))) left right) = refl
+  hash-join-same (join og outer (nested-loop (some (binary o Equal (constant i v) y))) left right) = refl
+  hash-join-same (join og outer (nested-loop (some (binary o Equal (column i a) (constant k v)))) left right) = refl
+  hash-join-same (join og outer (nested-loop (some (binary o Equal (column i a) (column k b)))) left right) =
+      ap (λ n. cond (ltb (pair .0) n && not (ltb (pair .1) n)) (minus (pair .1) n >>= λ c. Ok (join og outer (hash (pair .0) c) left right))
+      (Ok (join og outer (nested-loop (some (binary o Equal (column i a) (column k b)))) left right))) (columns-same schema left)
+      ∙ hash-pair-same og outer left right (binary o Equal (column i a) (column k b)) (Defined-plan.columns schema left) pair
+    where
+      pair : ℕ × ℕ
+      pair = cond (ltb b a) (b, a) (a, b)
+  hash-join-same (join og outer (nested-loop (some (binary o Equal (column i a) (unary k f x)))) left right) = refl
+  hash-join-same (join og outer (nested-loop (some (binary o Equal (column i a) (binary k f x z)))) left right) = refl
+  hash-join-same (join og outer (nested-loop (some (binary o Equal (unary i f x) y))) left right) = refl
+  hash-join-same (join og outer (nested-loop (some (binary o Equal (binary i f x z) y))) left right) = refl
+  hash-join-same (join og outer (nested-loop (some (binary o (function f) x y))) left right) = refl
+
+  hash-fits : (k : ℕ) (n : Node) → nodes n ≤ suc k → Fits nodes k (hash-join-node schema n)
+  hash-fits k (leaf og l) h = omega arith
+  hash-fits k (over og o source) h = omega arith
+  hash-fits k (join og outer j left right) h = let p = nodes-positive left in let q = nodes-positive right in (omega arith, omega arith)
+
+  hash-step : (n : Node) → map-sources (Optimizer.HashJoin schema) (hash-join-node schema n) ≡ Optimizer.HashJoin schema n
+  hash-step (leaf og l) = refl
+  hash-step (over og o source) = refl
+  hash-step (join og outer j left right) = refl
+
+  pub hash-same : (n : Node) → HashJoin document-01 schema n ≡ Ok (Optimizer.HashJoin schema n)
+  hash-same n =
+      before-same nodes nodes-positive (hash-join document-01 schema) (hash-join-node schema) (Optimizer.HashJoin schema) hash-join-same hash-fits hash-step (node-size n) n (nodes-cells n)
