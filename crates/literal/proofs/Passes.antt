@@ -16,6 +16,7 @@ use Rattle.sql.specs.Plan as Defined-plan
 use Rattle.sql.specs.Optimizer.{map-sources, Found, filtered, has-index, with-index, found-here, find-lookup, access, lookup-or-scan, equijoin, hash-pair, verdict, optional-verdict, is-always, is-never, remove-true, is-unlabelled, is-column-number, pass-through, is-nothing, remove-useless, empty-or-node}
 use Rattle.sql.specs.Optimizer as Optimizer
 use Rattle.literal.specs.Rust.{Run, Ok, Err, Panic, _>>=_, _⇒_, _∣_, _&_, _if_, _else_, matches, and-then, remove, enumerate, find-map, all}
+use Rattle.literal.specs.Rust as Rust
 use Rattle.literal.specs.Value.{document-01}
 use Rattle.literal.specs.Expression.{Column?, into-cnf-vec, and-vec, is-column-lookup, into-column-values}
 use Rattle.literal.specs.Plan.{Filter?, Nothing?, columns, column-label, transform-sources, transform}
@@ -308,3 +309,211 @@ module _ (schema : Schema) where
   pub hash-same : (n : Node) → HashJoin document-01 schema n ≡ Ok (Optimizer.HashJoin schema n)
   hash-same n =
       before-same nodes nodes-positive (hash-join document-01 schema) (hash-join-node schema) (Optimizer.HashJoin schema) hash-join-same hash-fits hash-step (node-size n) n (nodes-cells n)
+
+-- ======== ShortCircuit
+
+true-same : (e : Expression) → matches (Constant-Boolean? true e) ≡ is-always (verdict e)
+true-same (constant og (truth False)) = refl
+true-same (constant og (truth Unknown)) = refl
+true-same (constant og (truth True)) = refl
+true-same (constant og (datum d)) = refl
+true-same (column og c) = refl
+true-same (unary og o x) = refl
+true-same (binary og o l r) = refl
+
+false-same : (e : Expression) → matches (Constant-False-Null? e) ≡ is-never (verdict e)
+false-same (constant og (truth False)) = refl
+false-same (constant og (truth Unknown)) = refl
+false-same (constant og (truth True)) = refl
+false-same (constant og (datum d)) = refl
+false-same (column og c) = refl
+false-same (unary og o x) = refl
+false-same (binary og o l r) = refl
+
+optional-true : (o : Option Expression) → matches (and-then o (Constant-Boolean? true)) ≡ is-always (optional-verdict o)
+optional-true none = refl
+optional-true (some e) = true-same e
+
+optional-false : (o : Option Expression) → matches (and-then o Constant-False-Null?) ≡ is-never (optional-verdict o)
+optional-false none = refl
+optional-false (some e) = false-same e
+
+nothing-same : (n : Node) → over-nothing n ≡ is-nothing n
+nothing-same (leaf og (scan table alias predicate)) = refl
+nothing-same (leaf og (lookup by table alias constants)) = refl
+nothing-same (leaf og (nothing labels)) = refl
+nothing-same (leaf og (values rows)) = refl
+nothing-same (over og o source) = refl
+nothing-same (join og outer j left right) = refl
+
+-- ---- the guard of the Projection: three tests over two Vecs, and crate sql's one over items
+
+column-number-same : (i : ℕ) (e : Expression) → is-column i e ≡ is-column-number i e
+column-number-same i (constant og v) = refl
+column-number-same i (column og c) = go (eqb c i)
+  where
+    go : (b : Bool) → matches {A = ℕ × ℕ} (cond b (some (og, c)) none) ≡ b
+    go true = refl
+    go false = refl
+column-number-same i (unary og o x) = refl
+column-number-same i (binary og o l r) = refl
+
+unlabelled-same : (l : Label) → is-none l ≡ is-unlabelled l
+unlabelled-same unlabelled = refl
+unlabelled-same (unqualified name) = refl
+unlabelled-same (qualified table name) = refl
+
+interleaved : (a b x y : Bool) → ((b && y) && (a && x)) ≡ ((a && b) && (y && x))
+interleaved true true x y = refl
+interleaved true false x y = refl
+interleaved false true x true = refl
+interleaved false true x false = refl
+interleaved false false x y = refl
+
+pass-through-same : (i : ℕ) (items : List (Expression × Label × ℕ))
+    → (all is-none (map (λ (item : Expression × Label × ℕ). item .1) items) && all (λ (i, expr). is-column i expr) (enumerate i (map (λ (item : Expression × Label × ℕ). item .0) items)))
+    ≡ pass-through i items
+pass-through-same i [] = refl
+pass-through-same i (item ∷ items) =
+    interleaved (is-column i (item .0)) (is-none (item .1))
+    (all (λ (i, expr). is-column i expr) (enumerate (suc i) (map (λ (item : Expression × Label × ℕ). item .0) items))) (all is-none (map (λ (item : Expression × Label × ℕ). item .1) items))
+    ∙ ap₂ _&&_ (ap₂ _&&_ (column-number-same i (item .0)) (unlabelled-same (item .1))) (pass-through-same (suc i) items)
+
+guarded : {A R : Type 0} (b : Bool) (a : A) (f : A → R) (r : R) → ((cond b (some a) none ⇒ f) else r) ≡ cond b (f a) r
+guarded true a f r = refl
+guarded false a f r = refl
+
+cond-in : {A B : Type 0} (f : A → B) (b : Bool) (x y : A) → cond b (f x) (f y) ≡ f (cond b x y)
+cond-in f true x y = refl
+cond-in f false x y = refl
+
+module _ (schema : Schema) where
+  noop-same : (items : List (Expression × Label × ℕ)) (source : Node) → is-noop schema (source, items) ≡ Optimizer.is-noop schema items source
+  noop-same items source = ap₂ (λ n b. eqb n (length items) && b) (columns-same schema source) (pass-through-same 0 items)
+
+  -- ---- the first match
+
+  pub useless-same : (n : Node) → without-useless schema n ≡ remove-useless schema n
+  useless-same (leaf og (scan table alias predicate)) =
+      guarded {A = ℕ × ℕ × Option Expression × Option ℕ} (matches (and-then predicate (Constant-Boolean? true))) (og, table, predicate, alias) (λ t. leaf (t .0) (scan (t .1) (t .3) none)) (leaf og (scan table alias predicate))
+      ∙ (ap (λ b. cond b (leaf og (scan table alias none)) (leaf og (scan table alias predicate))) (optional-true predicate)
+      ∙ cond-in (λ p. leaf og (scan table alias p)) (is-always (optional-verdict predicate)) none predicate)
+  useless-same (leaf og (lookup by table alias constants)) = refl
+  useless-same (leaf og (nothing labels)) = refl
+  useless-same (leaf og (values rows)) = refl
+  useless-same (over og (filter predicate) source) =
+      guarded {A = ℕ × Node × Expression} (matches (Constant-Boolean? true predicate)) (og, source, predicate) (λ t. t .1) (over og (filter predicate) source)
+      ∙ ap (λ b. cond b source (over og (filter predicate) source)) (true-same predicate)
+  useless-same (over og (other (limit amount)) source) = refl
+  useless-same (over og (other (offset amount)) source) = refl
+  useless-same (over og (other (order key)) source) = refl
+  useless-same (over og (other (projection items)) source) =
+      guarded {A = Node × List (Expression × Label × ℕ)} (is-noop schema (source, items)) (source, items) (λ t. t .0) (over og (other (projection items)) source)
+      ∙ ap (λ b. cond b source (over og (other (projection items)) source)) (noop-same items source)
+  useless-same (over og (other (remap targets)) source) = refl
+  useless-same (over og (other (aggregate group-by aggregates)) source) = refl
+  useless-same (join og outer (nested-loop predicate) left right) =
+      guarded {A = ℕ × Node × Node × Option Expression × Bool} (matches (and-then predicate (Constant-Boolean? true))) (og, left, right, predicate, outer)
+      (λ t. join (t .0) (t .4) (nested-loop none) (t .1) (t .2)) (join og outer (nested-loop predicate) left right)
+      ∙ (ap (λ b. cond b (join og outer (nested-loop none) left right) (join og outer (nested-loop predicate) left right)) (optional-true predicate)
+      ∙ cond-in (λ p. join og outer (nested-loop p) left right) (is-always (optional-verdict predicate)) none predicate)
+  useless-same (join og outer (hash a b) left right) = refl
+
+-- ---- is_empty
+
+-- an arm with a guard
+one-arm : {A : Type 0} (b : Bool) (a : A) → ((cond b (some a) none ⇒ λ x. true) else false) ≡ b
+one-arm true a = refl
+one-arm false a = refl
+
+-- an arm, and one below it of a source or of two
+over-source : {A : Type 0} (b c : Bool) (a : A) (s : Node) → ((cond b (some a) none ⇒ λ x. true) else (cond c (some s) none ∣ none ⇒ λ x. true) else false) ≡ (b || c)
+over-source true c a s = refl
+over-source false true a s = refl
+over-source false false a s = refl
+
+one-source : (b : Bool) (a : Node) → (((cond b (some a) none) ⇒ λ x. true) else false) ≡ b
+one-source true a = refl
+one-source false a = refl
+
+two-sources : (b c : Bool) (l r : Node) → ((cond b (some l) none ∣ (cond c (some r) none ∣ none) ⇒ λ x. true) else false) ≡ (b || c)
+two-sources true c l r = refl
+two-sources false true l r = refl
+two-sources false false l r = refl
+
+over-sources : {A : Type 0} (b c d : Bool) (a : A) (l r : Node)
+    → ((cond b (some a) none ⇒ λ x. true) else (cond c (some l) none ∣ (cond d (some r) none ∣ none) ⇒ λ x. true) else false) ≡ (b || (c || d))
+over-sources true c d a l r = refl
+over-sources false c d a l r = two-sources c d l r
+
+empty-list : {A : Type 0} (xs : List A) → Rust.is-empty xs ≡ Optimizer.is-empty-list xs
+empty-list [] = refl
+empty-list (x ∷ xs) = refl
+
+pub emptied-same : (n : Node) → emptied n ≡ Optimizer.is-empty n
+emptied-same (leaf og (scan table alias predicate)) = one-arm {A = ℕ × ℕ × Option Expression × Option ℕ} (matches (and-then predicate Constant-False-Null?)) (og, table, predicate, alias) ∙ optional-false predicate
+emptied-same (leaf og (lookup by-key table alias constants)) = one-arm (Rust.is-empty constants) constants ∙ empty-list constants
+emptied-same (leaf og (lookup (by-index c) table alias constants)) = one-arm (Rust.is-empty constants) constants ∙ empty-list constants
+emptied-same (leaf og (nothing labels)) = refl
+emptied-same (leaf og (values rows)) = one-arm (Rust.is-empty rows) rows ∙ empty-list rows
+emptied-same (over og (filter predicate) source) =
+    over-source {A = ℕ × Node × Expression} (matches (Constant-False-Null? predicate)) (over-nothing source) (og, source, predicate) source
+    ∙ ap₂ _||_ (false-same predicate) (nothing-same source)
+emptied-same (over og (other (limit zero)) source) = refl
+emptied-same (over og (other (limit (suc n))) source) = one-arm (eqb 0 (suc n)) (suc n) ∙ eqb·zero-suc n
+emptied-same (over og (other (offset amount)) source) = go (over-nothing source) ∙ nothing-same source
+  where
+    go : (b : Bool) → ((cond b (some source) none ∣ none ⇒ λ s. true) else false) ≡ b
+    go true = refl
+    go false = refl
+emptied-same (over og (other (order key)) source) = go (over-nothing source) ∙ nothing-same source
+  where
+    go : (b : Bool) → ((cond b (some source) none ∣ none ⇒ λ s. true) else false) ≡ b
+    go true = refl
+    go false = refl
+emptied-same (over og (other (projection items)) source) = one-source (over-nothing source) source ∙ nothing-same source
+emptied-same (over og (other (remap targets)) source) = refl
+emptied-same (over og (other (aggregate group-by aggregates)) source) = refl
+emptied-same (join og outer (nested-loop predicate) left right) =
+    over-sources {A = ℕ × Node × Node × Option Expression × Bool} (matches (and-then predicate Constant-False-Null?)) (over-nothing left) (over-nothing right) (og, left, right, predicate, outer) left right
+    ∙ ap₂ _||_ (optional-false predicate) (ap₂ _||_ (nothing-same left) (nothing-same right))
+emptied-same (join og outer (hash a b) left right) = two-sources (over-nothing left) (over-nothing right) left right ∙ ap₂ _||_ (nothing-same left) (nothing-same right)
+
+-- ---- the rewrite, and the pass
+
+module _ (schema : Schema) where
+  labels-same : (n : Node) (og : ℕ) (is : List ℕ) → map {B = Marked Label} (λ i. (column-label schema n i, og)) is ≡ map (λ (l : Label). (l, og)) (map (Defined-plan.column-label schema n) is)
+  labels-same n og [] = refl
+  labels-same n og (i ∷ is) = ap₂ (λ l ls. (l, og) ∷ ls) (label-same schema n i) (labels-same n og is)
+
+  emptied-or : (b : Bool) (n : Node)
+      → cond b (leaf (node-origin n) (nothing (map (λ i. (column-label schema n i, node-origin n)) (up-to 0 (columns schema n))))) n ≡ empty-or-node schema b n
+  emptied-or true n =
+      ap (λ ls. leaf (node-origin n) (nothing ls))
+      (ap (λ k. map (λ i. (column-label schema n i, node-origin n)) (up-to 0 k)) (columns-same schema n) ∙ labels-same n (node-origin n) (up-to 0 (Defined-plan.columns schema n)))
+  emptied-or false n = refl
+
+  pub short-circuit-same : (n : Node) → short-circuit schema n ≡ Optimizer.short-circuit schema n
+  short-circuit-same n =
+      ap (λ m. cond (emptied m) (leaf (node-origin m) (nothing (map (λ i. (column-label schema m i, node-origin m)) (up-to 0 (columns schema m))))) m) (useless-same schema n)
+      ∙ (ap (λ b. cond b (leaf (node-origin m) (nothing (map (λ i. (column-label schema m i, node-origin m)) (up-to 0 (columns schema m))))) m) (emptied-same m)
+      ∙ emptied-or (Optimizer.is-empty m) m)
+    where
+      m : Node
+      m = remove-useless schema n
+
+  abbrev again : ℕ → Node → Run Node
+  again = transform Ok (λ n. Ok (short-circuit schema n))
+
+  circuit-at : (k : ℕ) (n : Node) → nodes n ≤ k → again k n ≡ Ok (Optimizer.ShortCircuit schema n)
+  circuit-at zero n h = absurd (let p = nodes-positive n in omega arith)
+  circuit-at (suc k) (leaf og l) h = ap Ok (short-circuit-same (leaf og l))
+  circuit-at (suc k) (over og o source) h =
+      ap (λ (r : Run Node). r >>= (λ s. Ok (over og o s)) >>= λ n. Ok (short-circuit schema n)) (circuit-at k source (omega arith))
+      ∙ ap Ok (short-circuit-same (over og o (Optimizer.ShortCircuit schema source)))
+  circuit-at (suc k) (join og outer j left right) h =
+      ap₂ (λ (a b : Run Node). a >>= (λ l. b >>= λ r. Ok (join og outer j l r)) >>= λ n. Ok (short-circuit schema n)) (circuit-at k left (omega arith)) (circuit-at k right (omega arith))
+      ∙ ap Ok (short-circuit-same (join og outer j (Optimizer.ShortCircuit schema left) (Optimizer.ShortCircuit schema right)))
+
+  pub circuit-same : (n : Node) → ShortCircuit schema n ≡ Ok (Optimizer.ShortCircuit schema n)
+  circuit-same n = circuit-at (node-size n) n (nodes-cells n)
