@@ -33,7 +33,7 @@ clash : {A : Type 0} → _≡_ {A = ℕ} 0 1 → A
 clash h = absurd (omega arith)
 
 -- Answers that are the same but for places stay so.
-says-bind : {A B : Type 0} (a : Answer A) (r : Run A) (f : A → Answer B) (g : A → Run B) → without-place a ≡ answer r → ((x : A) → without-place (f x) ≡ answer (g x))
+pub says-bind : {A B : Type 0} (a : Answer A) (r : Run A) (f : A → Answer B) (g : A → Run B) → without-place a ≡ answer r → ((x : A) → without-place (f x) ≡ answer (g x))
     → without-place (a >>= f) ≡ answer (r then g)
 says-bind (done x) (Ok y) f g h k = let e : x ≡ y = cc in k x ∙ ap (λ z. answer (g z)) e
 says-bind (done x) (Err e) f g h k = clash cc

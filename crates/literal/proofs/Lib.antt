@@ -5,3 +5,4 @@ pub mod Folding
 pub mod Right
 pub mod Pushdown
 pub mod Passes
+pub mod Law

@@ -1,8 +1,21 @@
--- The words of the theorems.
+-- The passes that crate sql defines are the Rust's, as transcribed beside this file. Proved in proofs/Law.antt, as `passes-literal`, `pass-literal` and `five-literal`.
+--
+-- Document 01's departures stand where they act: the argument `document-01` (Value.antt) says what is done at an Integer's overflow in a quotient or a negative, and
+-- when hash_join acts; a NaN that is built has the one pattern (`Float`, Value.antt); a refusal has a place (`without-place`, below). Its limit of 2,048 cells is not
+-- here: crate room has that it changes nothing where it doesn't refuse.
 use Prim.Native.Nat.{ℕ}
+use mathlib.Core.Path.{_≡_}
+use mathlib.Core.List.{map}
 use Rattle.value.specs.Value.{Error, number, Result, ok, err}
+use Rattle.sql.specs.Schema.{Schema}
+use Rattle.sql.specs.Plan.{Node}
 use Rattle.sql.specs.Answer.{Answer, done, refused}
+use Rattle.sql.specs.Optimizer.{pass-of, pass, optimize}
+use Rattle.sql.specs.Optimizer as Defined
 use Rattle.literal.specs.Rust.{Run, Ok, Err, Panic}
+use Rattle.literal.specs.Value.{Departures, document-01}
+use Rattle.literal.specs.Plan as Plan
+use Rattle.literal.specs.Optimizer.{ConstantFolding, FilterPushdown, IndexLookup, HashJoin, ShortCircuit, OPTIMIZERS}
 
 -- crate value's Result, as the Rust's
 abbrev pub told : {A : Type 0} → Result A → Run A
@@ -19,3 +32,25 @@ answer Panic = refused 0 0
 abbrev pub without-place : {A : Type 0} → Answer A → Answer A
 without-place (done a) = done a
 without-place (refused number place) = refused number 0
+
+-- ---- a theorem for each pass: where it can't refuse, the Rust gives its plan, and doesn't panic
+
+pub record Passes-literal (schema : Schema) (n : Node) : Type 0 where
+  pub constant-folding : (first : ℕ) → without-place (Defined.ConstantFolding first n) ≡ answer (ConstantFolding document-01 n)
+  pub filter-pushdown : FilterPushdown schema n ≡ Ok (Defined.FilterPushdown schema n)
+  pub index-lookup : IndexLookup schema n ≡ Ok (Defined.IndexLookup schema n)
+  pub hash-join : HashJoin document-01 schema n ≡ Ok (Defined.HashJoin schema n)
+  pub short-circuit : ShortCircuit schema n ≡ Ok (Defined.ShortCircuit schema n)
+
+-- ---- and for all five
+
+-- one of the Rust's OPTIMIZERS by its number, as document 01 counts them
+abbrev pub rust-pass : Departures → Schema → ℕ → Node → Answer Node
+rust-pass departures schema = pass-of (map (λ (f : Node → Run Node) n. answer (f n)) (OPTIMIZERS departures schema))
+
+abbrev pub Pass-literal : Type 0
+Pass-literal = (schema : Schema) (k : ℕ) (n : Node) → without-place (pass schema k n) ≡ rust-pass document-01 schema k n
+
+-- Plan::optimize
+abbrev pub Five-literal : Type 0
+Five-literal = (schema : Schema) (n : Node) → without-place (optimize schema n) ≡ answer (Plan.optimize (OPTIMIZERS document-01 schema) n)
