@@ -19,11 +19,11 @@ use Rattle.literal.specs.Rust.{Run, Ok, Err, Panic, _>>=_, _⇒_, _∣_,
 use Rattle.literal.specs.Rust as Rust
 use Rattle.literal.specs.Value.{document-01}
 use Rattle.literal.specs.Expression.{Column?, into-cnf-vec, and-vec, is-column-lookup, into-column-values}
-use Rattle.literal.specs.Plan.{Filter?, Nothing?, columns, column-label, transform-sources, transform}
+use Rattle.literal.specs.Plan.{expressions, aliases, columns, column-label, transform-sources, transform}
 use Rattle.literal.specs.Optimizer.{Constant-Boolean?, Constant-False-Null?, index-lookup, IndexLookup, minus, hash-join, HashJoin, is-none, is-column, over-nothing, emptied, is-noop, without-useless, short-circuit, ShortCircuit}
-use Rattle.literal.specs.Nodes.{nodes, nodes-positive, nodes-cells, index-lookup-node, hash-join-node}
+use Rattle.literal.specs.Nodes.{nodes, nodes-positive, nodes-cells, over-positive, join-positive}
 use Rattle.literal.proofs.Expression.{size-positive, cnf-vec-same, and-vec-same, lookup-same, values-same, no-number}
-use Rattle.literal.proofs.Plan.{columns-same, label-same, Fits, before-same}
+use Rattle.literal.proofs.Plan.{length-map, columns-same, label-same, Fits, before-same}
 
 -- ======== IndexLookup
 
@@ -148,7 +148,12 @@ module _ (schema : Schema) (table : ℕ) where
             ∙ ap Ok (filtered-same (Defined.and-vec og (f .remaining)) (leaf og (lookup (access schema table c) table alias vs))))
 
 module _ (schema : Schema) where
-  pub index-lookup-same : (n : Node) → index-lookup schema n ≡ Ok (index-lookup-node schema n)
+  abbrev index-lookup-node : Node → Node
+  index-lookup-node (leaf og l) = Optimizer.index-lookup schema og l
+  index-lookup-node (over og o source) = over og o source
+  index-lookup-node (join og outer j left right) = join og outer j left right
+
+  pub index-lookup-same : (n : Node) → index-lookup schema n ≡ Ok (index-lookup-node n)
   unfolding Optimizer.index-lookup
   index-lookup-same (leaf og (scan table alias none)) = refl
   index-lookup-same (leaf og (scan table alias (some p))) =
@@ -182,19 +187,6 @@ module _ (schema : Schema) where
   steps-positive (over og o source) = omega arith
   steps-positive (join og outer j left right) = omega arith
 
-  over-positive : (o : Over) → 1 ≤ over-size o
-  over-positive (filter p) = omega arith
-  over-positive (other (limit amount)) = omega arith
-  over-positive (other (offset amount)) = omega arith
-  over-positive (other (order key)) = omega arith
-  over-positive (other (projection items)) = omega arith
-  over-positive (other (remap targets)) = omega arith
-  over-positive (other (aggregate group-by aggregates)) = omega arith
-
-  join-positive : (j : Join) → 1 ≤ join-size j
-  join-positive (nested-loop p) = omega arith
-  join-positive (hash a b) = omega arith
-
   steps-cells : (n : Node) → steps n ≤ node-size n
   steps-cells (leaf og (scan table alias none)) = omega arith
   steps-cells (leaf og (scan table alias (some p))) = let q = size-positive p in omega arith
@@ -213,7 +205,7 @@ module _ (schema : Schema) where
       go none = omega arith
       go (some q) = h
 
-  index-fits : (k : ℕ) (n : Node) → steps n ≤ suc k → Fits steps k (index-lookup-node schema n)
+  index-fits : (k : ℕ) (n : Node) → steps n ≤ suc k → Fits steps k (index-lookup-node n)
   unfolding Optimizer.index-lookup
   index-fits k (leaf og (scan table alias none)) h = omega arith
   index-fits k (leaf og (scan table alias (some p))) h = found-fits k og table alias p (find-lookup schema table (Defined.into-cnf-vec p)) (omega arith)
@@ -234,7 +226,7 @@ module _ (schema : Schema) where
       go none by vs = refl
       go (some q) by vs = refl
 
-  index-step : (n : Node) → map-sources (Optimizer.IndexLookup schema) (index-lookup-node schema n) ≡ Optimizer.IndexLookup schema n
+  index-step : (n : Node) → map-sources (Optimizer.IndexLookup schema) (index-lookup-node n) ≡ Optimizer.IndexLookup schema n
   unfolding Optimizer.IndexLookup Optimizer.index-lookup
   index-step (leaf og (scan table alias none)) = refl
   index-step (leaf og (scan table alias (some p))) = found-stays og table alias p (find-lookup schema table (Defined.into-cnf-vec p))
@@ -246,7 +238,7 @@ module _ (schema : Schema) where
 
   pub index-same : (n : Node) → IndexLookup schema n ≡ Ok (Optimizer.IndexLookup schema n)
   index-same n =
-      before-same steps steps-positive (index-lookup schema) (index-lookup-node schema) (Optimizer.IndexLookup schema) index-lookup-same index-fits index-step (node-size n) n (steps-cells n)
+      before-same steps steps-positive (index-lookup schema) (index-lookup-node) (Optimizer.IndexLookup schema) index-lookup-same index-fits index-step (node-size n) n (steps-cells n)
 
 -- ======== HashJoin
 
@@ -259,6 +251,11 @@ not-true true h = absurd (let y : _≡_ {A = ℕ} 0 1 = cc in omega arith)
 not-true false h = refl
 
 module _ (schema : Schema) where
+  abbrev hash-join-node : Node → Node
+  hash-join-node (leaf og l) = leaf og l
+  hash-join-node (over og o source) = over og o source
+  hash-join-node (join og outer j left right) = join og outer (Optimizer.hash-join (Defined-plan.columns schema left) j) left right
+
   hash-pair-same : (og : ℕ) (outer : Bool) (left right : Node) (predicate : Expression) (n : ℕ) (p : ℕ × ℕ)
       → cond (ltb (p .0) n && not (ltb (p .1) n)) (minus (p .1) n >>= λ c. Ok (join og outer (hash (p .0) c) left right)) (Ok (join og outer (nested-loop (some predicate)) left right))
       ≡ Ok (join og outer (hash-pair n predicate (some p)) left right)
@@ -272,7 +269,7 @@ module _ (schema : Schema) where
           (not-true (ltb (p .1) n) (and-left (ltb (p .0) n) (not (ltb (p .1) n)) h))
       go false h = refl
 
-  pub hash-join-same : (n : Node) → hash-join document-01 schema n ≡ Ok (hash-join-node schema n)
+  pub hash-join-same : (n : Node) → hash-join document-01 schema n ≡ Ok (hash-join-node n)
   hash-join-same (leaf og l) = refl
   hash-join-same (over og o source) = refl
   hash-join-same (join og outer (hash a b) left right) = refl
@@ -296,19 +293,19 @@ module _ (schema : Schema) where
   hash-join-same (join og outer (nested-loop (some (binary o Equal (binary i f x z) y))) left right) = refl
   hash-join-same (join og outer (nested-loop (some (binary o (function f) x y))) left right) = refl
 
-  hash-fits : (k : ℕ) (n : Node) → nodes n ≤ suc k → Fits nodes k (hash-join-node schema n)
+  hash-fits : (k : ℕ) (n : Node) → nodes n ≤ suc k → Fits nodes k (hash-join-node n)
   hash-fits k (leaf og l) h = omega arith
   hash-fits k (over og o source) h = omega arith
   hash-fits k (join og outer j left right) h = let p = nodes-positive left in let q = nodes-positive right in (omega arith, omega arith)
 
-  hash-step : (n : Node) → map-sources (Optimizer.HashJoin schema) (hash-join-node schema n) ≡ Optimizer.HashJoin schema n
+  hash-step : (n : Node) → map-sources (Optimizer.HashJoin schema) (hash-join-node n) ≡ Optimizer.HashJoin schema n
   hash-step (leaf og l) = refl
   hash-step (over og o source) = refl
   hash-step (join og outer j left right) = refl
 
   pub hash-same : (n : Node) → HashJoin document-01 schema n ≡ Ok (Optimizer.HashJoin schema n)
   hash-same n =
-      before-same nodes nodes-positive (hash-join document-01 schema) (hash-join-node schema) (Optimizer.HashJoin schema) hash-join-same hash-fits hash-step (node-size n) n (nodes-cells n)
+      before-same nodes nodes-positive (hash-join document-01 schema) (hash-join-node) (Optimizer.HashJoin schema) hash-join-same hash-fits hash-step (node-size n) n (nodes-cells n)
 
 -- ======== ShortCircuit
 
@@ -371,12 +368,12 @@ interleaved false true x false = refl
 interleaved false false x y = refl
 
 pass-through-same : (i : ℕ) (items : List (Expression × Label × ℕ))
-    → (all is-none (map (λ (item : Expression × Label × ℕ). item .1) items) && all (λ (i, expr). is-column i expr) (enumerate i (map (λ (item : Expression × Label × ℕ). item .0) items)))
+    → (all is-none (aliases items) && all (λ (i, expr). is-column i expr) (enumerate i (expressions items)))
     ≡ pass-through i items
 pass-through-same i [] = refl
 pass-through-same i (item ∷ items) =
     interleaved (is-column i (item .0)) (is-none (item .1))
-    (all (λ (i, expr). is-column i expr) (enumerate (suc i) (map (λ (item : Expression × Label × ℕ). item .0) items))) (all is-none (map (λ (item : Expression × Label × ℕ). item .1) items))
+    (all (λ (i, expr). is-column i expr) (enumerate (suc i) (expressions items))) (all is-none (aliases items))
     ∙ ap₂ _&&_ (ap₂ _&&_ (column-number-same i (item .0)) (unlabelled-same (item .1))) (pass-through-same (suc i) items)
 
 guarded : {A R : Type 0} (b : Bool) (a : A) (f : A → R) (r : R) → ((cond b (some a) none ⇒ f) else r) ≡ cond b (f a) r
@@ -389,7 +386,9 @@ cond-in f false x y = refl
 
 module _ (schema : Schema) where
   noop-same : (items : List (Expression × Label × ℕ)) (source : Node) → is-noop schema (source, items) ≡ Optimizer.is-noop schema items source
-  noop-same items source = ap₂ (λ n b. eqb n (length items) && b) (columns-same schema source) (pass-through-same 0 items)
+  noop-same items source =
+      ap₂ (λ n k. eqb n k && (all is-none (aliases items) && all (λ (i, expr). is-column i expr) (enumerate 0 (expressions items)))) (columns-same schema source) (length-map (λ (item : Expression × Label × ℕ). item .0) items)
+      ∙ ap (λ b. eqb (Defined-plan.columns schema source) (length items) && b) (pass-through-same 0 items)
 
   -- ---- the first match
 

@@ -14,18 +14,18 @@ use Rattle.sql.specs.Plan as Defined
 use Rattle.sql.specs.Optimizer.{map-sources}
 use Rattle.literal.specs.Rust.{Run, Ok, Err, Panic, _>>=_, _⇒_, _else_, and-then, unwrap-or, get, flatten, position, max-with, maximum}
 use Rattle.literal.specs.Expression.{Column?}
-use Rattle.literal.specs.Plan.{columns, no-alias?, is-some, column-label, transform-sources, transform}
+use Rattle.literal.specs.Plan.{expressions, aliases, targets-of, columns, no-alias?, is-some, column-label, transform-sources, transform}
 
 -- ---- columns
 
-length-map : {A B : Type 0} (f : A → B) (xs : List A) → length (map f xs) ≡ length xs
+pub length-map : {A B : Type 0} (f : A → B) (xs : List A) → length (map f xs) ≡ length xs
 length-map f [] = refl
 length-map f (x ∷ xs) = ap suc (length-map f xs)
 
-highest : (targets : List (Marked (Option ℕ))) → unwrap-or 0 (maximum (map (λ i. suc i) (flatten (map (λ (t : Marked (Option ℕ)). t .0) targets)))) ≡ remap-columns targets
+highest : (targets : List (Marked (Option ℕ))) → unwrap-or 0 (maximum (map (λ i. suc i) (flatten (targets-of targets)))) ≡ remap-columns targets
 highest [] = refl
 highest ((none, og) ∷ targets) = highest targets
-highest ((some target, og) ∷ targets) = go (maximum (map (λ i. suc i) (flatten (map (λ (t : Marked (Option ℕ)). t .0) targets)))) (highest targets)
+highest ((some target, og) ∷ targets) = go (maximum (map (λ i. suc i) (flatten (targets-of targets)))) (highest targets)
   where
     go : (m : Option ℕ) → unwrap-or 0 m ≡ remap-columns targets → max-with (suc target) m ≡ max (suc target) (remap-columns targets)
     go none h = omega arith
@@ -51,15 +51,15 @@ module _ (schema : Schema) where
 
 -- `position`, from a number on
 position-from : (from to : ℕ) (targets : List (Marked (Option ℕ)))
-    → remap-source from targets to ≡ (position (is-some to) (map (λ (t : Marked (Option ℕ)). t .0) targets) ⇒ λ i. from + i)
+    → remap-source from targets to ≡ (position (is-some to) (targets-of targets) ⇒ λ i. from + i)
 position-from from to [] = refl
 position-from from to ((none, og) ∷ targets) =
-    position-from (suc from) to targets ∙ later (position (is-some to) (map (λ (t : Marked (Option ℕ)). t .0) targets))
+    position-from (suc from) to targets ∙ later (position (is-some to) (targets-of targets))
   where
     later : (o : Option ℕ) → (o ⇒ λ i. suc from + i) ≡ ((o ⇒ λ i. suc i) ⇒ λ i. from + i)
     later none = refl
     later (some i) = ap some (omega arith)
-position-from from to ((some target, og) ∷ targets) = go (eqb target to) (position (is-some to) (map (λ (t : Marked (Option ℕ)). t .0) targets)) (position-from (suc from) to targets)
+position-from from to ((some target, og) ∷ targets) = go (eqb target to) (position (is-some to) (targets-of targets)) (position-from (suc from) to targets)
   where
     later : (o : Option ℕ) → (o ⇒ λ i. suc from + i) ≡ ((o ⇒ λ i. suc i) ⇒ λ i. from + i)
     later none = refl
@@ -84,8 +84,8 @@ module _ (f g : ℕ → Label) (same : (i : ℕ) → f i ≡ g i) where
   group-same (e ∷ es) (suc i) = group-same es i
 
   items-same : (items : List (Expression × Label × ℕ)) (i : ℕ)
-      → ((no-alias? (get (map (λ (item : Expression × Label × ℕ). item .1) items) i) ⇒ λ n. (and-then (get (map (λ (item : Expression × Label × ℕ). item .0) items) i) Column? ⇒ λ (o, i). f i) else unlabelled)
-      else (get (map (λ (item : Expression × Label × ℕ). item .1) items) i ⇒ λ alias. alias)
+      → ((no-alias? (get (aliases items) i) ⇒ λ n. (and-then (get (expressions items) i) Column? ⇒ λ (o, i). f i) else unlabelled)
+      else (get (aliases items) i ⇒ λ alias. alias)
       else unlabelled) ≡ items-label g items i
   items-same [] i = refl
   items-same ((e, unlabelled, og) ∷ items) zero = routed-same e
@@ -94,8 +94,8 @@ module _ (f g : ℕ → Label) (same : (i : ℕ) → f i ≡ g i) where
   items-same (item ∷ items) (suc i) = items-same items i
 
   remap-same : (targets : List (Marked (Option ℕ))) (i : ℕ)
-      → unwrap-or unlabelled (position (is-some i) (map (λ (t : Marked (Option ℕ)). t .0) targets) ⇒ λ i. f i) ≡ optional-label g (remap-source 0 targets i)
-  remap-same targets i = go (position (is-some i) (map (λ (t : Marked (Option ℕ)). t .0) targets)) ∙ ap (optional-label g) (sym (position-from 0 i targets))
+      → unwrap-or unlabelled (position (is-some i) (targets-of targets) ⇒ λ i. f i) ≡ optional-label g (remap-source 0 targets i)
+  remap-same targets i = go (position (is-some i) (targets-of targets)) ∙ ap (optional-label g) (sym (position-from 0 i targets))
     where
       go : (o : Option ℕ) → unwrap-or unlabelled (o ⇒ λ i. f i) ≡ optional-label g (o ⇒ λ i. 0 + i)
       go none = refl

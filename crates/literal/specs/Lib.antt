@@ -1,4 +1,3 @@
-pub mod Expressions
 pub mod Nodes
 pub mod Bounds
 pub mod Shift

@@ -12,7 +12,7 @@ use Rattle.sql.specs.Plan.{Label, unlabelled, unqualified, qualified, by-key, b
 use Rattle.literal.specs.Rust.{Run, Ok, Err, Panic, _>>=_, expect, _⇒_, _&_, _∣_, _if_, _else_, matches, and-then, push, get, remove, is-empty, enumerate, filter-map, find-map, all, for-each, try-fold, look-up}
 use Rattle.literal.specs.Value.{Departures, Null?, Boolean?, Boolean}
 use Rattle.literal.specs.Expression.{Constant?, Column?, And?, Or?, Equal?, evaluate, walk, contains, into-cnf-vec, and-vec, is-column-lookup, into-column-values, replace-column, shift-column}
-use Rattle.literal.specs.Plan.{Filter?, HashJoin?, IndexLookup?, KeyLookup?, Limit?, NestedLoopJoin?, Nothing?, Offset?, Order?, Projection?, Scan?, Values?, columns, column-label, transform, transform-expressions}
+use Rattle.literal.specs.Plan.{Filter?, HashJoin?, IndexLookup?, KeyLookup?, Limit?, NestedLoopJoin?, Nothing?, Offset?, Order?, Projection?, Scan?, Values?, expressions, aliases, columns, column-label, transform, transform-expressions}
 
 -- Constant(Boolean(b)), of one b
 abbrev pub Constant-Boolean? : Bool → Expression → Option Bool
@@ -233,9 +233,9 @@ module _ (schema : Schema) where
   -- 380: the guard of the Projection
   abbrev pub is-noop : Node × List (Expression × Label × ℕ) → Bool
   is-noop (source, items) =
-      eqb (columns schema source) (length items)
-      && (all is-none (map (λ (item : Expression × Label × ℕ). item .1) items)
-      && all (λ (i, expr). is-column i expr) (enumerate 0 (map (λ (item : Expression × Label × ℕ). item .0) items)))
+      eqb (columns schema source) (length (expressions items))
+      && (all is-none (aliases items)
+      && all (λ (i, expr). is-column i expr) (enumerate 0 (expressions items)))
 
   -- 361: node = match node
   abbrev pub without-useless : Node → Node

@@ -151,6 +151,17 @@ rows? (values rows) = some rows
 abbrev pub Values? : Node → Option (List (Marked (List Expression)))
 Values? node = and-then (leaf? node) (λ (og, l). rows? l)
 
+-- the two Vecs of a Projection
+abbrev pub expressions : List (Expression × Label × ℕ) → List Expression
+expressions items = map (λ (item : Expression × Label × ℕ). item .0) items
+
+abbrev pub aliases : List (Expression × Label × ℕ) → List Label
+aliases items = map (λ (item : Expression × Label × ℕ). item .1) items
+
+-- the Vec of a Remap
+abbrev pub targets-of : List (Marked (Option ℕ)) → List (Option ℕ)
+targets-of targets = map (λ (t : Marked (Option ℕ)). t .0) targets
+
 -- ---- 190: fn columns
 
 module _ (schema : Schema) where
@@ -158,8 +169,8 @@ module _ (schema : Schema) where
   columns (leaf og (lookup access table alias constants)) = length (table-of schema table .columns)
   columns (leaf og (scan table alias predicate)) = length (table-of schema table .columns)
   columns (over og (other (aggregate group-by aggregates)) source) = length aggregates + length group-by
-  columns (over og (other (projection items)) source) = length (map (λ (item : Expression × Label × ℕ). item .0) items)
-  columns (over og (other (remap targets)) source) = unwrap-or 0 (maximum (map (λ i. suc i) (flatten (map (λ (t : Marked (Option ℕ)). t .0) targets))))
+  columns (over og (other (projection items)) source) = length (expressions items)
+  columns (over og (other (remap targets)) source) = unwrap-or 0 (maximum (map (λ i. suc i) (flatten (targets-of targets))))
   columns (join og outer j left right) = columns left + columns right
   columns (leaf og (nothing labels)) = length labels
   columns (leaf og (values rows)) = unwrap-or 0 (first rows ⇒ λ row. length (row .0))
@@ -193,15 +204,15 @@ module _ (schema : Schema) where
       (and-then (get group-by index) Column? ⇒ λ (o, i). column-label source i)
       else unlabelled
   column-label (over og (other (projection items)) source) index =
-      let alias = get (map (λ (item : Expression × Label × ℕ). item .1) items) index in
-      let expression = get (map (λ (item : Expression × Label × ℕ). item .0) items) index in
+      let alias = get (aliases items) index in
+      let expression = get (expressions items) index in
       (no-alias? alias ⇒ λ n.
           (and-then expression Column? ⇒ λ (o, i). column-label source i)
           else unlabelled)
       else (alias ⇒ λ alias. alias)
       else unlabelled
   column-label (over og (other (remap targets)) source) index =
-      unwrap-or unlabelled (position (is-some index) (map (λ (t : Marked (Option ℕ)). t .0) targets) ⇒ λ i. column-label source i)
+      unwrap-or unlabelled (position (is-some index) (targets-of targets) ⇒ λ i. column-label source i)
   column-label (join og outer j left right) index =
       cond (ltb index (columns schema left)) (column-label left index) (column-label right (index - columns schema left))
   column-label (over og (filter predicate) source) index = column-label source index
