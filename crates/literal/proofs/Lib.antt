@@ -6,3 +6,4 @@ pub mod Right
 pub mod Pushdown
 pub mod Passes
 pub mod Law
+pub mod Departures

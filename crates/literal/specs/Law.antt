@@ -5,15 +5,18 @@
 -- here: crate room has that it changes nothing where it doesn't refuse.
 use Prim.Native.Nat.{ℕ}
 use mathlib.Core.Path.{_≡_}
+use mathlib.Core.Bool.{Bool, true, _&&_}
 use mathlib.Core.List.{map}
+use mathlib.Core.Option.{none, some}
 use Rattle.value.specs.Value.{Error, number, Result, ok, err}
 use Rattle.sql.specs.Schema.{Schema}
-use Rattle.sql.specs.Plan.{Node}
+use Rattle.sql.specs.Plan.{Join, nested-loop, hash, Node, leaf, over, join}
 use Rattle.sql.specs.Answer.{Answer, done, refused}
 use Rattle.sql.specs.Optimizer.{pass-of, pass, optimize}
 use Rattle.sql.specs.Optimizer as Defined
-use Rattle.literal.specs.Rust.{Run, Ok, Err, Panic}
-use Rattle.literal.specs.Value.{Departures, document-01}
+use Rattle.literal.specs.Rust.{Run, Ok, Err, Panic, _⇒_, _else_}
+use Rattle.literal.specs.Value.{Departures, toydb, document-01}
+use Rattle.literal.specs.Plan.{columns}
 use Rattle.literal.specs.Plan as Plan
 use Rattle.literal.specs.Optimizer.{ConstantFolding, FilterPushdown, IndexLookup, HashJoin, ShortCircuit, OPTIMIZERS}
 
@@ -32,6 +35,31 @@ answer Panic = refused 0 0
 abbrev pub without-place : {A : Type 0} → Answer A → Answer A
 without-place (done a) = done a
 without-place (refused number place) = refused number 0
+
+-- ---- what the departures change, beside the Rust itself (`toydb`)
+
+pub data Or-panics {A : Type 0} (rust here : Run A) : Type 0 where
+  same : rust ≡ here → Or-panics rust here
+  panics : rust ≡ Panic → Or-panics rust here
+
+-- ConstantFolding: only what the Rust panics at
+abbrev pub Folding-departs : Type 0
+Folding-departs = (n : Node) → Or-panics (ConstantFolding toydb n) (ConstantFolding document-01 n)
+
+-- whether a join on two columns that are equal has one of each source
+abbrev pub sides : ℕ → Join → Bool
+sides n (nested-loop none) = true
+sides n (nested-loop (some predicate)) = (Defined.equijoin predicate ⇒ λ p. document-01 .one-on-each-side n (p .0) (p .1)) else true
+sides n (hash left-column right-column) = true
+
+abbrev pub each-side : Schema → Node → Bool
+each-side schema (leaf og l) = true
+each-side schema (over og o source) = each-side schema source
+each-side schema (join og outer j left right) = sides (columns schema left) j && (each-side schema left && each-side schema right)
+
+-- HashJoin: nothing, in a plan of which all such joins are so
+abbrev pub Hash-departs : Type 0
+Hash-departs = (schema : Schema) (n : Node) → each-side schema n ≡ true → HashJoin toydb schema n ≡ HashJoin document-01 schema n
 
 -- ---- a theorem for each pass: where it can't refuse, the Rust gives its plan, and doesn't panic
 
