@@ -1,20 +1,22 @@
 -- plan.rs, as transcribed, gives what crate sql defines (Plan.antt there).
 use Prim.Native.Nat.{ℕ, zero, suc, _+_, _-_, _≤_, max}
 use mathlib.Core.Path.{_≡_, refl, sym, ap, ap₂, _∙_}
-use mathlib.Core.Bool.{Bool, true, false, cond}
+use mathlib.Core.Bool.{Bool, true, false, not, _&&_, cond}
 use mathlib.Core.List.{List, [], _∷_, map}
 use mathlib.Core.Option.{Option, none, some}
 use native.Mathlib.Omega.{arith}
-use lib.Dec.{eqb, ltb}
+use lib.Dec.{eqb, ltb, eqb·suc-suc}
+use borrow.Author.Tests.{eqb-true}
 use lib.ListN.{length, getD}
 use Rattle.sql.specs.Schema.{Schema, table-of, column-of}
 use Rattle.sql.specs.Expression.{Marked, Expression, constant, column, unary, binary}
-use Rattle.sql.specs.Plan.{Label, unlabelled, unqualified, qualified, Leaf, scan, lookup, nothing, values, limit, offset, order, projection, remap, aggregate, Over, filter, other, Join, nested-loop, hash, Node, leaf, over, join, remap-columns, group-label, items-label, remap-source, optional-label, qualifier}
+use Rattle.sql.specs.Plan.{Label, unlabelled, unqualified, qualified, Leaf, scan, lookup, nothing, values, limit, offset, order, projection, remap, aggregate, Over, filter, other, Join, nested-loop, hash, Node, leaf, over, join, remap-columns, group-label, items-label, remap-source, optional-label, qualifier, up-to}
 use Rattle.sql.specs.Plan as Defined
 use Rattle.sql.specs.Optimizer.{map-sources}
-use Rattle.literal.specs.Rust.{Run, Ok, Err, Panic, _>>=_, _⇒_, _else_, and-then, unwrap-or, get, flatten, position, max-with, maximum}
+use Rattle.literal.specs.Rust.{Run, Ok, Err, Panic, _>>=_, _⇒_, _else_, and-then, unwrap-or, get, matches, replicate, set-at, enumerate, flatten, position, max-with, maximum, for-each}
 use Rattle.literal.specs.Expression.{Column?}
-use Rattle.literal.specs.Plan.{expressions, aliases, targets-of, columns, no-alias?, is-some, column-label, transform-sources, transform}
+use Rattle.literal.specs.Plan.{expressions, aliases, targets-of, columns, no-alias?, is-some, column-label, transform-sources, transform, invert-step, invert-remap}
+use Rattle.literal.specs.Law.{apart, Invert-literal}
 
 -- ---- columns
 
@@ -164,3 +166,104 @@ module _ (measure : Node → ℕ) (positive : (n : Node) → 1 ≤ measure n)
   before-same (suc k) n h =
       ap (λ z. z >>= transform-sources (transform rewrite Ok k) >>= Ok) (same n)
       ∙ (sources-same k (transform rewrite Ok k) (before-same k) (rewritten n) (fits k n h) ∙ ap Ok (step n))
+
+-- ---- invert_remap
+
+and-both : (a b : Bool) → (a && b) ≡ true → (a ≡ true) × (b ≡ true)
+and-both true b h = (refl, h)
+and-both false b h = absurd (let y : _≡_ {A = ℕ} 0 1 = cc in omega arith)
+
+no-place : {A B : Type 0} {b : B} → _≡_ {A = Option B} none (some b) → A
+no-place h = absurd (let y : _≡_ {A = ℕ} 0 1 = cc in omega arith)
+
+-- lists with the same at each place
+same-places : {A : Type 0} (xs ys : List A) → ((i : ℕ) → get xs i ≡ get ys i) → xs ≡ ys
+same-places [] [] h = refl
+same-places [] (y ∷ ys) h = no-place (h 0)
+same-places (x ∷ xs) [] h = no-place (sym (h 0))
+same-places (x ∷ xs) (y ∷ ys) h = let e : x ≡ y = let k = h 0 in cc in ap₂ _∷_ e (same-places xs ys (λ i. h (suc i)))
+
+module _ (x : Option ℕ) where
+  set-here : (s : List (Option ℕ)) (i : ℕ) → get (set-at s i x) i ≡ (get s i ⇒ λ y. x)
+  set-here [] i = refl
+  set-here (y ∷ s) zero = refl
+  set-here (y ∷ s) (suc i) = set-here s i
+
+  set-elsewhere : (s : List (Option ℕ)) (i j : ℕ) → eqb i j ≡ false → get (set-at s i x) j ≡ get s j
+  set-elsewhere [] i j h = refl
+  set-elsewhere (y ∷ s) zero zero h = absurd (let z : _≡_ {A = ℕ} 0 1 = cc in omega arith)
+  set-elsewhere (y ∷ s) zero (suc j) h = refl
+  set-elsewhere (y ∷ s) (suc i) zero h = refl
+  set-elsewhere (y ∷ s) (suc i) (suc j) h = set-elsewhere s i j (sym (eqb·suc-suc i j) ∙ h)
+
+-- what stands at a place where the first to go there is at this position, from k on
+abbrev placed : ℕ → Option ℕ → Option (Option ℕ) → Option (Option ℕ)
+placed k at o = o ⇒ λ y. (at ⇒ λ i. some (k + i)) else y
+
+placed-next : (k : ℕ) (at : Option ℕ) (o : Option (Option ℕ)) → placed (suc k) at o ≡ placed k (at ⇒ λ i. suc i) o
+placed-next k none none = refl
+placed-next k none (some y) = refl
+placed-next k (some i) none = refl
+placed-next k (some i) (some y) = ap (λ z. some (some z)) (omega arith)
+
+no-position : (o : Option ℕ) → not (matches o) ≡ true → o ≡ none
+no-position none h = refl
+no-position (some i) h = absurd (let z : _≡_ {A = ℕ} 0 1 = cc in omega arith)
+
+inverted : (ts : List (Option ℕ)) (s : List (Option ℕ)) (k to : ℕ) → apart ts ≡ true → get (for-each invert-step s (enumerate k ts)) to ≡ placed k (position (is-some to) ts) (get s to)
+inverted [] s k to h = go (get s to)
+  where
+    go : (o : Option (Option ℕ)) → o ≡ placed k none o
+    go none = refl
+    go (some y) = refl
+inverted (none ∷ ts) s k to h = inverted ts s (suc k) to h ∙ placed-next k (position (is-some to) ts) (get s to)
+inverted (some t ∷ ts) s k to h = go (eqb t to) refl (inverted ts (set-at s t (some k)) (suc k) to)
+  where
+    here : (o : Option (Option ℕ)) → placed (suc k) none (o ⇒ λ y. some k) ≡ placed k (some 0) o
+    here none = refl
+    here (some y) = ap (λ z. some (some z)) (omega arith)
+
+    go : (b : Bool) → eqb t to ≡ b → (apart ts ≡ true → get (for-each invert-step (set-at s t (some k)) (enumerate (suc k) ts)) to ≡ placed (suc k) (position (is-some to) ts) (get (set-at s t (some k)) to))
+        → get (for-each invert-step (set-at s t (some k)) (enumerate (suc k) ts)) to ≡ placed k (cond b (some 0) (position (is-some to) ts ⇒ λ i. suc i)) (get s to)
+    go true e later =
+        let is = eqb-true t to e in
+        let (p, q) = and-both (not (matches (position (is-some t) ts))) (apart ts) h in
+        later q
+        ∙ (ap₂ (placed (suc k)) (ap (λ z. position (is-some z) ts) (sym is) ∙ no-position (position (is-some t) ts) p)
+        (ap (λ z. get (set-at s t (some k)) z) (sym is) ∙ (set-here (some k) s t ∙ ap (λ z. get s z ⇒ λ y. some k) is))
+        ∙ here (get s to))
+    go false e later =
+        let (p, q) = and-both (not (matches (position (is-some t) ts))) (apart ts) h in
+        later q ∙ (ap (placed (suc k) (position (is-some to) ts)) (set-elsewhere (some k) s t to e) ∙ placed-next k (position (is-some to) ts) (get s to))
+
+filled : (g : ℕ → Option ℕ) (k n i : ℕ) → (get (replicate {A = Option ℕ} n none) i ⇒ λ y. g (k + i)) ≡ get (map g (up-to k n)) i
+filled g k zero i = refl
+filled g k (suc n) zero = ap (λ z. some (g z)) (omega arith)
+filled g k (suc n) (suc i) = later (get (replicate {A = Option ℕ} n none) i) ∙ filled g (suc k) n i
+  where
+    later : (o : Option (Option ℕ)) → (o ⇒ λ y. g (k + suc i)) ≡ (o ⇒ λ y. g (suc k + i))
+    later none = refl
+    later (some y) = ap (λ z. some (g z)) (omega arith)
+
+pub invert-literal : Invert-literal
+invert-literal targets h =
+    ap (λ n. for-each invert-step (replicate n none) (enumerate 0 (targets-of targets))) (highest targets)
+    ∙ same-places (for-each invert-step (replicate (remap-columns targets) none) (enumerate 0 (targets-of targets))) (map (remap-source 0 targets) (up-to 0 (remap-columns targets))) at
+  where
+    sourced : (o : Option (Option ℕ)) (i : ℕ) → (o ≡ get (replicate (remap-columns targets) none) i) → placed 0 (position (is-some i) (targets-of targets)) o ≡ (o ⇒ λ y. remap-source 0 targets (0 + i))
+    sourced none i e = refl
+    sourced (some y) i e = first (position (is-some i) (targets-of targets)) (replicated (remap-columns targets) i y (sym e)) ∙ ap some (sym (position-from 0 i targets) ∙ ap (remap-source 0 targets) (omega arith))
+      where
+        replicated : (n i : ℕ) (y : Option ℕ) → get (replicate n none) i ≡ some y → y ≡ none
+        replicated zero i y h = no-place h
+        replicated (suc n) zero y h = cc
+        replicated (suc n) (suc i) y h = replicated n i y h
+
+        first : (o : Option ℕ) → y ≡ none → _≡_ {A = Option (Option ℕ)} (some ((o ⇒ λ i. some (0 + i)) else y)) (some (o ⇒ λ i. 0 + i))
+        first none e = ap some e
+        first (some j) e = refl
+
+    at : (i : ℕ) → get (for-each invert-step (replicate (remap-columns targets) none) (enumerate 0 (targets-of targets))) i ≡ get (map (remap-source 0 targets) (up-to 0 (remap-columns targets))) i
+    at i =
+        inverted (targets-of targets) (replicate (remap-columns targets) none) 0 i h
+        ∙ (sourced (get (replicate (remap-columns targets) none) i) i refl ∙ filled (remap-source 0 targets) 0 (remap-columns targets) i)

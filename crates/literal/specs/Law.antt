@@ -5,18 +5,19 @@
 -- here: crate room has that it changes nothing where it doesn't refuse.
 use Prim.Native.Nat.{ℕ}
 use mathlib.Core.Path.{_≡_}
-use mathlib.Core.Bool.{Bool, true, _&&_}
-use mathlib.Core.List.{map}
-use mathlib.Core.Option.{none, some}
+use mathlib.Core.Bool.{Bool, true, not, _&&_}
+use mathlib.Core.List.{List, [], _∷_, map}
+use mathlib.Core.Option.{Option, none, some}
 use Rattle.value.specs.Value.{Error, number, Result, ok, err}
 use Rattle.sql.specs.Schema.{Schema}
-use Rattle.sql.specs.Plan.{Join, nested-loop, hash, Node, leaf, over, join}
+use Rattle.sql.specs.Expression.{Marked}
+use Rattle.sql.specs.Plan.{Join, nested-loop, hash, Node, leaf, over, join, remap-columns, remap-source, up-to}
 use Rattle.sql.specs.Answer.{Answer, done, refused}
 use Rattle.sql.specs.Optimizer.{pass-of, pass, optimize}
 use Rattle.sql.specs.Optimizer as Defined
-use Rattle.literal.specs.Rust.{Run, Ok, Err, Panic, _⇒_, _else_}
+use Rattle.literal.specs.Rust.{Run, Ok, Err, Panic, _⇒_, _else_, matches, position}
 use Rattle.literal.specs.Value.{Departures, toydb, document-01}
-use Rattle.literal.specs.Plan.{columns}
+use Rattle.literal.specs.Plan.{targets-of, columns, is-some, invert-remap}
 use Rattle.literal.specs.Plan as Plan
 use Rattle.literal.specs.Optimizer.{ConstantFolding, FilterPushdown, IndexLookup, HashJoin, ShortCircuit, OPTIMIZERS}
 
@@ -82,3 +83,15 @@ Pass-literal = (schema : Schema) (k : ℕ) (n : Node) → without-place (pass sc
 -- Plan::optimize
 abbrev pub Five-literal : Type 0
 Five-literal = (schema : Schema) (n : Node) → without-place (optimize schema n) ≡ answer (Plan.optimize (OPTIMIZERS document-01 schema) n)
+
+-- ---- invert_remap, which no pass calls, but the reading of rows does (crate rows, `remap-row`)
+
+-- no two targets are the same, as in every plan in scope (refusal 10)
+abbrev pub apart : List (Option ℕ) → Bool
+apart [] = true
+apart (none ∷ targets) = apart targets
+apart (some t ∷ targets) = not (matches (position (is-some t) targets)) && apart targets
+
+abbrev pub Invert-literal : Type 0
+Invert-literal = (targets : List (Marked (Option ℕ))) → apart (targets-of targets) ≡ true
+    → invert-remap (targets-of targets) ≡ map (remap-source 0 targets) (up-to 0 (remap-columns targets))
