@@ -11,7 +11,7 @@ use lib.Signed.{quotZ}
 use Rattle.value.specs.Value.{Value, division-by-zero}
 use Rattle.sql.specs.Schema.{Schema}
 use Rattle.sql.specs.Expression.{Marked, And, Or, IsNull, IsNaN, Identity, Negate, GreaterThan, LessThan, Add, Divide, Not, logical, Equal, function, Expression, constant, column, unary, binary, origin, size, Row}
-use Rattle.sql.specs.Plan.{Label, Leaf, scan, lookup, nothing, values, limit, offset, order, projection, remap, aggregate, filter, other, Join, nested-loop, hash, Node, leaf, over, join, node-size}
+use Rattle.sql.specs.Plan.{Label, scan, lookup, nothing, values, limit, offset, order, projection, remap, aggregate, filter, other, Join, nested-loop, hash, Node, leaf, over, join, node-size}
 use Rattle.sql.specs.Plan as Defined-plan
 use Rattle.sql.specs.Optimizer as Optimizer
 use Rattle.literal.specs.Rust.{Run, Ok, Err, Panic, _>>=_, _⇒_, _&_, _if_, _else_, matches, try-collect}

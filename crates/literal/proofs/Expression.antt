@@ -1,7 +1,7 @@
 -- expression.rs, as transcribed, gives what crate sql defines (Expression.antt there).
 use Prim.Native.Nat.{ℕ, zero, suc, _+_, _-_, _≤_}
 use mathlib.Core.Path.{_≡_, refl, sym, ap, ap₂, _∙_}
-use mathlib.Core.Bool.{Bool, true, false, not, _&&_, _||_, cond}
+use mathlib.Core.Bool.{Bool, true, false, not, _||_, cond}
 use mathlib.Core.List.{List, [], _∷_, _++_, append-assoc, append-nil}
 use mathlib.Core.Option.{Option, none, some}
 use native.Mathlib.Omega.{arith}
@@ -10,9 +10,9 @@ use lib.IntN.{ℤ, pos, negsuc, negℤ, _+ℤ_}
 use lib.ListN.{length, getD}
 use borrow.Author.Tests.{eq-eqb, eqb-true, ltb-true}
 use Rattle.value.specs.Value.{Value, null, Result, ok, err}
-use Rattle.sql.specs.Expression.{Marked, Logical, And, Or, IsNull, IsNaN, Identity, Negate, GreaterThan, LessThan, Add, Divide, Unary, Not, Binary, logical, Equal, function, Expression, constant, column, unary, binary, and, or, size, Row, bind, evaluate-unary, evaluate-binary, contains-column, map-columns, or-right, or-both, Conjuncts, single, both, distribute, conjuncts, ands, and-all, same-column, is-equal-lookup}
+use Rattle.sql.specs.Expression.{Marked, And, Or, IsNull, IsNaN, Identity, Negate, GreaterThan, LessThan, Add, Divide, Unary, Not, Binary, logical, Equal, function, Expression, constant, column, unary, binary, and, or, size, Row, bind, evaluate-unary, evaluate-binary, contains-column, map-columns, or-both, single, distribute, conjuncts, ands, and-all, same-column, is-equal-lookup}
 use Rattle.sql.specs.Expression as Defined
-use Rattle.literal.specs.Rust.{Run, Ok, Err, Panic, _>>=_, unwrap, expect, assert-eq, _⇒_, _&_, _∣_, _if_, _else_, matches, and-then, push, get, put-first, pop, for-each}
+use Rattle.literal.specs.Rust.{Run, Ok, Panic, _>>=_, unwrap, expect, assert-eq, _⇒_, _&_, _if_, _else_, matches, and-then, push, get, put-first, pop, for-each}
 use Rattle.literal.specs.Value.{document-01, Boolean, eq, is-undefined, checked-add, checked-div}
 use Rattle.literal.specs.Expression.{Column?, And?, evaluate-and, evaluate-or, evaluate-not, evaluate-equal, evaluate-greater-than, evaluate-less-than, evaluate-is-nan, evaluate-identity, evaluate-negate, evaluate, and-on, walk, contains, transform-operands, transform, nnf-xform, into-nnf, cnf-xform, into-cnf, cnf-loop, into-cnf-vec, and-vec, is-column-lookup, into-column-values, replace-xform, replace-column, as-usize, shift-xform, shift-column}
 use Rattle.literal.specs.Law.{told}

@@ -5,17 +5,17 @@ use mathlib.Core.Bool.{Bool, true, false, not, cond}
 use mathlib.Core.List.{List, [], _∷_}
 use mathlib.Core.Option.{Option, none, some}
 use native.Mathlib.Omega.{arith}
-use Rattle.value.specs.Value.{Truth, False, Unknown, True, Value, truth, datum, number, Result, ok, err}
-use Rattle.sql.specs.Expression.{Marked, Logical, And, Or, logical, Equal, function, Expression, constant, column, unary, binary, and, or, origin, size, bind, contains-column}
+use Rattle.value.specs.Value.{False, Unknown, True, Value, truth, datum, number, Result, ok, err}
+use Rattle.sql.specs.Expression.{Marked, And, Or, logical, Equal, function, Expression, constant, column, unary, binary, and, or, origin, size, bind, contains-column}
 use Rattle.sql.specs.Expression as Defined
-use Rattle.sql.specs.Plan.{Label, Access, Leaf, scan, lookup, nothing, values, limit, offset, order, projection, remap, aggregate, Over, filter, other, Join, nested-loop, hash, Node, leaf, over, join, row-size, item-size, key-size, node-size}
+use Rattle.sql.specs.Plan.{Leaf, scan, lookup, nothing, values, limit, offset, order, projection, remap, aggregate, Over, filter, other, Join, nested-loop, hash, Node, leaf, over, join, row-size, item-size, key-size, node-size}
 use Rattle.sql.specs.Answer.{Answer, done, refused, _>>=_, at-place}
-use Rattle.sql.specs.Optimizer.{Operand, deciding, neutral, undetermined, operand, simplify-logical, simplify, fold-by, fold-expression, fold-each, fold-optional, fold-row, fold-part, fold-leaf, fold-over, fold-join}
+use Rattle.sql.specs.Optimizer.{Operand, deciding, neutral, undetermined, operand, simplify-logical, simplify, fold-by, fold-expression, fold-each, fold-row, fold-part, fold-leaf, fold-over, fold-join}
 use Rattle.sql.specs.Optimizer as Optimizer
-use Rattle.literal.specs.Rust.{Run, Ok, Err, Panic, _⇒_, _∣_, _else_, matches, try-collect}
+use Rattle.literal.specs.Rust.{Run, Ok, Err, Panic, _⇒_, _∣_, _else_, try-collect}
 use Rattle.literal.specs.Rust
 use Rattle.literal.specs.Value.{document-01, Boolean}
-use Rattle.literal.specs.Expression.{Column?, evaluate, contains}
+use Rattle.literal.specs.Expression.{evaluate}
 use Rattle.literal.specs.Expression
 use Rattle.literal.specs.Plan.{transform-sources, transform, transformed, transform-expressions}
 use Rattle.literal.specs.Optimizer.{Constant-Boolean?, fold-match, fold, ConstantFolding}

@@ -1,17 +1,16 @@
 -- The theorems of specs/Law.antt, from those of the five passes.
-use Prim.Native.Nat.{ℕ, zero, suc}
-use mathlib.Core.Path.{_≡_, refl, sym, ap, _∙_}
-use mathlib.Core.List.{List, [], _∷_, map}
-use lib.ListN.{getD}
+use Prim.Native.Nat.{zero, suc}
+use mathlib.Core.Path.{_≡_, refl, sym, ap}
+use mathlib.Core.List.{List, [], _∷_}
 use Rattle.sql.specs.Schema.{Schema}
 use Rattle.sql.specs.Plan.{Node}
-use Rattle.sql.specs.Answer.{Answer, done, refused}
-use Rattle.sql.specs.Optimizer.{Optimizer, pass-of, in-turn, pass, optimize}
+use Rattle.sql.specs.Answer.{done}
+use Rattle.sql.specs.Optimizer.{Optimizer, in-turn}
 use Rattle.sql.specs.Optimizer as Defined
-use Rattle.literal.specs.Rust.{Run, Ok, Err, Panic, try-fold}
+use Rattle.literal.specs.Rust.{Run, try-fold}
 use Rattle.literal.specs.Value.{document-01}
-use Rattle.literal.specs.Optimizer.{ConstantFolding, FilterPushdown, IndexLookup, HashJoin, ShortCircuit, OPTIMIZERS}
-use Rattle.literal.specs.Law.{answer, without-place, Passes-literal, rust-pass, Pass-literal, Five-literal}
+use Rattle.literal.specs.Optimizer.{ConstantFolding, FilterPushdown, IndexLookup, HashJoin, ShortCircuit}
+use Rattle.literal.specs.Law.{answer, without-place, Passes-literal, Pass-literal, Five-literal}
 use Rattle.literal.proofs.Folding.{folding-same, says-bind}
 use Rattle.literal.proofs.Pushdown.{pushdown-same}
 use Rattle.literal.proofs.Passes.{index-same, hash-same, circuit-same}

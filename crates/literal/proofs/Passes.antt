@@ -9,17 +9,17 @@ use lib.Dec.{eqb, ltb, eqb·zero-suc}
 use lib.ListN.{length}
 use Rattle.value.specs.Value.{False, Unknown, True, Value, truth, datum}
 use Rattle.sql.specs.Schema.{Schema, table-of, column-of}
-use Rattle.sql.specs.Expression.{Marked, logical, Equal, function, Expression, constant, column, unary, binary, size}
+use Rattle.sql.specs.Expression.{Marked, logical, Equal, function, Expression, constant, column, unary, binary}
 use Rattle.sql.specs.Expression as Defined
-use Rattle.sql.specs.Plan.{Label, unlabelled, unqualified, qualified, Access, by-key, by-index, Leaf, scan, lookup, nothing, values, Other, limit, offset, order, projection, remap, aggregate, Over, filter, other, Join, nested-loop, hash, Node, leaf, over, join, node-origin, up-to, leaf-size, over-size, join-size, node-size}
+use Rattle.sql.specs.Plan.{Label, unlabelled, unqualified, qualified, Access, by-key, by-index, Leaf, scan, lookup, nothing, values, limit, offset, order, projection, remap, aggregate, filter, other, nested-loop, hash, Node, leaf, over, join, node-origin, up-to, node-size}
 use Rattle.sql.specs.Plan as Defined-plan
-use Rattle.sql.specs.Optimizer.{map-sources, Found, filtered, has-index, with-index, found-here, find-lookup, access, lookup-or-scan, equijoin, hash-pair, verdict, optional-verdict, is-always, is-never, remove-true, is-unlabelled, is-column-number, pass-through, is-nothing, remove-useless, empty-or-node}
+use Rattle.sql.specs.Optimizer.{map-sources, Found, filtered, has-index, with-index, found-here, find-lookup, access, lookup-or-scan, hash-pair, verdict, optional-verdict, is-always, is-never, is-unlabelled, is-column-number, pass-through, is-nothing, remove-useless, empty-or-node}
 use Rattle.sql.specs.Optimizer as Optimizer
-use Rattle.literal.specs.Rust.{Run, Ok, Err, Panic, _>>=_, _⇒_, _∣_, _&_, _if_, _else_, matches, and-then, remove, enumerate, find-map, all}
+use Rattle.literal.specs.Rust.{Run, Ok, Panic, _>>=_, _⇒_, _∣_, _if_, _else_, matches, and-then, remove, enumerate, find-map, all}
 use Rattle.literal.specs.Rust as Rust
 use Rattle.literal.specs.Value.{document-01}
-use Rattle.literal.specs.Expression.{Column?, into-cnf-vec, and-vec, is-column-lookup, into-column-values}
-use Rattle.literal.specs.Plan.{expressions, aliases, columns, column-label, transform-sources, transform}
+use Rattle.literal.specs.Expression.{into-cnf-vec, and-vec, is-column-lookup, into-column-values}
+use Rattle.literal.specs.Plan.{expressions, aliases, columns, column-label, transform}
 use Rattle.literal.specs.Optimizer.{Constant-Boolean?, Constant-False-Null?, index-lookup, IndexLookup, minus, hash-join, HashJoin, is-none, is-column, over-nothing, emptied, is-noop, without-useless, short-circuit, ShortCircuit}
 use Rattle.literal.specs.Nodes.{nodes, nodes-positive, nodes-cells, over-positive, join-positive}
 use Rattle.literal.proofs.Expression.{size-positive, cnf-vec-same, and-vec-same, lookup-same, values-same, no-number}

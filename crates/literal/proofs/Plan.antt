@@ -10,12 +10,12 @@ use borrow.Author.Tests.{eqb-true}
 use lib.ListN.{length, getD}
 use Rattle.sql.specs.Schema.{Schema, table-of, column-of}
 use Rattle.sql.specs.Expression.{Marked, Expression, constant, column, unary, binary}
-use Rattle.sql.specs.Plan.{Label, unlabelled, unqualified, qualified, Leaf, scan, lookup, nothing, values, limit, offset, order, projection, remap, aggregate, Over, filter, other, Join, nested-loop, hash, Node, leaf, over, join, remap-columns, group-label, items-label, remap-source, optional-label, qualifier, up-to}
+use Rattle.sql.specs.Plan.{Label, unlabelled, unqualified, qualified, scan, lookup, nothing, values, limit, offset, order, projection, remap, aggregate, filter, other, Node, leaf, over, join, remap-columns, group-label, items-label, remap-source, optional-label, qualifier, up-to}
 use Rattle.sql.specs.Plan as Defined
 use Rattle.sql.specs.Optimizer.{map-sources}
-use Rattle.literal.specs.Rust.{Run, Ok, Err, Panic, _>>=_, _⇒_, _else_, and-then, unwrap-or, get, matches, replicate, set-at, enumerate, flatten, position, max-with, maximum, for-each}
+use Rattle.literal.specs.Rust.{Run, Ok, _>>=_, _⇒_, _else_, and-then, unwrap-or, get, matches, replicate, set-at, enumerate, flatten, position, max-with, maximum, for-each}
 use Rattle.literal.specs.Expression.{Column?}
-use Rattle.literal.specs.Plan.{expressions, aliases, targets-of, columns, no-alias?, is-some, column-label, transform-sources, transform, invert-step, invert-remap}
+use Rattle.literal.specs.Plan.{expressions, aliases, targets-of, columns, no-alias?, is-some, column-label, transform-sources, transform, invert-step}
 use Rattle.literal.specs.Law.{apart, Invert-literal}
 
 -- ---- columns

@@ -1,24 +1,24 @@
 -- FilterPushdown, as transcribed, gives what crate sql defines.
-use Prim.Native.Nat.{ℕ, zero, suc, _+_, _≤_}
+use Prim.Native.Nat.{ℕ, zero, suc, _≤_}
 use mathlib.Core.Path.{_≡_, refl, sym, ap, ap₂, _∙_}
 use mathlib.Core.Bool.{Bool, true, false, not, _&&_, _||_, cond}
 use mathlib.Core.List.{List, [], _∷_, _++_, map, append-assoc, append-nil}
 use mathlib.Core.Option.{Option, none, some}
 use native.Mathlib.Omega.{arith}
 use lib.Dec.{eqb, ltb}
-use lib.IntN.{ℤ, pos, negℤ}
+use lib.IntN.{pos, negℤ}
 use Rattle.sql.specs.Schema.{Schema}
 use Rattle.sql.specs.Expression.{logical, Equal, function, Expression, constant, column, unary, binary, contains-column, shift-column-up, shift-column-down, is-column}
 use Rattle.sql.specs.Expression as Defined
-use Rattle.sql.specs.Plan.{Leaf, scan, lookup, nothing, values, Over, filter, other, Join, nested-loop, hash, Node, leaf, over, join, node-size}
+use Rattle.sql.specs.Plan.{Leaf, scan, lookup, nothing, values, filter, other, nested-loop, hash, Node, leaf, over, join, node-size}
 use Rattle.sql.specs.Plan as Defined-plan
-use Rattle.sql.specs.Optimizer.{map-sources, pushed-or-back, push-part, ref-left, ref-right, cons-if, for-left, for-right, for-both, equijoin, is-number, is-lookup-of, or-else, last-lookup, copied, copy-up, copy-down, flat-map, push-left, push-right, map-optional, go-on}
+use Rattle.sql.specs.Optimizer.{pushed-or-back, push-part, ref-left, ref-right, cons-if, for-left, for-right, for-both, equijoin, is-number, or-else, last-lookup, copied, copy-up, copy-down, flat-map, push-left, push-right, map-optional, go-on}
 use Rattle.sql.specs.Optimizer as Optimizer
-use Rattle.literal.specs.Rust.{Run, Ok, Err, Panic, _>>=_, expect, _⇒_, _∣_, _&_, _else_, push, get, enumerate, cons-some, filter-map, for-each, try-fold, look-up}
-use Rattle.literal.specs.Expression.{Column?, and-on, walk, into-cnf-vec, and-vec, is-column-lookup, replace-column, shift-column}
+use Rattle.literal.specs.Rust.{Run, Ok, _>>=_, expect, _⇒_, _∣_, _else_, push, get, enumerate, cons-some, filter-map, for-each, try-fold, look-up}
+use Rattle.literal.specs.Expression.{and-on, walk, into-cnf-vec, and-vec, is-column-lookup, replace-column, shift-column}
 use Rattle.literal.specs.Plan.{columns}
 use Rattle.literal.specs.Optimizer.{push-into, ref-visitor, Parts, put, split, lookups, copy, copy-lookups, push-to-left, push-to-right, maybe-push-join, push-filters-by, maybe-push-filter, push-filters, FilterPushdown}
-use Rattle.literal.specs.Nodes.{nodes, nodes-positive, nodes-cells, nodes-into, nodes-push, push-filters-of, pushdown-literal, push-enough}
+use Rattle.literal.specs.Nodes.{nodes, nodes-positive, nodes-cells, nodes-into, nodes-push, push-filters-of, pushdown-literal}
 use Rattle.literal.proofs.Expression.{cnf-vec-same, and-vec-same, lookup-same, replace-same, up-same, down-same}
 use Rattle.literal.proofs.Plan.{columns-same, Fits, before-same}
 use Rattle.literal.proofs.Right.{right-refers}

@@ -1,5 +1,5 @@
 -- What is pushed to the right source has no column of the left one, so that `shift_column` wraps none.
-use Prim.Native.Nat.{ℕ, _≤_}
+use Prim.Native.Nat.{ℕ}
 use mathlib.Core.Path.{_≡_, refl, sym, ap, ap₂, _∙_, subst}
 use mathlib.Core.Bool.{Bool, true, false, not, _&&_, _||_, cond}
 use mathlib.Core.List.{List, [], _∷_, _++_}
@@ -8,7 +8,7 @@ use native.Mathlib.Omega.{arith}
 use lib.Dec.{eqb, ltb}
 use borrow.Author.Tests.{ltb-true, ltb-false, le-ltb, eq-eqb, eqb-true}
 use Rattle.sql.specs.Expression.{And, Or, IsNull, IsNaN, Identity, Negate, Not, logical, Equal, function, Expression, constant, column, unary, binary, and, contains-column, map-columns, and-all, and-vec, is-column, is-column-lookup}
-use Rattle.sql.specs.Optimizer.{ref-left, ref-right, cons-if, keep, for-left, for-right, for-both, ordered, equijoin, is-number, is-lookup-of, or-else, last-lookup, copied, copy-up, flat-map, push-right}
+use Rattle.sql.specs.Optimizer.{ref-left, ref-right, cons-if, for-left, for-right, for-both, equijoin, is-number, is-lookup-of, or-else, last-lookup, copied, copy-up, flat-map, push-right}
 use Rattle.literal.proofs.Expression.{no-number, same-column-both}
 
 -- ---- a lookup has one column alone

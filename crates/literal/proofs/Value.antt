@@ -1,26 +1,25 @@
 -- value.rs and the inner matches of evaluate (expression.rs) give what crate value defines.
 use Prim.Native.Nat.{ℕ, zero, suc, _^_}
-use mathlib.Core.Path.{_≡_, refl, sym, ap, ap₂, _∙_}
-use mathlib.Core.Bool.{Bool, true, false, not, _&&_, _||_, cond}
+use mathlib.Core.Path.{_≡_, refl, sym, ap, _∙_}
+use mathlib.Core.Bool.{Bool, true, false, _&&_, _||_, cond}
 use mathlib.Core.List.{List, [], _∷_}
-use mathlib.Core.Option.{Option, none, some}
+use mathlib.Core.Option.{none, some}
 use native.Mathlib.Omega.{arith}
 use lib.Dec.{ltb, eqb, eqb·zero-suc}
 use lib.IntN.{ℤ, pos, negsuc, negℤ, _+ℤ_}
 use lib.Signed.{mag, ltZ, quotZ}
 use lib.Ieee as Ieee
-use lib.Ieee.{binary64}
 use borrow.Author.Tests.{ltb-true, ltb-false, eq-eqb, ne-eqb}
-use Rattle.value.specs.Value.{Truth, False, Unknown, True, integer, float, string, Value, truth, datum, null, boolean, Result, ok, err, overflow, division-by-zero}
+use Rattle.value.specs.Value.{False, Unknown, True, integer, float, string, Value, truth, datum, null, boolean, ok, err, overflow}
 use Rattle.value.specs.Logic.{logical-and, logical-or, logical-not}
-use Rattle.value.specs.Comparison.{Finding, Comparison, Found, Less, Equal, Greater, Unordered, NotComparable, order, then, rounded, number-of, compare-integers, compare-floats, compare-bytes, is-less, is-equal, is-greater, answer, equal, greater-than, less-than}
+use Rattle.value.specs.Comparison.{Finding, Found, Less, Equal, Greater, Unordered, NotComparable, order, then, rounded, number-of, compare-integers, compare-floats, compare-bytes, is-less, is-equal, is-greater, answer, equal, greater-than, less-than}
 use Rattle.value.specs.ComparisonLaws.{turned}
 use Rattle.value.specs.Arithmetic.{checked, add-integers, divide-integers, identity, negate}
 use Rattle.value.specs.Arithmetic as Defined
 use Rattle.value.specs.Undefined.{is-null, is-nan}
 use Rattle.value.specs.Undefined as Undefined
 use Rattle.value.proofs.Comparison.{equal-floats, less-floats, greater-floats, less-integers, greater-integers, swapped-bytes}
-use Rattle.literal.specs.Rust.{Run, Ok, Err, Panic, _⇒_, _else_}
+use Rattle.literal.specs.Rust.{Ok, Err, _⇒_, _else_}
 use Rattle.literal.specs.Value.{document-01, in-i64, i64-eq, bytes-eq, bytes-lt, Boolean, Integer, eq, is-undefined, checked-add, checked-div}
 use Rattle.literal.specs.Expression.{evaluate-and, evaluate-or, evaluate-not, evaluate-equal, evaluate-greater-than, evaluate-less-than, evaluate-is-nan, evaluate-identity, evaluate-negate}
 use Rattle.literal.specs.Law.{told}

@@ -1,5 +1,5 @@
 -- expression.rs, transcribed (Rust.antt says how). Operators that the port leaves out (docs/DIFFERENCES.md, Forms) have no line here.
-use Prim.Native.Nat.{ℕ, zero, suc, _+_, _-_, _^_}
+use Prim.Native.Nat.{ℕ, zero, suc, _-_, _^_}
 use mathlib.Core.Bool.{Bool, true, false, not, _&&_, _||_, Bool·beq, cond}
 use mathlib.Core.List.{List, [], _∷_, _++_}
 use mathlib.Core.Option.{Option, none, some}
@@ -8,7 +8,7 @@ use lib.IntN.{ℤ, pos, negsuc, negℤ, _+ℤ_}
 use lib.Signed.{ltZ}
 use lib.Ieee as Ieee
 use Rattle.value.specs.Value.{Value, float, datum, the-nan, null, mismatch}
-use Rattle.sql.specs.Expression.{Marked, Logical, And, Or, Function1, IsNull, IsNaN, Identity, Negate, GreaterThan, LessThan, Add, Divide, Not, logical, Equal, function, Expression, constant, column, unary, binary, and, or, size, Row}
+use Rattle.sql.specs.Expression.{Marked, And, Or, IsNull, IsNaN, Identity, Negate, GreaterThan, LessThan, Add, Divide, Not, logical, Equal, function, Expression, constant, column, unary, binary, and, or, size, Row}
 use Rattle.literal.specs.Rust.{Run, Ok, Err, Panic, _>>=_, unwrap, expect, assert-eq, _⇒_, _&_, _∣_, _if_, _else_, and-then, push, get, pop, for-each}
 use Rattle.literal.specs.Value.{Departures, in-i64, i64-eq, as-f64, bytes-eq, bytes-lt, Null?, Boolean?, Integer?, Float?, String?, number?, Boolean, Integer, Float, eq, is-undefined, checked-add, checked-div}
 

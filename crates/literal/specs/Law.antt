@@ -8,7 +8,7 @@ use mathlib.Core.Path.{_≡_}
 use mathlib.Core.Bool.{Bool, true, not, _&&_}
 use mathlib.Core.List.{List, [], _∷_, map}
 use mathlib.Core.Option.{Option, none, some}
-use Rattle.value.specs.Value.{Error, number, Result, ok, err}
+use Rattle.value.specs.Value.{number, Result, ok, err}
 use Rattle.sql.specs.Schema.{Schema}
 use Rattle.sql.specs.Expression.{Marked}
 use Rattle.sql.specs.Plan.{Join, nested-loop, hash, Node, leaf, over, join, remap-columns, remap-source, up-to}

@@ -2,15 +2,12 @@
 -- what it became are gone into, as the Rust's `transform` goes (pushdown-literal).
 use Prim.Native.Nat.{ℕ, zero, suc, _+_, _≤_}
 use mathlib.Core.Path.{_≡_, refl, sym, ap, ap₂, _∙_}
-use mathlib.Core.Bool.{Bool}
-use mathlib.Core.List.{List, [], _∷_}
 use mathlib.Core.Option.{Option, none, some}
 use native.Mathlib.Omega.{arith}
-use Rattle.value.specs.Value.{Value}
 use Rattle.sql.specs.Schema.{Schema}
-use Rattle.sql.specs.Expression.{Expression, and-vec, shift-column-down, into-cnf-vec, into-column-values}
-use Rattle.sql.specs.Plan.{Access, Leaf, scan, lookup, nothing, values, limit, offset, order, projection, remap, aggregate, Over, filter, other, Join, nested-loop, hash, Node, leaf, over, join, columns, optional-size, leaf-size, over-size, join-size, node-size}
-use Rattle.sql.specs.Optimizer.{map-sources, push-into, push-part, pushed-or-back, push-left, push-right, map-optional, go-on, maybe-push-join, maybe-push-filter, push-filters, push-filters-from, FilterPushdown, Found, filtered, access, find-lookup, lookup-or-scan, index-lookup, IndexLookup, hash-join, HashJoin, short-circuit, ShortCircuit}
+use Rattle.sql.specs.Expression.{Expression, and-vec, shift-column-down, into-cnf-vec}
+use Rattle.sql.specs.Plan.{Leaf, scan, lookup, nothing, values, limit, offset, order, projection, remap, aggregate, Over, filter, other, Join, nested-loop, hash, Node, leaf, over, join, columns, leaf-size, over-size, join-size, node-size}
+use Rattle.sql.specs.Optimizer.{map-sources, push-into, push-part, pushed-or-back, push-left, push-right, map-optional, go-on, maybe-push-join, maybe-push-filter, push-filters, push-filters-from, FilterPushdown}
 
 abbrev pub nodes : Node → ℕ
 nodes (leaf og l) = 1

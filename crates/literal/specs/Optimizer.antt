@@ -1,15 +1,15 @@
 -- optimizer.rs, transcribed (Rust.antt says how).
-use Prim.Native.Nat.{ℕ, zero, suc, _+_, _-_}
+use Prim.Native.Nat.{ℕ, zero, suc, _-_}
 use mathlib.Core.Bool.{Bool, true, false, not, _&&_, _||_, Bool·beq, cond}
-use mathlib.Core.List.{List, [], _∷_, _++_, map}
+use mathlib.Core.List.{List, [], _∷_, map}
 use mathlib.Core.Option.{Option, none, some}
 use lib.Dec.{eqb, ltb}
-use lib.IntN.{ℤ, pos, negℤ}
+use lib.IntN.{pos, negℤ}
 use lib.ListN.{length}
 use Rattle.sql.specs.Schema.{Schema, table-of, column-of}
-use Rattle.sql.specs.Expression.{Equal, Expression, constant, column, binary, and, or, origin}
+use Rattle.sql.specs.Expression.{Equal, Expression, constant, binary, and, or, origin}
 use Rattle.sql.specs.Plan.{Label, unlabelled, unqualified, qualified, by-key, by-index, scan, lookup, nothing, filter, nested-loop, hash, Node, leaf, over, join, node-origin, up-to, node-size}
-use Rattle.literal.specs.Rust.{Run, Ok, Err, Panic, _>>=_, expect, _⇒_, _&_, _∣_, _if_, _else_, matches, and-then, push, get, remove, is-empty, enumerate, filter-map, find-map, all, for-each, try-fold, look-up}
+use Rattle.literal.specs.Rust.{Run, Ok, Panic, _>>=_, expect, _⇒_, _&_, _∣_, _if_, _else_, matches, and-then, push, get, remove, is-empty, enumerate, filter-map, find-map, all, for-each, try-fold, look-up}
 use Rattle.literal.specs.Value.{Departures, Null?, Boolean?, Boolean}
 use Rattle.literal.specs.Expression.{Constant?, Column?, And?, Or?, Equal?, evaluate, walk, contains, into-cnf-vec, and-vec, is-column-lookup, into-column-values, replace-column, shift-column}
 use Rattle.literal.specs.Plan.{Filter?, HashJoin?, IndexLookup?, KeyLookup?, Limit?, NestedLoopJoin?, Nothing?, Offset?, Order?, Projection?, Scan?, Values?, expressions, aliases, columns, column-label, transform, transform-expressions}

@@ -2,15 +2,15 @@
 -- parts of its items. `table.columns[i]` of a column that there isn't panics in the Rust; here it is `no-column`. A plan in scope has none.
 use Prim.Native.Nat.{ℕ, zero, suc, _+_, _-_}
 use mathlib.Core.Bool.{Bool, true, false, cond}
-use mathlib.Core.List.{List, [], _∷_, map}
+use mathlib.Core.List.{List, map}
 use mathlib.Core.Option.{Option, none, some}
 use lib.Dec.{eqb, ltb}
 use lib.ListN.{length}
 use Rattle.value.specs.Value.{Value}
 use Rattle.sql.specs.Schema.{Schema, table-of, column-of}
 use Rattle.sql.specs.Expression.{Marked, Expression, size}
-use Rattle.sql.specs.Plan.{Label, unlabelled, unqualified, qualified, Access, by-key, by-index, Leaf, scan, lookup, nothing, values, Other, limit, offset, order, projection, remap, aggregate, Over, filter, other, Join, nested-loop, hash, Node, leaf, over, join}
-use Rattle.literal.specs.Rust.{Run, Ok, Err, Panic, _>>=_, _⇒_, _if_, _else_, and-then, unwrap-or, get, first, flatten, position, maximum, try-fold, try-collect, set-at, replicate, enumerate, for-each}
+use Rattle.sql.specs.Plan.{Label, unlabelled, unqualified, qualified, by-key, by-index, Leaf, scan, lookup, nothing, values, Other, limit, offset, order, projection, remap, aggregate, filter, other, nested-loop, hash, Node, leaf, over, join}
+use Rattle.literal.specs.Rust.{Run, Ok, Panic, _>>=_, _⇒_, _else_, and-then, unwrap-or, get, first, flatten, position, maximum, try-fold, try-collect, set-at, replicate, enumerate, for-each}
 use Rattle.literal.specs.Expression.{Column?}
 use Rattle.literal.specs.Expression as Expression
 

@@ -19,7 +19,7 @@ use mathlib.Core.Bool.{Bool, true, false, _&&_, cond}
 use mathlib.Core.List.{List, [], _∷_, _++_}
 use mathlib.Core.Option.{Option, none, some}
 use lib.Dec.{eqb}
-use Rattle.value.specs.Value.{Value, Error}
+use Rattle.value.specs.Value.{Error}
 
 -- ---- Result and ?
 

@@ -1,14 +1,14 @@
 -- value.rs, transcribed (Rust.antt says how).
-use Prim.Native.Nat.{ℕ, zero, suc, _^_}
+use Prim.Native.Nat.{ℕ, _^_}
 use mathlib.Core.Bool.{Bool, true, false, not, _&&_, _||_, Bool·beq, cond}
 use mathlib.Core.List.{List, [], _∷_}
 use mathlib.Core.Option.{Option, none, some}
 use lib.Dec.{ltb, eqb}
-use lib.IntN.{ℤ, pos, negsuc, negℤ, _+ℤ_}
-use lib.Signed.{mag, ltZ, quotZ}
+use lib.IntN.{ℤ, pos, negsuc, _+ℤ_}
+use lib.Signed.{mag, quotZ}
 use lib.Ieee as Ieee
 use lib.Ieee.{binary64}
-use Rattle.value.specs.Value.{Truth, False, Unknown, True, integer, float, string, Value, truth, datum, null, boolean, overflow, division-by-zero, mismatch}
+use Rattle.value.specs.Value.{False, Unknown, True, integer, float, string, Value, truth, datum, null, boolean, overflow, division-by-zero, mismatch}
 use Rattle.literal.specs.Rust.{Run, Ok, Err, Panic, _⇒_, _&_, _∣_, _if_, _else_}
 
 -- ---- Document 01's departures: the places at which this transcription does what document 01 says and not what the Rust does. `toydb` is the Rust.
