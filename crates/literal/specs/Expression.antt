@@ -10,7 +10,7 @@ use lib.Ieee as Ieee
 use Rattle.value.specs.Value.{Value, float, datum, the-nan, null, mismatch}
 use Rattle.sql.specs.Expression.{Marked, And, Or, IsNull, IsNaN, Identity, Negate, GreaterThan, LessThan, Add, Divide, Not, logical, Equal, function, Expression, constant, column, unary, binary, and, or, size, Row}
 use Rattle.literal.specs.Rust.{Run, Ok, Err, Panic, _>>=_, unwrap, expect, assert-eq, _⇒_, _&_, _∣_, _if_, _else_, and-then, push, get, pop, for-each}
-use Rattle.literal.specs.Value.{Departures, in-i64, i64-eq, as-f64, bytes-eq, bytes-lt, Null?, Boolean?, Integer?, Float?, String?, number?, Boolean, Integer, Float, eq, is-undefined, checked-add, checked-div}
+use Rattle.literal.specs.Value.{Departures, i64-eq, as-f64, bytes-eq, bytes-lt, Null?, Boolean?, Integer?, Float?, String?, number?, Boolean, Integer-or, Float, eq, is-undefined, checked-add, checked-div}
 
 -- ---- 19: enum Expression, as patterns: the origin, and what the Rust's pattern binds
 
@@ -128,9 +128,7 @@ evaluate-identity v =
 -- `-i` panics where the negative has no 64 bits, unless document 01 departs.
 abbrev pub evaluate-negate : Departures → Value → Run Value
 evaluate-negate departures v =
-    (Integer? v ⇒ λ i.
-        (in-i64 (negℤ i) ⇒ λ j. Ok (Integer j))
-        else departures .overflowed)
+    (Integer? v ⇒ λ i. Integer-or (departures .overflowed) (negℤ i))
     else (Float? v ⇒ λ f. Ok (Float (Ieee.neg f)))
     else (Null? v ⇒ λ n. Ok null)
     else Err mismatch
@@ -152,7 +150,7 @@ module _ (departures : Departures) where
   evaluate row (unary og (function Identity) expr) = evaluate row expr >>= λ v. evaluate-identity v
   evaluate row (unary og (function Negate) expr) = evaluate row expr >>= λ v. evaluate-negate departures v
 
--- ---- 215: fn walk. The visitor writes to s.
+-- ---- 212: fn walk. The visitor writes to s.
 
 -- `if !visitor(self) { return false; }`, and &&
 abbrev pub and-on : {S : Type 0} → S × Bool → (S → S × Bool) → S × Bool
@@ -165,12 +163,12 @@ walk visitor s (unary og o expr) = and-on (visitor s (unary og o expr)) (λ t. w
 walk visitor s (constant og v) = and-on (visitor s (constant og v)) (λ t. (t, true))
 walk visitor s (column og c) = and-on (visitor s (column og c)) (λ t. (t, true))
 
--- ---- 248: fn contains
+-- ---- 244: fn contains
 
 abbrev pub contains : (Expression → Bool) → Expression → Bool
 contains visitor self = not (walk (λ s e. (s, not (visitor e))) true self .1)
 
--- ---- 254: fn transform
+-- ---- 250: fn transform
 
 abbrev pub transform-operands : (Expression → Run Expression) → Expression → Run Expression
 transform-operands xform (binary og o lhs rhs) = do
@@ -187,28 +185,38 @@ abbrev pub transform : (before after : Expression → Run Expression) → ℕ �
 transform before after zero self = Panic
 transform before after (suc depth) self = before self >>= transform-operands (transform before after depth) >>= after
 
--- ---- 344: fn into_nnf
+-- ---- 331: fn into_nnf
 
+-- match *inner
+abbrev pub nnf-match : ℕ → Expression → Expression
+nnf-match og inner =
+    (And? inner ⇒ λ (o, lhs, rhs). or og (unary og Not lhs) (unary og Not rhs))
+    else (Or? inner ⇒ λ (o, lhs, rhs). and og (unary og Not lhs) (unary og Not rhs))
+    else (Not? inner ⇒ λ (o, inner). inner)
+    else unary og Not inner
+
+-- let Not(inner) = expr else { return expr; }
 abbrev pub nnf-xform : Expression → Expression
 nnf-xform expr =
-    (Not? expr ⇒ λ (og, inner).
-        (And? inner ⇒ λ (o, lhs, rhs). or og (unary og Not lhs) (unary og Not rhs))
-        else (Or? inner ⇒ λ (o, lhs, rhs). and og (unary og Not lhs) (unary og Not rhs))
-        else (Not? inner ⇒ λ (o, inner). inner)
-        else unary og Not inner)
+    (Not? expr ⇒ λ (og, inner). nnf-match og inner)
     else expr
 
 abbrev pub into-nnf : Expression → Run Expression
 into-nnf self = unwrap (transform (λ e. Ok (nnf-xform e)) Ok (size self) self)
 
--- ---- 303: fn into_cnf
+-- ---- 292: fn into_cnf
 
+-- match (*lhs, *rhs)
+abbrev pub cnf-match : ℕ → Expression → Expression → Expression
+cnf-match og lhs rhs =
+    (And? lhs ⇒ λ (o, l, r). and og (or og l rhs) (or og r rhs))
+    else (And? rhs ⇒ λ (o, l, r). and og (or og lhs l) (or og lhs r))
+    else or og lhs rhs
+
+-- let Or(lhs, rhs) = expr else { return expr; }
 abbrev pub cnf-xform : Expression → Expression
 cnf-xform expr =
-    (Or? expr ⇒ λ (og, lhs, rhs).
-        (And? lhs ⇒ λ (o, l, r). and og (or og l rhs) (or og r rhs))
-        else (And? rhs ⇒ λ (o, l, r). and og (or og lhs l) (or og lhs r))
-        else or og lhs rhs)
+    (Or? expr ⇒ λ (og, lhs, rhs). cnf-match og lhs rhs)
     else expr
 
 abbrev pub into-cnf : Expression → Run Expression
@@ -216,15 +224,19 @@ into-cnf self = do
   nnf ← into-nnf self
   unwrap (transform (λ e. Ok (cnf-xform e)) Ok (size nnf) nnf)
 
--- ---- 326: fn into_cnf_vec
+-- ---- 314: fn into_cnf_vec
+
+-- the loop's body; `on` is its next round
+abbrev pub cnf-round : (on : (cnf stack : List Expression) → Run (List Expression)) → (cnf : List Expression) → Expression → (stack : List Expression) → Run (List Expression)
+cnf-round on cnf expr stack =
+    (And? expr ⇒ λ (og, lhs, rhs). on cnf (stack ++ (rhs ∷ lhs ∷ [])))
+    else on (push cnf expr) stack
 
 -- while let Some(expr) = stack.pop()
 abbrev pub cnf-loop : ℕ → (cnf stack : List Expression) → Run (List Expression)
 cnf-loop zero cnf stack = Panic
 cnf-loop (suc rounds) cnf stack =
-    (pop stack ⇒ λ (expr, stack).
-        (And? expr ⇒ λ (og, lhs, rhs). cnf-loop rounds cnf (stack ++ (rhs ∷ lhs ∷ [])))
-        else cnf-loop rounds (push cnf expr) stack)
+    (pop stack ⇒ λ (expr, stack). cnf-round (cnf-loop rounds) cnf expr stack)
     else Ok cnf
 
 abbrev pub into-cnf-vec : Expression → Run (List Expression)
@@ -232,13 +244,13 @@ into-cnf-vec self = do
   cnf ← into-cnf self
   cnf-loop (suc (size cnf)) [] (cnf ∷ [])
 
--- ---- 369: fn and_vec
+-- ---- 354: fn and_vec
 
 abbrev pub and-vec : ℕ → List Expression → Option Expression
 and-vec new [] = none
 and-vec new (expr ∷ iter) = some (for-each (λ expr rhs. and new expr rhs) expr iter)
 
--- ---- 380: fn is_column_lookup
+-- ---- 365: fn is_column_lookup
 
 abbrev pub is-column-lookup : Expression → Option ℕ
 is-column-lookup (binary og Equal lhs rhs) = (Column? lhs & Constant? rhs ⇒ λ (c, v). c .1) ∣ (Constant? lhs & Column? rhs ⇒ λ (v, c). c .1)
@@ -253,12 +265,12 @@ is-column-lookup (unary og (function Negate) x) = none
 is-column-lookup (binary og (logical And) l r) = none
 is-column-lookup (binary og (function f) l r) = none
 
--- ---- 410: fn into_column_values. Each value gets the origin of the constant, or of the Is, that it was.
+-- ---- 393: fn into_column_values. Each value gets the origin of the constant, or of the Is, that it was.
 
 abbrev pub into-column-values : ℕ → Expression → Run (List (Marked Value))
 into-column-values index (binary og Equal lhs rhs) =
-    ((Column? lhs & Constant? rhs) ∣ (Constant? lhs & Column? rhs ⇒ λ (v, c). (c, v)) ⇒ λ (c, value).
-        assert-eq (c .1) index (Ok (cond (is-undefined (value .1)) [] ((value .1, value .0) ∷ []))))
+    ((Column? lhs & Constant? rhs) ∣ (Constant? lhs & Column? rhs ⇒ λ (v, c). (c, v))
+    ⇒ λ (c, value). assert-eq (c .1) index (Ok (cond (is-undefined (value .1)) [] ((value .1, value .0) ∷ []))))
     else Panic
 into-column-values index (unary og (function IsNull) expr) = (Column? expr ⇒ λ c. assert-eq (c .1) index (Ok ((null, og) ∷ []))) else Panic
 into-column-values index (unary og (function IsNaN) expr) = (Column? expr ⇒ λ c. assert-eq (c .1) index (Ok ((datum (float the-nan), og) ∷ []))) else Panic
@@ -274,7 +286,7 @@ into-column-values index (unary og (function Negate) x) = Panic
 into-column-values index (binary og (logical And) l r) = Panic
 into-column-values index (binary og (function f) l r) = Panic
 
--- ---- 443: fn replace_column
+-- ---- 424: fn replace_column
 
 abbrev pub replace-xform : (from to : ℕ) → Expression → Expression
 replace-xform from to expr =
@@ -284,7 +296,7 @@ replace-xform from to expr =
 abbrev pub replace-column : (from to : ℕ) → Expression → Run Expression
 replace-column from to self = unwrap (transform (λ e. Ok (replace-xform from to e)) Ok (size self) self)
 
--- ---- 452: fn shift_column
+-- ---- 433: fn shift_column
 
 -- of an isize: below zero it wraps
 abbrev pub as-usize : ℤ → ℕ

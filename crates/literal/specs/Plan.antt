@@ -14,12 +14,12 @@ use Rattle.literal.specs.Rust.{Run, Ok, Panic, _>>=_, _⇒_, _else_, and
 use Rattle.literal.specs.Expression.{Column?}
 use Rattle.literal.specs.Expression as Expression
 
--- ---- 91: Plan::optimize, of a Select
+-- ---- 88: Plan::optimize, of a Select
 
 abbrev pub optimize : List (Node → Run Node) → Node → Run Node
 optimize optimizers root = try-fold (λ node opt. opt node) root optimizers
 
--- ---- 110: enum Node, as patterns: the origin, and what the Rust's pattern binds, in the order in which the enum declares it
+-- ---- 108: enum Node, as patterns: the origin, and what the Rust's pattern binds, in the order in which the enum declares it
 
 abbrev pub Filter? : Node → Option (ℕ × Node × Expression)
 Filter? (leaf og l) = none
@@ -162,7 +162,7 @@ aliases items = map (λ (item : Expression × Label × ℕ). item .1) items
 abbrev pub targets-of : List (Marked (Option ℕ)) → List (Option ℕ)
 targets-of targets = map (λ (t : Marked (Option ℕ)). t .0) targets
 
--- ---- 190: fn columns
+-- ---- 179: fn columns
 
 module _ (schema : Schema) where
   abbrev pub columns : Node → ℕ
@@ -179,7 +179,7 @@ module _ (schema : Schema) where
   columns (over og (other (offset amount)) source) = columns source
   columns (over og (other (order key)) source) = columns source
 
--- ---- 225: fn column_label
+-- ---- 213: fn column_label
 
 -- Some(Label::None) | None
 abbrev pub no-alias? : Option Label → Option Bool
@@ -207,8 +207,8 @@ module _ (schema : Schema) where
       let alias = get (aliases items) index in
       let expression = get (expressions items) index in
       (no-alias? alias ⇒ λ n.
-          (and-then expression Column? ⇒ λ (o, i). column-label source i)
-          else unlabelled)
+      (and-then expression Column? ⇒ λ (o, i). column-label source i)
+      else unlabelled)
       else (alias ⇒ λ alias. alias)
       else unlabelled
   column-label (over og (other (remap targets)) source) index =
@@ -222,7 +222,7 @@ module _ (schema : Schema) where
   column-label (leaf og (nothing labels)) index = unwrap-or unlabelled (get (map (λ (l : Marked Label). l .0) labels) index)
   column-label (leaf og (values rows)) index = unlabelled
 
--- ---- 282: fn transform
+-- ---- 271: fn transform
 
 abbrev pub transform-sources : (Node → Run Node) → Node → Run Node
 transform-sources xform (over og o source) = do
@@ -238,7 +238,7 @@ abbrev pub transform : (before after : Node → Run Node) → ℕ → Node → R
 transform before after zero self = Panic
 transform before after (suc depth) self = before self >>= transform-sources (transform before after depth) >>= after
 
--- ---- 333: fn transform_expressions
+-- ---- 320: fn transform_expressions
 
 module _ (before after : Expression → Run Expression) where
   abbrev pub transformed : Expression → Run Expression

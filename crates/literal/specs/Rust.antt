@@ -1,5 +1,5 @@
 -- The words of the Rust that the other files here are written in. They transcribe optimizer.rs, and what it calls in plan.rs, expression.rs and value.rs, one file for
--- each, function by function, under the Rust's names (with - for _) and the numbers of its lines.
+-- each, function by function, under the Rust's names (with - for _) and the numbers of its lines (docs/src).
 --
 -- How it is written down:
 --   match       arms in the Rust's order, `(pattern ⇒ λ (what it binds). value) else (next arm) else last`; a pattern is a function to Option, named with a ?. A function

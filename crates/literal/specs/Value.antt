@@ -54,7 +54,7 @@ bytes-lt [] (y ∷ ys) = true
 bytes-lt (x ∷ xs) [] = false
 bytes-lt (x ∷ xs) (y ∷ ys) = ltb x y || (eqb x y && bytes-lt xs ys)
 
--- ---- 45: enum Value, as patterns and as what is built
+-- ---- 42: enum Value, as patterns and as what is built
 
 abbrev pub Null? : Value → Option Value
 Null? (truth False) = none
@@ -100,7 +100,7 @@ Integer i = datum (integer i)
 abbrev pub Float : f64 → Value
 Float x = datum (float (Ieee.toBits binary64 x))
 
--- ---- 92: fn eq
+-- ---- 93: fn eq
 
 abbrev pub eq : Value → Value → Bool
 eq self other =
@@ -113,7 +113,7 @@ eq self other =
     else (Null? self & Null? other ⇒ λ p. true)
     else false
 
--- ---- 174: fn is_undefined
+-- ---- 177: fn is_undefined
 
 abbrev pub is-undefined : Value → Bool
 is-undefined self =
@@ -121,13 +121,15 @@ is-undefined self =
     else (Float? self if Ieee.isNan ⇒ λ f. true)
     else false
 
--- ---- 183: fn checked_add
+-- the i64 that an operation gives, or what happens where it has no 64 bits
+abbrev pub Integer-or : Run Value → ℤ → Run Value
+Integer-or overflow-is i = (in-i64 i ⇒ λ j. Ok (Integer j)) else overflow-is
+
+-- ---- 186: fn checked_add
 
 abbrev pub checked-add : Value → Value → Run Value
 checked-add self other =
-    (Integer? self & Integer? other ⇒ λ (lhs, rhs).
-        (in-i64 (lhs +ℤ rhs) ⇒ λ i. Ok (Integer i))
-        else Err overflow)
+    (Integer? self & Integer? other ⇒ λ (lhs, rhs). Integer-or (Err overflow) (lhs +ℤ rhs))
     else (Integer? self & Float? other ⇒ λ (lhs, rhs). Ok (Float (Ieee.add binary64 (as-f64 lhs) rhs)))
     else (Float? self & Integer? other ⇒ λ (lhs, rhs). Ok (Float (Ieee.add binary64 lhs (as-f64 rhs))))
     else (Float? self & Float? other ⇒ λ (lhs, rhs). Ok (Float (Ieee.add binary64 lhs rhs)))
@@ -135,15 +137,13 @@ checked-add self other =
     else (number? self & Null? other ⇒ λ p. Ok null)
     else Err mismatch
 
--- ---- 201: fn checked_div
+-- ---- 204: fn checked_div
 
 -- `lhs / rhs` panics where the quotient has no 64 bits, unless document 01 departs.
 abbrev pub checked-div : Departures → Value → Value → Run Value
 checked-div departures self other =
     (Integer? self & (Integer? other if i64-eq (pos 0)) ⇒ λ p. Err division-by-zero)
-    else (Integer? self & Integer? other ⇒ λ (lhs, rhs).
-        (in-i64 (quotZ lhs rhs) ⇒ λ i. Ok (Integer i))
-        else departures .overflowed)
+    else (Integer? self & Integer? other ⇒ λ (lhs, rhs). Integer-or (departures .overflowed) (quotZ lhs rhs))
     else (Integer? self & Float? other ⇒ λ (lhs, rhs). Ok (Float (Ieee.div binary64 (as-f64 lhs) rhs)))
     else (Float? self & Integer? other ⇒ λ (lhs, rhs). Ok (Float (Ieee.div binary64 lhs (as-f64 rhs))))
     else (Float? self & Float? other ⇒ λ (lhs, rhs). Ok (Float (Ieee.div binary64 lhs rhs)))
