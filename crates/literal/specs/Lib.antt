@@ -7,3 +7,4 @@ pub mod Expression
 pub mod Plan
 pub mod Optimizer
 pub mod Law
+pub mod Examples
