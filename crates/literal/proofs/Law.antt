@@ -34,13 +34,13 @@ module _ (schema : Schema) where
   pushdown : Same (λ n. done (Defined.FilterPushdown schema n)) (FilterPushdown schema)
   pushdown n = ap answer (sym (pushdown-same schema n))
 
-  lookup : Same (λ n. done (Defined.IndexLookup schema n)) (IndexLookup schema)
+  lookup : Same (λ n. done (Defined.IndexLookup schema n)) (IndexLookup document-01 schema)
   lookup n = ap answer (sym (index-same schema n))
 
   hash : Same (λ n. done (Defined.HashJoin schema n)) (HashJoin document-01 schema)
   hash n = ap answer (sym (hash-same schema n))
 
-  circuit : Same (λ n. done (Defined.ShortCircuit schema n)) (ShortCircuit schema)
+  circuit : Same (λ n. done (Defined.ShortCircuit schema n)) (ShortCircuit document-01 schema)
   circuit n = ap answer (sym (circuit-same schema n))
 
 pub pass-literal : Pass-literal
@@ -61,11 +61,11 @@ turn f g fs gs h rest n = says-bind (f n) (g n) (in-turn fs) (in-rust gs) (h n) 
 
 pub five-literal : Five-literal
 five-literal schema =
-    turn (Defined.ConstantFolding 0) (ConstantFolding document-01) (push ∷ look ∷ join ∷ cut ∷ []) (FilterPushdown schema ∷ IndexLookup schema ∷ HashJoin document-01 schema ∷ ShortCircuit schema ∷ []) (folding schema)
-    (turn push (FilterPushdown schema) (look ∷ join ∷ cut ∷ []) (IndexLookup schema ∷ HashJoin document-01 schema ∷ ShortCircuit schema ∷ []) (pushdown schema)
-    (turn look (IndexLookup schema) (join ∷ cut ∷ []) (HashJoin document-01 schema ∷ ShortCircuit schema ∷ []) (lookup schema)
-    (turn join (HashJoin document-01 schema) (cut ∷ []) (ShortCircuit schema ∷ []) (hash schema)
-    (turn cut (ShortCircuit schema) [] [] (circuit schema) (λ n. refl)))))
+    turn (Defined.ConstantFolding 0) (ConstantFolding document-01) (push ∷ look ∷ join ∷ cut ∷ []) (FilterPushdown schema ∷ IndexLookup document-01 schema ∷ HashJoin document-01 schema ∷ ShortCircuit document-01 schema ∷ []) (folding schema)
+    (turn push (FilterPushdown schema) (look ∷ join ∷ cut ∷ []) (IndexLookup document-01 schema ∷ HashJoin document-01 schema ∷ ShortCircuit document-01 schema ∷ []) (pushdown schema)
+    (turn look (IndexLookup document-01 schema) (join ∷ cut ∷ []) (HashJoin document-01 schema ∷ ShortCircuit document-01 schema ∷ []) (lookup schema)
+    (turn join (HashJoin document-01 schema) (cut ∷ []) (ShortCircuit document-01 schema ∷ []) (hash schema)
+    (turn cut (ShortCircuit document-01 schema) [] [] (circuit schema) (λ n. refl)))))
   where
     push : Optimizer
     push n = done (Defined.FilterPushdown schema n)

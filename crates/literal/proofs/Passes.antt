@@ -8,24 +8,38 @@ use native.Mathlib.Omega.{arith}
 use lib.Dec.{eqb, ltb, eqb·zero-suc}
 use lib.ListN.{length}
 use Rattle.value.specs.Value.{False, Unknown, True, Value, truth, datum}
-use Rattle.sql.specs.Schema.{Schema, table-of, column-of}
+use Rattle.sql.specs.Schema.{Column, Schema, table-of, column-of}
 use Rattle.sql.specs.Expression.{Marked, logical, Equal, function, Expression, constant, column, unary, binary}
 use Rattle.sql.specs.Expression as Defined
 use Rattle.sql.specs.Plan.{Label, unlabelled, unqualified, qualified, Access, by-key, by-index, Leaf, scan, lookup, nothing, values, limit, offset, order, projection, remap, aggregate, filter, other, nested-loop, hash, Node, leaf, over, join, node-origin, up-to, node-size}
 use Rattle.sql.specs.Plan as Defined-plan
 use Rattle.sql.specs.Optimizer.{map-sources, Found, filtered, has-index, with-index, found-here, find-lookup, access, lookup-or-scan, hash-pair, verdict, optional-verdict, is-always, is-never, is-unlabelled, is-column-number, pass-through, is-nothing, remove-useless, empty-or-node}
 use Rattle.sql.specs.Optimizer as Optimizer
-use Rattle.literal.specs.Rust.{Run, Ok, Panic, _>>=_, _⇒_, _∣_, _if_, _else_, matches, and-then, remove, enumerate, find-map, all}
+use Rattle.literal.specs.Rust.{Run, Ok, Panic, _>>=_, _⇒_, _∣_, _if_, _else_, matches, and-then, remove, enumerate, try-find-map, try-collect, all}
 use Rattle.literal.specs.Rust as Rust
 use Rattle.literal.specs.Value.{document-01}
 use Rattle.literal.specs.Expression.{into-cnf-vec, and-vec, is-column-lookup, into-column-values}
 use Rattle.literal.specs.Plan.{expressions, aliases, columns, column-label, transform}
-use Rattle.literal.specs.Optimizer.{Constant-Boolean?, Constant-False-Null?, index-lookup, IndexLookup, minus, hash-join, HashJoin, is-none, is-column, over-nothing, emptied, is-noop, without-useless, short-circuit, ShortCircuit}
+use Rattle.literal.specs.Optimizer.{Constant-Boolean?, Constant-False-Null?, is-indexed, index-lookup-of, index-lookup, IndexLookup, minus, hash-join, HashJoin, is-none, is-column, over-nothing, emptied, is-noop, without-useless, nothing-of, short-circuit, ShortCircuit}
+use Rattle.literal.specs.Optimizer as Optimizer-text
 use Rattle.literal.specs.Nodes.{nodes, nodes-positive, nodes-cells, over-positive, join-positive}
 use Rattle.literal.proofs.Expression.{size-positive, cnf-vec-same, and-vec-same, lookup-same, values-same, no-number}
-use Rattle.literal.proofs.Plan.{length-map, columns-same, label-same, Fits, before-same}
+use Rattle.literal.proofs.Plan.{length-map, columns-same, column-at-same, label-same, Fits, before-same}
 
 -- ======== IndexLookup
+
+-- find_map, with a closure that gives its result at once
+abbrev find-map : {A B : Type 0} → (A → Option B) → List A → Option B
+find-map f [] = none
+find-map f (x ∷ xs) = f x ∣ find-map f xs
+
+find-map-same : {A B : Type 0} (f : A → Run (Option B)) (g : A → Option B) → ((x : A) → f x ≡ Ok (g x)) → (xs : List A) → try-find-map f xs ≡ Ok (find-map g xs)
+find-map-same f g h [] = refl
+find-map-same f g h (x ∷ xs) = ap (λ (r : Run (Option _)). r >>= λ o. (o ⇒ λ y. Ok (some y)) else try-find-map f xs) (h x) ∙ go (g x) (find-map-same f g h xs)
+  where
+    go : (o : Option _) → try-find-map f xs ≡ Ok (find-map g xs) → ((o ⇒ λ y. Ok (some y)) else try-find-map f xs) ≡ Ok (o ∣ find-map g xs)
+    go none k = k
+    go (some y) k = refl
 
 module _ (schema : Schema) (table : ℕ) where
   abbrev choose-at : ℕ × Expression → Option (ℕ × ℕ)
@@ -33,6 +47,28 @@ module _ (schema : Schema) (table : ℕ) where
 
   abbrev choose : ℕ → List Expression → Option (ℕ × ℕ)
   choose k cnf = find-map choose-at (enumerate k cnf)
+
+  indexed-same : (p : ℕ × Expression) → is-indexed document-01 schema table p ≡ Ok (choose-at p)
+  indexed-same p = go (is-column-lookup (p .1))
+    where
+      chosen-if : Bool → ℕ → Option (ℕ × ℕ)
+      chosen-if b c = cond b (some (p .0, c)) none
+
+      by-key-or : (b : Bool) (c : Column) → cond b (Ok true) (Ok (c .index)) ≡ Ok (b || c .index)
+      by-key-or true c = refl
+      by-key-or false c = refl
+
+      kept : (b : Bool) (c : ℕ) → chosen-if b c ≡ (cond b (some c) none ⇒ λ c. (p .0, c))
+      kept true c = refl
+      kept false c = refl
+
+      go : (o : Option ℕ) → ((o ⇒ λ c. Optimizer-text.has-index document-01 schema table c >>= λ indexed. Ok (chosen-if indexed c)) else Ok none)
+          ≡ Ok (o if has-index schema table ⇒ λ c. (p .0, c))
+      go none = refl
+      go (some c) =
+          ap (λ (r : Run Column). cond (eqb c (table-of schema table .primary-key)) (Ok true) (r >>= λ column. Ok (column .index)) >>= λ indexed. Ok (chosen-if indexed c)) (column-at-same schema table c)
+          ∙ (ap (λ (r : Run Bool). r >>= λ indexed. Ok (chosen-if indexed c)) (by-key-or (eqb c (table-of schema table .primary-key)) (column-of schema table c))
+          ∙ ap Ok (kept (has-index schema table c) c))
 
   abbrev next : Option (ℕ × ℕ) → Option (ℕ × ℕ)
   next o = o ⇒ λ (i, c). (suc i, c)
@@ -153,12 +189,17 @@ module _ (schema : Schema) where
   index-lookup-node (over og o source) = over og o source
   index-lookup-node (join og outer j left right) = join og outer j left right
 
-  pub index-lookup-same : (n : Node) → index-lookup schema n ≡ Ok (index-lookup-node n)
+  pub index-lookup-same : (n : Node) → index-lookup document-01 schema n ≡ Ok (index-lookup-node n)
   unfolding Optimizer.index-lookup
   index-lookup-same (leaf og (scan table alias none)) = refl
   index-lookup-same (leaf og (scan table alias (some p))) =
-      ap (λ (r : Run (List Expression)). r >>= λ cnf. (choose schema table 0 cnf ⇒ λ (i, c). remove cnf i >>= built schema table og alias p c) else Ok (leaf og (scan table alias (some p)))) (cnf-vec-same p)
-      ∙ chosen-same schema table og alias p (Defined.into-cnf-vec p)
+      ap (λ (r : Run (List Expression)). r >>= index-lookup-of document-01 schema og table alias p) (cnf-vec-same p)
+      ∙ (ap (λ (r : Run (Option (ℕ × ℕ))). r >>= λ first. (first ⇒ λ (i, c). remove cnf i >>= built schema table og alias p c) else Ok (leaf og (scan table alias (some p))))
+      (find-map-same (is-indexed document-01 schema table) (choose-at schema table) (indexed-same schema table) (enumerate 0 cnf))
+      ∙ chosen-same schema table og alias p cnf)
+    where
+      cnf : List Expression
+      cnf = Defined.into-cnf-vec p
   index-lookup-same (leaf og (lookup by table alias constants)) = refl
   index-lookup-same (leaf og (nothing labels)) = refl
   index-lookup-same (leaf og (values rows)) = refl
@@ -236,9 +277,9 @@ module _ (schema : Schema) where
   index-step (over og o source) = refl
   index-step (join og outer j left right) = refl
 
-  pub index-same : (n : Node) → IndexLookup schema n ≡ Ok (Optimizer.IndexLookup schema n)
+  pub index-same : (n : Node) → IndexLookup document-01 schema n ≡ Ok (Optimizer.IndexLookup schema n)
   index-same n =
-      before-same steps steps-positive (index-lookup schema) (index-lookup-node) (Optimizer.IndexLookup schema) index-lookup-same index-fits index-step (node-size n) n (steps-cells n)
+      before-same steps steps-positive (index-lookup document-01 schema) index-lookup-node (Optimizer.IndexLookup schema) index-lookup-same index-fits index-step (node-size n) n (steps-cells n)
 
 -- ======== HashJoin
 
@@ -305,7 +346,7 @@ module _ (schema : Schema) where
 
   pub hash-same : (n : Node) → HashJoin document-01 schema n ≡ Ok (Optimizer.HashJoin schema n)
   hash-same n =
-      before-same nodes nodes-positive (hash-join document-01 schema) (hash-join-node) (Optimizer.HashJoin schema) hash-join-same hash-fits hash-step (node-size n) n (nodes-cells n)
+      before-same nodes nodes-positive (hash-join document-01 schema) hash-join-node (Optimizer.HashJoin schema) hash-join-same hash-fits hash-step (node-size n) n (nodes-cells n)
 
 -- ======== ShortCircuit
 
@@ -481,38 +522,39 @@ emptied-same (join og outer (hash a b) left right) = two-sources (over-nothing l
 -- ---- the rewrite, and the pass
 
 module _ (schema : Schema) where
-  labels-same : (n : Node) (og : ℕ) (is : List ℕ) → map {B = Marked Label} (λ i. (column-label schema n i, og)) is ≡ map (λ (l : Label). (l, og)) (map (Defined-plan.column-label schema n) is)
+  labels-same : (n : Node) (og : ℕ) (is : List ℕ)
+      → try-collect {B = Marked Label} (λ i. column-label document-01 schema n i >>= λ l. Ok (l, og)) is ≡ Ok (map (λ (l : Label). (l, og)) (map (Defined-plan.column-label schema n) is))
   labels-same n og [] = refl
-  labels-same n og (i ∷ is) = ap₂ (λ l ls. (l, og) ∷ ls) (label-same schema n i) (labels-same n og is)
+  labels-same n og (i ∷ is) =
+      ap₂ (λ (r : Run Label) (s : Run (List (Marked Label))). (r >>= λ l. Ok (l, og)) >>= λ x. s >>= λ xs. Ok (x ∷ xs)) (label-same schema n i) (labels-same n og is)
 
-  emptied-or : (b : Bool) (n : Node)
-      → cond b (leaf (node-origin n) (nothing (map (λ i. (column-label schema n i, node-origin n)) (up-to 0 (columns schema n))))) n ≡ empty-or-node schema b n
+  emptied-or : (b : Bool) (n : Node) → cond b (nothing-of document-01 schema n) (Ok n) ≡ Ok (empty-or-node schema b n)
   emptied-or true n =
-      ap (λ ls. leaf (node-origin n) (nothing ls))
-      (ap (λ k. map (λ i. (column-label schema n i, node-origin n)) (up-to 0 k)) (columns-same schema n) ∙ labels-same n (node-origin n) (up-to 0 (Defined-plan.columns schema n)))
+      ap (λ (r : Run (List (Marked Label))). r >>= λ ls. Ok (leaf (node-origin n) (nothing ls)))
+      (ap (λ k. try-collect {B = Marked Label} (λ i. column-label document-01 schema n i >>= λ l. Ok (l, node-origin n)) (up-to 0 k)) (columns-same schema n)
+      ∙ labels-same n (node-origin n) (up-to 0 (Defined-plan.columns schema n)))
   emptied-or false n = refl
 
-  pub short-circuit-same : (n : Node) → short-circuit schema n ≡ Optimizer.short-circuit schema n
+  pub short-circuit-same : (n : Node) → short-circuit document-01 schema n ≡ Ok (Optimizer.short-circuit schema n)
   short-circuit-same n =
-      ap (λ m. cond (emptied m) (leaf (node-origin m) (nothing (map (λ i. (column-label schema m i, node-origin m)) (up-to 0 (columns schema m))))) m) (useless-same schema n)
-      ∙ (ap (λ b. cond b (leaf (node-origin m) (nothing (map (λ i. (column-label schema m i, node-origin m)) (up-to 0 (columns schema m))))) m) (emptied-same m)
-      ∙ emptied-or (Optimizer.is-empty m) m)
+      ap (λ m. cond (emptied m) (nothing-of document-01 schema m) (Ok m)) (useless-same schema n)
+      ∙ (ap (λ b. cond b (nothing-of document-01 schema m) (Ok m)) (emptied-same m) ∙ emptied-or (Optimizer.is-empty m) m)
     where
       m : Node
       m = remove-useless schema n
 
   abbrev again : ℕ → Node → Run Node
-  again = transform Ok (λ n. Ok (short-circuit schema n))
+  again = transform Ok (short-circuit document-01 schema)
 
   circuit-at : (k : ℕ) (n : Node) → nodes n ≤ k → again k n ≡ Ok (Optimizer.ShortCircuit schema n)
   circuit-at zero n h = absurd (let p = nodes-positive n in omega arith)
-  circuit-at (suc k) (leaf og l) h = ap Ok (short-circuit-same (leaf og l))
+  circuit-at (suc k) (leaf og l) h = short-circuit-same (leaf og l)
   circuit-at (suc k) (over og o source) h =
-      ap (λ (r : Run Node). r >>= (λ s. Ok (over og o s)) >>= λ n. Ok (short-circuit schema n)) (circuit-at k source (omega arith))
-      ∙ ap Ok (short-circuit-same (over og o (Optimizer.ShortCircuit schema source)))
+      ap (λ (r : Run Node). r >>= (λ s. Ok (over og o s)) >>= short-circuit document-01 schema) (circuit-at k source (omega arith))
+      ∙ short-circuit-same (over og o (Optimizer.ShortCircuit schema source))
   circuit-at (suc k) (join og outer j left right) h =
-      ap₂ (λ (a b : Run Node). a >>= (λ l. b >>= λ r. Ok (join og outer j l r)) >>= λ n. Ok (short-circuit schema n)) (circuit-at k left (omega arith)) (circuit-at k right (omega arith))
-      ∙ ap Ok (short-circuit-same (join og outer j (Optimizer.ShortCircuit schema left) (Optimizer.ShortCircuit schema right)))
+      ap₂ (λ (a b : Run Node). a >>= (λ l. b >>= λ r. Ok (join og outer j l r)) >>= short-circuit document-01 schema) (circuit-at k left (omega arith)) (circuit-at k right (omega arith))
+      ∙ short-circuit-same (join og outer j (Optimizer.ShortCircuit schema left) (Optimizer.ShortCircuit schema right))
 
-  pub circuit-same : (n : Node) → ShortCircuit schema n ≡ Ok (Optimizer.ShortCircuit schema n)
+  pub circuit-same : (n : Node) → ShortCircuit document-01 schema n ≡ Ok (Optimizer.ShortCircuit schema n)
   circuit-same n = circuit-at (node-size n) n (nodes-cells n)

@@ -8,14 +8,15 @@ use native.Mathlib.Omega.{arith}
 use lib.Dec.{eqb, ltb, eqb·suc-suc}
 use borrow.Author.Tests.{eqb-true}
 use lib.ListN.{length, getD}
-use Rattle.sql.specs.Schema.{Schema, table-of, column-of}
+use Rattle.sql.specs.Schema.{Column, Schema, no-column, table-of, column-of}
 use Rattle.sql.specs.Expression.{Marked, Expression, constant, column, unary, binary}
 use Rattle.sql.specs.Plan.{Label, unlabelled, unqualified, qualified, scan, lookup, nothing, values, limit, offset, order, projection, remap, aggregate, filter, other, Node, leaf, over, join, remap-columns, group-label, items-label, remap-source, optional-label, qualifier, up-to}
 use Rattle.sql.specs.Plan as Defined
 use Rattle.sql.specs.Optimizer.{map-sources}
 use Rattle.literal.specs.Rust.{Run, Ok, _>>=_, _⇒_, _else_, and-then, unwrap-or, get, matches, replicate, set-at, enumerate, flatten, position, max-with, maximum, for-each}
+use Rattle.literal.specs.Value.{document-01}
 use Rattle.literal.specs.Expression.{Column?}
-use Rattle.literal.specs.Plan.{expressions, aliases, targets-of, columns, no-alias?, is-some, column-label, transform-sources, transform, invert-step}
+use Rattle.literal.specs.Plan.{expressions, aliases, targets-of, columns, no-alias?, is-some, column-at, column-label, transform-sources, transform, invert-step}
 use Rattle.literal.specs.Law.{apart, Invert-literal}
 
 -- ---- columns
@@ -73,22 +74,22 @@ position-from from to ((some target, og) ∷ targets) = go (eqb target to) (posi
     go false o h = h ∙ later o
 
 -- the labels that two ways of tracing a source's column give, where these ways are the same
-module _ (f g : ℕ → Label) (same : (i : ℕ) → f i ≡ g i) where
-  routed-same : (e : Expression) → ((and-then (some e) Column? ⇒ λ (o, i). f i) else unlabelled) ≡ Defined.routed g e
+module _ (f : ℕ → Run Label) (g : ℕ → Label) (same : (i : ℕ) → f i ≡ Ok (g i)) where
+  routed-same : (e : Expression) → ((and-then (some e) Column? ⇒ λ (o, i). f i) else Ok unlabelled) ≡ Ok (Defined.routed g e)
   routed-same (constant og v) = refl
   routed-same (column og c) = same c
   routed-same (unary og o x) = refl
   routed-same (binary og o l r) = refl
 
-  group-same : (es : List Expression) (i : ℕ) → ((and-then (get es i) Column? ⇒ λ (o, i). f i) else unlabelled) ≡ group-label g es i
+  group-same : (es : List Expression) (i : ℕ) → ((and-then (get es i) Column? ⇒ λ (o, i). f i) else Ok unlabelled) ≡ Ok (group-label g es i)
   group-same [] i = refl
   group-same (e ∷ es) zero = routed-same e
   group-same (e ∷ es) (suc i) = group-same es i
 
   items-same : (items : List (Expression × Label × ℕ)) (i : ℕ)
-      → ((no-alias? (get (aliases items) i) ⇒ λ n. (and-then (get (expressions items) i) Column? ⇒ λ (o, i). f i) else unlabelled)
-      else (get (aliases items) i ⇒ λ alias. alias)
-      else unlabelled) ≡ items-label g items i
+      → ((no-alias? (get (aliases items) i) ⇒ λ n. (and-then (get (expressions items) i) Column? ⇒ λ (o, i). f i) else Ok unlabelled)
+      else (get (aliases items) i ⇒ λ alias. Ok alias)
+      else Ok unlabelled) ≡ Ok (items-label g items i)
   items-same [] i = refl
   items-same ((e, unlabelled, og) ∷ items) zero = routed-same e
   items-same ((e, unqualified name, og) ∷ items) zero = refl
@@ -96,12 +97,12 @@ module _ (f g : ℕ → Label) (same : (i : ℕ) → f i ≡ g i) where
   items-same (item ∷ items) (suc i) = items-same items i
 
   remap-same : (targets : List (Marked (Option ℕ))) (i : ℕ)
-      → unwrap-or unlabelled (position (is-some i) (targets-of targets) ⇒ λ i. f i) ≡ optional-label g (remap-source 0 targets i)
-  remap-same targets i = go (position (is-some i) (targets-of targets)) ∙ ap (optional-label g) (sym (position-from 0 i targets))
+      → ((position (is-some i) (targets-of targets) ⇒ λ i. f i) else Ok unlabelled) ≡ Ok (optional-label g (remap-source 0 targets i))
+  remap-same targets i = go (position (is-some i) (targets-of targets)) ∙ ap (λ o. Ok (optional-label g o)) (sym (position-from 0 i targets))
     where
-      go : (o : Option ℕ) → unwrap-or unlabelled (o ⇒ λ i. f i) ≡ optional-label g (o ⇒ λ i. 0 + i)
+      go : (o : Option ℕ) → ((o ⇒ λ i. f i) else Ok unlabelled) ≡ Ok (optional-label g (o ⇒ λ i. 0 + i))
       go none = refl
-      go (some j) = same j ∙ ap g (omega arith)
+      go (some j) = same j ∙ ap (λ k. Ok (g k)) (omega arith)
 
 qualifier-same : (alias : Option ℕ) (name : ℕ) → unwrap-or name alias ≡ qualifier alias name
 qualifier-same none name = refl
@@ -113,30 +114,43 @@ nothing-same (l ∷ labels) zero = refl
 nothing-same (l ∷ labels) (suc i) = nothing-same labels i
 
 module _ (schema : Schema) where
-  table-same : (table : ℕ) (alias : Option ℕ) (i : ℕ)
-      → qualified (unwrap-or (table-of schema table .name) alias) (column-of schema table i .name) ≡ Defined.table-label schema table alias i
-  table-same table alias i = ap (λ z. qualified z (column-of schema table i .name)) (qualifier-same alias (table-of schema table .name))
+  pub column-at-same : (table i : ℕ) → column-at document-01 schema table i ≡ Ok (column-of schema table i)
+  column-at-same table i = go (table-of schema table .columns) i
+    where
+      go : (cs : List Column) (i : ℕ) → ((get cs i ⇒ λ c. Ok c) else Ok no-column) ≡ Ok (getD cs i no-column)
+      go [] i = refl
+      go (c ∷ cs) zero = refl
+      go (c ∷ cs) (suc i) = go cs i
 
-  pub label-same : (n : Node) (i : ℕ) → column-label schema n i ≡ Defined.column-label schema n i
+  table-same : (table : ℕ) (alias : Option ℕ) (i : ℕ)
+      → (column-at document-01 schema table i >>= λ c. Ok (qualified (unwrap-or (table-of schema table .name) alias) (c .name))) ≡ Ok (Defined.table-label schema table alias i)
+  table-same table alias i =
+      ap (λ (r : Run Column). r >>= λ c. Ok (qualified (unwrap-or (table-of schema table .name) alias) (c .name))) (column-at-same table i)
+      ∙ ap (λ z. Ok (qualified z (column-of schema table i .name))) (qualifier-same alias (table-of schema table .name))
+
+  abbrev label-of : Node → ℕ → Run Label
+  label-of = column-label document-01 schema
+
+  pub label-same : (n : Node) (i : ℕ) → label-of n i ≡ Ok (Defined.column-label schema n i)
   label-same (leaf og (scan table alias predicate)) i = table-same table alias i
   label-same (leaf og (lookup access table alias constants)) i = table-same table alias i
-  label-same (leaf og (nothing labels)) i = nothing-same labels i
+  label-same (leaf og (nothing labels)) i = ap Ok (nothing-same labels i)
   label-same (leaf og (values rows)) i = refl
   label-same (over og (filter predicate) source) i = label-same source i
   label-same (over og (other (limit amount)) source) i = label-same source i
   label-same (over og (other (offset amount)) source) i = label-same source i
   label-same (over og (other (order key)) source) i = label-same source i
-  label-same (over og (other (projection items)) source) i = items-same (column-label schema source) (Defined.column-label schema source) (label-same source) items i
-  label-same (over og (other (remap targets)) source) i = remap-same (column-label schema source) (Defined.column-label schema source) (label-same source) targets i
-  label-same (over og (other (aggregate group-by aggregates)) source) i = group-same (column-label schema source) (Defined.column-label schema source) (label-same source) group-by i
+  label-same (over og (other (projection items)) source) i = items-same (label-of source) (Defined.column-label schema source) (label-same source) items i
+  label-same (over og (other (remap targets)) source) i = remap-same (label-of source) (Defined.column-label schema source) (label-same source) targets i
+  label-same (over og (other (aggregate group-by aggregates)) source) i = group-same (label-of source) (Defined.column-label schema source) (label-same source) group-by i
   label-same (join og outer j left right) i =
-      ap (λ n. cond (ltb i n) (column-label schema left i) (column-label schema right (i - n))) (columns-same schema left)
+      ap (λ n. cond (ltb i n) (label-of left i) (label-of right (i - n))) (columns-same schema left)
       ∙ go (ltb i (Defined.columns schema left)) (label-same left i) (label-same right (i - Defined.columns schema left))
     where
-      go : (b : Bool) → column-label schema left i ≡ Defined.column-label schema left i
-          → column-label schema right (i - Defined.columns schema left) ≡ Defined.column-label schema right (i - Defined.columns schema left)
-          → cond b (column-label schema left i) (column-label schema right (i - Defined.columns schema left))
-          ≡ elim b [ true ↦ Defined.column-label schema left i | false ↦ Defined.column-label schema right (i - Defined.columns schema left) ]
+      go : (b : Bool) → label-of left i ≡ Ok (Defined.column-label schema left i)
+          → label-of right (i - Defined.columns schema left) ≡ Ok (Defined.column-label schema right (i - Defined.columns schema left))
+          → cond b (label-of left i) (label-of right (i - Defined.columns schema left))
+          ≡ Ok (elim b [ true ↦ Defined.column-label schema left i | false ↦ Defined.column-label schema right (i - Defined.columns schema left) ])
       go true l r = l
       go false l r = r
 

@@ -1,7 +1,7 @@
 -- The passes that crate sql defines are the Rust's, as transcribed beside this file. Proved in proofs/Law.antt, as `passes-literal`, `pass-literal` and `five-literal`.
 --
 -- Document 01's departures stand where they act: the argument `document-01` (Value.antt) says what is done at an Integer's overflow in a quotient or a negative, and
--- when hash_join acts; a NaN that is built has the one pattern (`Float`, Value.antt); a refusal has a place (`without-place`, below). Its limit of 2,048 cells is not
+-- when hash_join acts, and what a column is that the table hasn't; a NaN that is built has the one pattern (`Float`, Value.antt); a refusal has a place (`without-place`, below). Its limit of 2,048 cells is not
 -- here: crate room has that it changes nothing where it doesn't refuse.
 use Prim.Native.Nat.{ℕ}
 use mathlib.Core.Path.{_≡_}
@@ -62,14 +62,21 @@ each-side schema (join og outer j left right) = sides (columns schema left) j &&
 abbrev pub Hash-departs : Type 0
 Hash-departs = (schema : Schema) (n : Node) → each-side schema n ≡ true → HashJoin toydb schema n ≡ HashJoin document-01 schema n
 
+-- IndexLookup and ShortCircuit: only what the Rust panics at, a column that the table hasn't
+abbrev pub Lookup-departs : Type 0
+Lookup-departs = (schema : Schema) (n : Node) → Or-panics (IndexLookup toydb schema n) (IndexLookup document-01 schema n)
+
+abbrev pub Circuit-departs : Type 0
+Circuit-departs = (schema : Schema) (n : Node) → Or-panics (ShortCircuit toydb schema n) (ShortCircuit document-01 schema n)
+
 -- ---- a theorem for each pass: where it can't refuse, the Rust gives its plan, and doesn't panic
 
 pub record Passes-literal (schema : Schema) (n : Node) : Type 0 where
   pub constant-folding : (first : ℕ) → without-place (Defined.ConstantFolding first n) ≡ answer (ConstantFolding document-01 n)
   pub filter-pushdown : FilterPushdown schema n ≡ Ok (Defined.FilterPushdown schema n)
-  pub index-lookup : IndexLookup schema n ≡ Ok (Defined.IndexLookup schema n)
+  pub index-lookup : IndexLookup document-01 schema n ≡ Ok (Defined.IndexLookup schema n)
   pub hash-join : HashJoin document-01 schema n ≡ Ok (Defined.HashJoin schema n)
-  pub short-circuit : ShortCircuit schema n ≡ Ok (Defined.ShortCircuit schema n)
+  pub short-circuit : ShortCircuit document-01 schema n ≡ Ok (Defined.ShortCircuit schema n)
 
 -- ---- and for all five
 

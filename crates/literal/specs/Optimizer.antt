@@ -6,14 +6,14 @@ use mathlib.Core.Option.{Option, none, some}
 use lib.Dec.{eqb, ltb}
 use lib.IntN.{pos, negℤ}
 use lib.ListN.{length}
-use Rattle.sql.specs.Schema.{Schema, table-of, column-of}
+use Rattle.sql.specs.Schema.{Schema, table-of}
 use Rattle.value.specs.Value.{Value}
 use Rattle.sql.specs.Expression.{Marked, Equal, Expression, constant, binary, and, or, origin}
 use Rattle.sql.specs.Plan.{Label, unlabelled, unqualified, qualified, by-key, by-index, scan, lookup, nothing, filter, nested-loop, hash, Node, leaf, over, join, node-origin, up-to, node-size}
-use Rattle.literal.specs.Rust.{Run, Ok, Panic, _>>=_, expect, _⇒_, _&_, _∣_, _if_, _else_, matches, and-then, push, get, remove, is-empty, enumerate, filter-map, find-map, all, for-each, try-fold, look-up}
+use Rattle.literal.specs.Rust.{Run, Ok, Panic, _>>=_, expect, _⇒_, _&_, _∣_, _if_, _else_, matches, and-then, push, get, remove, is-empty, enumerate, filter-map, try-find-map, all, for-each, try-fold, try-collect, look-up}
 use Rattle.literal.specs.Value.{Departures, Null?, Boolean?, Boolean}
 use Rattle.literal.specs.Expression.{Constant?, Column?, And?, Or?, Equal?, evaluate, walk, contains, into-cnf-vec, and-vec, is-column-lookup, into-column-values, replace-column, shift-column}
-use Rattle.literal.specs.Plan.{Filter?, HashJoin?, IndexLookup?, KeyLookup?, Limit?, NestedLoopJoin?, Nothing?, Offset?, Order?, Projection?, Scan?, Values?, expressions, aliases, columns, column-label, transform, transform-expressions}
+use Rattle.literal.specs.Plan.{Filter?, HashJoin?, IndexLookup?, KeyLookup?, Limit?, NestedLoopJoin?, Nothing?, Offset?, Order?, Projection?, Scan?, Values?, expressions, aliases, columns, column-at, column-label, transform, transform-expressions}
 
 -- Constant(Boolean(b)), of one b
 abbrev pub Constant-Boolean? : Bool → Expression → Option Bool
@@ -178,11 +178,18 @@ module _ (schema : Schema) where
   abbrev pub FilterPushdown : Node → Run Node
   FilterPushdown node = transform push-filters Ok (node-size node) node
 
-  -- ======== 254: IndexLookup
+-- ======== 254: IndexLookup
+
+module _ (departures : Departures) (schema : Schema) where
+  -- 279: c == table.primary_key || table.columns[c].index
+  abbrev pub has-index : ℕ → ℕ → Run Bool
+  has-index table c = cond (eqb c (table-of schema table .primary-key)) (Ok true) (column-at departures schema table c >>= λ column. Ok (column .index))
 
   -- 277: the closure of find_map
-  abbrev pub is-indexed : ℕ → ℕ × Expression → Option (ℕ × ℕ)
-  is-indexed table (i, expr) = is-column-lookup expr if (λ c. eqb c (table-of schema table .primary-key) || column-of schema table c .index) ⇒ λ c. (i, c)
+  abbrev pub is-indexed : ℕ → ℕ × Expression → Run (Option (ℕ × ℕ))
+  is-indexed table (i, expr) =
+      (is-column-lookup expr ⇒ λ c. has-index table c >>= λ indexed. Ok (cond indexed (some (i, c)) none))
+      else Ok none
 
   -- 290: if column == table.primary_key
   abbrev pub lookup-node : ℕ → ℕ → Option ℕ → ℕ → List (Marked Value) → Node
@@ -198,9 +205,9 @@ module _ (schema : Schema) where
 
   -- 277: let Some((i, column)) = .. else
   abbrev pub index-lookup-of : ℕ → ℕ → Option ℕ → Expression → List Expression → Run Node
-  index-lookup-of og table alias predicate cnf =
-      (find-map (is-indexed table) (enumerate 0 cnf) ⇒ λ found. look-up-by og table alias cnf found)
-      else Ok (leaf og (scan table alias (some predicate)))
+  index-lookup-of og table alias predicate cnf = do
+    first ← try-find-map (is-indexed table) (enumerate 0 cnf)
+    (first ⇒ λ found. look-up-by og table alias cnf found) else Ok (leaf og (scan table alias (some predicate)))
 
   -- 265: fn index_lookup
   abbrev pub index-lookup : Node → Run Node
@@ -301,16 +308,19 @@ module _ (schema : Schema) where
       else (Projection? node if is-noop ⇒ λ (source, items). source)
       else node
 
+module _ (departures : Departures) (schema : Schema) where
+  -- 432: the columns of the Nothing
+  abbrev pub nothing-of : Node → Run Node
+  nothing-of node = do
+    labels ← try-collect (λ i. column-label departures schema node i >>= λ l. Ok (l, node-origin node)) (up-to 0 (columns schema node))
+    Ok (leaf (node-origin node) (nothing labels))
+
   -- 366: fn short_circuit
-  abbrev pub short-circuit : Node → Node
-  short-circuit given =
-      let node = without-useless given in
-      cond (emptied node)
-      (leaf (node-origin node) (nothing (map (λ i. (column-label schema node i, node-origin node)) (up-to 0 (columns schema node)))))
-      node
+  abbrev pub short-circuit : Node → Run Node
+  short-circuit given = let node = without-useless schema given in cond (emptied node) (nothing-of node) (Ok node)
 
   abbrev pub ShortCircuit : Node → Run Node
-  ShortCircuit node = transform Ok (λ node. Ok (short-circuit node)) (node-size node) node
+  ShortCircuit node = transform Ok short-circuit (node-size node) node
 
 -- ======== 10: OPTIMIZERS
 
@@ -318,7 +328,7 @@ abbrev pub OPTIMIZERS : Departures → Schema → List (Node → Run Node)
 OPTIMIZERS departures schema =
     ConstantFolding departures
     ∷ FilterPushdown schema
-    ∷ IndexLookup schema
+    ∷ IndexLookup departures schema
     ∷ HashJoin departures schema
-    ∷ ShortCircuit schema
+    ∷ ShortCircuit departures schema
     ∷ []

@@ -1,5 +1,5 @@
 -- plan.rs, transcribed (Rust.antt says how). A Scan's and a lookup's `table` is the schema's table of that number; a Projection's `expressions` and `aliases` are the two
--- parts of its items. `table.columns[i]` of a column that there isn't panics in the Rust; here it is `no-column`. A plan in scope has none.
+-- parts of its items.
 use Prim.Native.Nat.{ℕ, zero, suc, _+_, _-_}
 use mathlib.Core.Bool.{Bool, true, false, cond}
 use mathlib.Core.List.{List, map}
@@ -7,10 +7,11 @@ use mathlib.Core.Option.{Option, none, some}
 use lib.Dec.{eqb, ltb}
 use lib.ListN.{length}
 use Rattle.value.specs.Value.{Value}
-use Rattle.sql.specs.Schema.{Schema, table-of, column-of}
+use Rattle.sql.specs.Schema.{Column, Schema, table-of}
 use Rattle.sql.specs.Expression.{Marked, Expression, size}
 use Rattle.sql.specs.Plan.{Label, unlabelled, unqualified, qualified, by-key, by-index, Leaf, scan, lookup, nothing, values, Other, limit, offset, order, projection, remap, aggregate, filter, other, nested-loop, hash, Node, leaf, over, join}
 use Rattle.literal.specs.Rust.{Run, Ok, Panic, _>>=_, _⇒_, _else_, and-then, unwrap-or, get, first, flatten, position, maximum, try-fold, try-collect, set-at, replicate, enumerate, for-each}
+use Rattle.literal.specs.Value.{Departures}
 use Rattle.literal.specs.Expression.{Column?}
 use Rattle.literal.specs.Expression as Expression
 
@@ -193,34 +194,35 @@ abbrev pub is-some : ℕ → Option ℕ → Bool
 is-some index none = false
 is-some index (some t) = eqb t index
 
-module _ (schema : Schema) where
-  abbrev pub table-label : ℕ → Option ℕ → ℕ → Label
-  table-label table alias index = qualified (unwrap-or (table-of schema table .name) alias) (column-of schema table index .name)
+module _ (departures : Departures) (schema : Schema) where
+  -- table.columns[index]
+  abbrev pub column-at : ℕ → ℕ → Run Column
+  column-at table index = (get (table-of schema table .columns) index ⇒ λ c. Ok c) else departures .no-such-column
 
-  abbrev pub column-label : Node → ℕ → Label
+  abbrev pub table-label : ℕ → Option ℕ → ℕ → Run Label
+  table-label table alias index = column-at table index >>= λ c. Ok (qualified (unwrap-or (table-of schema table .name) alias) (c .name))
+
+  abbrev pub column-label : Node → ℕ → Run Label
   column-label (leaf og (lookup access table alias constants)) index = table-label table alias index
   column-label (leaf og (scan table alias predicate)) index = table-label table alias index
   column-label (over og (other (aggregate group-by aggregates)) source) index =
       (and-then (get group-by index) Column? ⇒ λ (o, i). column-label source i)
-      else unlabelled
+      else Ok unlabelled
   column-label (over og (other (projection items)) source) index =
-      let alias = get (aliases items) index in
-      let expression = get (expressions items) index in
-      (no-alias? alias ⇒ λ n.
-      (and-then expression Column? ⇒ λ (o, i). column-label source i)
-      else unlabelled)
-      else (alias ⇒ λ alias. alias)
-      else unlabelled
+      (no-alias? (get (aliases items) index) ⇒ λ n. (and-then (get (expressions items) index) Column? ⇒ λ (o, i). column-label source i) else Ok unlabelled)
+      else (get (aliases items) index ⇒ λ alias. Ok alias)
+      else Ok unlabelled
   column-label (over og (other (remap targets)) source) index =
-      unwrap-or unlabelled (position (is-some index) (targets-of targets) ⇒ λ i. column-label source i)
+      (position (is-some index) (targets-of targets) ⇒ λ i. column-label source i)
+      else Ok unlabelled
   column-label (join og outer j left right) index =
       cond (ltb index (columns schema left)) (column-label left index) (column-label right (index - columns schema left))
   column-label (over og (filter predicate) source) index = column-label source index
   column-label (over og (other (limit amount)) source) index = column-label source index
   column-label (over og (other (offset amount)) source) index = column-label source index
   column-label (over og (other (order key)) source) index = column-label source index
-  column-label (leaf og (nothing labels)) index = unwrap-or unlabelled (get (map (λ (l : Marked Label). l .0) labels) index)
-  column-label (leaf og (values rows)) index = unlabelled
+  column-label (leaf og (nothing labels)) index = Ok (unwrap-or unlabelled (get (map (λ (l : Marked Label). l .0) labels) index))
+  column-label (leaf og (values rows)) index = Ok unlabelled
 
 -- ---- 271: fn transform
 

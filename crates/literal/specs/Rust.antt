@@ -158,9 +158,10 @@ filter-map f (x ∷ xs) = cons-some (f x) (filter-map f xs)
 abbrev pub flatten : {A : Type 0} → List (Option A) → List A
 flatten = filter-map (λ x. x)
 
-abbrev pub find-map : {A B : Type 0} → (A → Option B) → List A → Option B
-find-map f [] = none
-find-map f (x ∷ xs) = f x ∣ find-map f xs
+-- find_map, with a closure that may panic
+abbrev pub try-find-map : {A B : Type 0} → (A → Run (Option B)) → List A → Run (Option B)
+try-find-map f [] = Ok none
+try-find-map f (x ∷ xs) = f x >>= λ o. (o ⇒ λ y. Ok (some y)) else try-find-map f xs
 
 abbrev pub position : {A : Type 0} → (A → Bool) → List A → Option ℕ
 position test [] = none

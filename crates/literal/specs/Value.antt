@@ -9,6 +9,7 @@ use lib.Signed.{mag, quotZ}
 use lib.Ieee as Ieee
 use lib.Ieee.{binary64}
 use Rattle.value.specs.Value.{False, Unknown, True, integer, float, string, Value, truth, datum, null, boolean, overflow, division-by-zero, mismatch}
+use Rattle.sql.specs.Schema.{Column, no-column}
 use Rattle.literal.specs.Rust.{Run, Ok, Err, Panic, _⇒_, _&_, _∣_, _if_, _else_}
 
 -- ---- Document 01's departures: the places at which this transcription does what document 01 says and not what the Rust does. `toydb` is the Rust.
@@ -18,12 +19,14 @@ pub record Departures : Type 0 where
   pub overflowed : Run Value
   -- whether hash_join acts, of the left source's columns and the two columns, the lower one first
   pub one-on-each-side : ℕ → ℕ → ℕ → Bool
+  -- a column that the table hasn't. No plan that a sheet stands for has one (refusal 9); the definitions give it no name and no index.
+  pub no-such-column : Run Column
 
 abbrev pub toydb : Departures
-toydb = record { overflowed = Panic; one-on-each-side = λ n l r. true }
+toydb = record { overflowed = Panic; one-on-each-side = λ n l r. true; no-such-column = Panic }
 
 abbrev pub document-01 : Departures
-document-01 = record { overflowed = Err overflow; one-on-each-side = λ n l r. ltb l n && not (ltb r n) }
+document-01 = record { overflowed = Err overflow; one-on-each-side = λ n l r. ltb l n && not (ltb r n); no-such-column = Ok no-column }
 
 -- ---- the Rust's own numbers and strings
 
