@@ -1,26 +1,26 @@
--- What document 01's departures change: ConstantFolding only where the Rust panics, HashJoin only where a join is on two columns of one source.
-use Prim.Native.Nat.{ℕ, zero, suc}
+-- What document 01's departures change: ConstantFolding, IndexLookup and ShortCircuit only where the Rust panics, HashJoin only where a join is on two columns of one source.
+use Prim.Native.Nat.{ℕ, zero, suc, _-_}
 use mathlib.Core.Path.{_≡_, refl, sym, ap, ap₂, _∙_, subst}
 use mathlib.Core.Bool.{Bool, true, false, not, _&&_, cond}
 use mathlib.Core.List.{List, [], _∷_}
 use mathlib.Core.Option.{Option, none, some}
 use native.Mathlib.Omega.{arith}
-use lib.Dec.{ltb}
+use lib.Dec.{eqb, ltb}
 use lib.IntN.{ℤ, pos, negℤ}
 use lib.Signed.{quotZ}
 use Rattle.value.specs.Value.{Value, division-by-zero}
-use Rattle.sql.specs.Schema.{Schema}
+use Rattle.sql.specs.Schema.{Schema, no-column, table-of}
 use Rattle.sql.specs.Expression.{Marked, And, Or, IsNull, IsNaN, Identity, Negate, GreaterThan, LessThan, Add, Divide, Not, logical, Equal, function, Expression, constant, column, unary, binary, origin, size, Row}
-use Rattle.sql.specs.Plan.{Label, scan, lookup, nothing, values, limit, offset, order, projection, remap, aggregate, filter, other, Join, nested-loop, hash, Node, leaf, over, join, node-size}
+use Rattle.sql.specs.Plan.{Label, unlabelled, scan, lookup, nothing, values, limit, offset, order, projection, remap, aggregate, filter, other, Join, nested-loop, hash, Node, leaf, over, join, node-origin, up-to, node-size}
 use Rattle.sql.specs.Plan as Defined-plan
 use Rattle.sql.specs.Optimizer as Optimizer
-use Rattle.literal.specs.Rust.{Run, Ok, Err, Panic, _>>=_, _⇒_, _&_, _if_, _else_, matches, try-collect}
-use Rattle.literal.specs.Value.{Departures, toydb, document-01, in-i64, i64-eq, Integer?, Integer, checked-div}
-use Rattle.literal.specs.Expression.{Column?, evaluate-negate, evaluate, contains}
+use Rattle.literal.specs.Rust.{Run, Ok, Err, Panic, _>>=_, _⇒_, _&_, _if_, _else_, matches, and-then, get, enumerate, position, try-find-map, try-collect}
+use Rattle.literal.specs.Value.{toydb, document-01, in-i64, i64-eq, Integer?, Integer, checked-div}
+use Rattle.literal.specs.Expression.{Column?, is-column-lookup, evaluate-negate, evaluate, contains}
 use Rattle.literal.specs.Expression
-use Rattle.literal.specs.Plan.{columns, transform-sources, transform, transformed, transform-expressions}
-use Rattle.literal.specs.Optimizer.{fold-match, fold, minus, hash-join}
-use Rattle.literal.specs.Law.{Or-panics, same, panics, Folding-departs, sides, each-side, Hash-departs}
+use Rattle.literal.specs.Plan.{expressions, aliases, targets-of, columns, no-alias?, is-some, column-at, table-label, column-label, transform-sources, transform, transformed, transform-expressions}
+use Rattle.literal.specs.Optimizer.{fold-match, fold, has-index, is-indexed, index-lookup-of, index-lookup, minus, hash-join, emptied, without-useless, nothing-of, short-circuit}
+use Rattle.literal.specs.Law.{Or-panics, same, panics, Folding-departs, Lookup-departs, Circuit-departs, sides, each-side, Hash-departs}
 use Rattle.literal.proofs.Passes.{hash-join-same}
 
 -- ---- outcomes that are the same, or of which the first is a panic
@@ -153,19 +153,99 @@ or-sources f g h (join og outer j left right) =
     or-bind (f left) (g left) (λ l. f right >>= λ r. Ok (join og outer j l r)) (λ l. g right >>= λ r. Ok (join og outer j l r)) (h left)
     (λ l. or-bind (f right) (g right) (λ r. Ok (join og outer j l r)) (λ r. Ok (join og outer j l r)) (h right) (λ r. always))
 
-abbrev folding-by : Departures → ℕ → Node → Run Node
-folding-by d = transform (transform-expressions Ok (fold d)) Ok
-
-or-folding : (k : ℕ) (n : Node) → Or-panics (folding-by toydb k n) (folding-by document-01 k n)
-or-folding zero n = always
-or-folding (suc k) n =
-    or-bind (transform-expressions Ok (fold toydb) n >>= transform-sources (folding-by toydb k)) (transform-expressions Ok (fold document-01) n >>= transform-sources (folding-by document-01 k)) Ok Ok
-    (or-bind (transform-expressions Ok (fold toydb) n) (transform-expressions Ok (fold document-01) n) (transform-sources (folding-by toydb k)) (transform-sources (folding-by document-01 k))
-    (or-expressions n) (or-sources (folding-by toydb k) (folding-by document-01 k) (or-folding k)))
-    (λ m. always)
+-- Node::transform with rewrites that are so
+or-nodes : (b₁ b₂ a₁ a₂ : Node → Run Node) → ((n : Node) → Or-panics (b₁ n) (b₂ n)) → ((n : Node) → Or-panics (a₁ n) (a₂ n)) → (k : ℕ) (n : Node)
+    → Or-panics (transform b₁ a₁ k n) (transform b₂ a₂ k n)
+or-nodes b₁ b₂ a₁ a₂ g h zero n = always
+or-nodes b₁ b₂ a₁ a₂ g h (suc k) n =
+    or-bind (b₁ n >>= transform-sources (transform b₁ a₁ k)) (b₂ n >>= transform-sources (transform b₂ a₂ k)) a₁ a₂
+    (or-bind (b₁ n) (b₂ n) (transform-sources (transform b₁ a₁ k)) (transform-sources (transform b₂ a₂ k)) (g n)
+    (or-sources (transform b₁ a₁ k) (transform b₂ a₂ k) (or-nodes b₁ b₂ a₁ a₂ g h k)))
+    h
 
 pub folding-departs : Folding-departs
-folding-departs n = or-folding (node-size n) n
+folding-departs n =
+    or-nodes (transform-expressions Ok (fold toydb)) (transform-expressions Ok (fold document-01)) Ok Ok or-expressions (λ m. always) (node-size n) n
+
+-- ---- IndexLookup and ShortCircuit: a column that the table hasn't
+
+module _ (schema : Schema) where
+  or-column : (table i : ℕ) → Or-panics (column-at toydb schema table i) (column-at document-01 schema table i)
+  or-column table i = or-below (get (table-of schema table .columns) i) (λ c. Ok c) Panic (Ok no-column) (panics refl)
+
+  or-has-index : (table c : ℕ) → Or-panics (has-index toydb schema table c) (has-index document-01 schema table c)
+  or-has-index table c = go (eqb c (table-of schema table .primary-key))
+    where
+      go : (b : Bool) → Or-panics (cond b (Ok true) (column-at toydb schema table c >>= λ column. Ok (column .index))) (cond b (Ok true) (column-at document-01 schema table c >>= λ column. Ok (column .index)))
+      go true = always
+      go false = or-bind (column-at toydb schema table c) (column-at document-01 schema table c) (λ column. Ok (column .index)) (λ column. Ok (column .index)) (or-column table c) (λ column. always)
+
+  or-indexed : (table : ℕ) (p : ℕ × Expression) → Or-panics (is-indexed toydb schema table p) (is-indexed document-01 schema table p)
+  or-indexed table p =
+      or-arm (is-column-lookup (p .1)) _ _ (Ok none)
+      (λ c. or-bind (has-index toydb schema table c) (has-index document-01 schema table c) _ _ (or-has-index table c) (λ indexed. always))
+
+  or-find-map : {A B : Type 0} (f g : A → Run (Option B)) → ((x : A) → Or-panics (f x) (g x)) → (xs : List A) → Or-panics (try-find-map f xs) (try-find-map g xs)
+  or-find-map f g h [] = always
+  or-find-map f g h (x ∷ xs) =
+      or-bind (f x) (g x) (λ o. (o ⇒ λ y. Ok (some y)) else try-find-map f xs) (λ o. (o ⇒ λ y. Ok (some y)) else try-find-map g xs) (h x)
+      (λ o. or-below o (λ y. Ok (some y)) (try-find-map f xs) (try-find-map g xs) (or-find-map f g h xs))
+
+  or-index-lookup : (n : Node) → Or-panics (index-lookup toydb schema n) (index-lookup document-01 schema n)
+  or-index-lookup (leaf og (scan table alias none)) = always
+  or-index-lookup (leaf og (scan table alias (some p))) =
+      or-bind (Expression.into-cnf-vec p) (Expression.into-cnf-vec p) (index-lookup-of toydb schema og table alias p) (index-lookup-of document-01 schema og table alias p) always
+      (λ cnf. or-bind (try-find-map (is-indexed toydb schema table) (enumerate 0 cnf)) (try-find-map (is-indexed document-01 schema table) (enumerate 0 cnf)) _ _
+      (or-find-map (is-indexed toydb schema table) (is-indexed document-01 schema table) (or-indexed table) (enumerate 0 cnf)) (λ first. always))
+  or-index-lookup (leaf og (lookup by table alias constants)) = always
+  or-index-lookup (leaf og (nothing labels)) = always
+  or-index-lookup (leaf og (values rows)) = always
+  or-index-lookup (over og o source) = always
+  or-index-lookup (join og outer j left right) = always
+
+  or-table : (table : ℕ) (alias : Option ℕ) (i : ℕ) → Or-panics (table-label toydb schema table alias i) (table-label document-01 schema table alias i)
+  or-table table alias i = or-bind (column-at toydb schema table i) (column-at document-01 schema table i) _ _ (or-column table i) (λ c. always)
+
+  or-label : (n : Node) (i : ℕ) → Or-panics (column-label toydb schema n i) (column-label document-01 schema n i)
+  or-label (leaf og (scan table alias predicate)) i = or-table table alias i
+  or-label (leaf og (lookup by table alias constants)) i = or-table table alias i
+  or-label (leaf og (nothing labels)) i = always
+  or-label (leaf og (values rows)) i = always
+  or-label (over og (filter predicate) source) i = or-label source i
+  or-label (over og (other (limit amount)) source) i = or-label source i
+  or-label (over og (other (offset amount)) source) i = or-label source i
+  or-label (over og (other (order key)) source) i = or-label source i
+  or-label (over og (other (projection items)) source) i =
+      or-arm (no-alias? (get (aliases items) i)) _ _ _ (λ n. or-arm (and-then (get (expressions items) i) Column?) _ _ (Ok unlabelled) (λ p. or-label source (p .1)))
+  or-label (over og (other (remap targets)) source) i = or-arm (position (is-some i) (targets-of targets)) _ _ (Ok unlabelled) (λ j. or-label source j)
+  or-label (over og (other (aggregate group-by aggregates)) source) i = or-arm (and-then (get group-by i) Column?) _ _ (Ok unlabelled) (λ p. or-label source (p .1))
+  or-label (join og outer j left right) i = go (ltb i (columns schema left)) (or-label left i) (or-label right (i - columns schema left))
+    where
+      go : {a b c d : Run Label} (t : Bool) → Or-panics a b → Or-panics c d → Or-panics (cond t a c) (cond t b d)
+      go true x y = x
+      go false x y = y
+
+  or-short-circuit : (n : Node) → Or-panics (short-circuit toydb schema n) (short-circuit document-01 schema n)
+  or-short-circuit n = go (emptied m)
+    where
+      m : Node
+      m = without-useless schema n
+
+      labels : (i : ℕ) → Or-panics {A = Marked Label} (column-label toydb schema m i >>= λ l. Ok (l, node-origin m)) (column-label document-01 schema m i >>= λ l. Ok (l, node-origin m))
+      labels i = or-bind (column-label toydb schema m i) (column-label document-01 schema m i) _ _ (or-label m i) (λ l. always)
+
+      go : (b : Bool) → Or-panics (cond b (nothing-of toydb schema m) (Ok m)) (cond b (nothing-of document-01 schema m) (Ok m))
+      go true =
+          or-bind _ _ (λ ls. Ok (leaf (node-origin m) (nothing ls))) (λ ls. Ok (leaf (node-origin m) (nothing ls)))
+          (or-collect {B = Marked Label} (λ i. column-label toydb schema m i >>= λ l. Ok (l, node-origin m)) (λ i. column-label document-01 schema m i >>= λ l. Ok (l, node-origin m)) labels (up-to 0 (columns schema m)))
+          (λ ls. always)
+      go false = always
+
+pub lookup-departs : Lookup-departs
+lookup-departs schema n = or-nodes (index-lookup toydb schema) (index-lookup document-01 schema) Ok Ok (or-index-lookup schema) (λ m. always) (node-size n) n
+
+pub circuit-departs : Circuit-departs
+circuit-departs schema n = or-nodes Ok Ok (short-circuit toydb schema) (short-circuit document-01 schema) (λ m. always) (or-short-circuit schema) (node-size n) n
 
 -- ---- HashJoin
 

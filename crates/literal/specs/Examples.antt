@@ -7,11 +7,11 @@ use mathlib.Core.Option.{none, some}
 use lib.IntN.{ℤ, pos, negsuc}
 use Rattle.value.specs.Value.{datum, integer, boolean, overflow, mismatch}
 use Rattle.sql.specs.Expression.{Negate, Divide, Add, Equal, function, Expression, constant, column, unary, binary, and, or}
-use Rattle.sql.specs.Plan.{values, filter, Join, nested-loop, hash, Node, leaf, over, join}
+use Rattle.sql.specs.Plan.{scan, values, filter, Join, nested-loop, hash, Node, leaf, over, join}
 use Rattle.literal.specs.Rust.{Ok, Err, Panic, pop, look-up}
 use Rattle.literal.specs.Value.{toydb, document-01}
 use Rattle.literal.specs.Expression.{evaluate, into-cnf-vec, shift-column}
-use Rattle.literal.specs.Optimizer.{ConstantFolding, FilterPushdown, HashJoin}
+use Rattle.literal.specs.Optimizer.{ConstantFolding, FilterPushdown, IndexLookup, HashJoin}
 
 abbrev least : ℤ
 least = negsuc 9223372036854775807
@@ -76,6 +76,17 @@ both-right = refl
 
 stays : HashJoin document-01 [] (joined (on 0 1)) ≡ Ok (joined (on 0 1))
 stays = refl
+
+-- ---- a column that the table hasn't: there is no table
+
+abbrev outside : Node
+outside = leaf 0 (scan 0 none (some (binary 0 Equal (column 0 1) (number (pos 1)))))
+
+index-panics : IndexLookup toydb [] outside ≡ Panic
+index-panics = refl
+
+index-stays : IndexLookup document-01 [] outside ≡ Ok outside
+index-stays = refl
 
 -- ---- a Filter of false AND 1 over a Values: the Rust says that it can't
 folded : ConstantFolding toydb (over 0 (filter (and 0 (constant 0 (boolean false)) (number (pos 1)))) (leaf 0 (values []))) ≡ Err mismatch
