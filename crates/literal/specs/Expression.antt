@@ -133,6 +133,7 @@ evaluate-negate departures v =
     else (Null? v ⇒ λ n. Ok null)
     else Err mismatch
 
+-- Is(expr, Null) and Is(expr, Float(NaN)) are two operators here, IsNull and IsNaN; at an Is of another value, which no parser makes, the Rust panics.
 module _ (departures : Departures) where
   abbrev pub evaluate : Option Row → Expression → Run Value
   evaluate row (constant og value) = Ok value
