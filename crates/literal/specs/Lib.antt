@@ -1,4 +1,10 @@
-pub mod Expressions
 pub mod Nodes
 pub mod Bounds
 pub mod Shift
+pub mod Rust
+pub mod Value
+pub mod Expression
+pub mod Plan
+pub mod Optimizer
+pub mod Law
+pub mod Examples

@@ -1,25 +1,13 @@
--- plan.rs and optimizer.rs to the letter: the passes but ConstantFolding are the Rust's `Node::transform` with one rewrite of a node, before or after its sources, and
--- push_filters and maybe_push_filter call each other. The bounds on the recursion in crate sql are high enough.
+-- The recursion of FilterPushdown. Crate sql bounds it by the number of cells; that is enough, since pushing makes no more nodes: a node is pushed, then the sources of
+-- what it became are gone into, as the Rust's `transform` goes (pushdown-literal).
 use Prim.Native.Nat.{ℕ, zero, suc, _+_, _≤_}
 use mathlib.Core.Path.{_≡_, refl, sym, ap, ap₂, _∙_}
-use mathlib.Core.Bool.{Bool}
-use mathlib.Core.List.{List, [], _∷_}
 use mathlib.Core.Option.{Option, none, some}
 use native.Mathlib.Omega.{arith}
-use Rattle.value.specs.Value.{Value}
 use Rattle.sql.specs.Schema.{Schema}
-use Rattle.sql.specs.Expression.{Expression, and-vec, shift-column-down, into-cnf-vec, into-column-values}
-use Rattle.sql.specs.Plan.{Access, Leaf, scan, lookup, nothing, values, limit, offset, order, projection, remap, aggregate, Over, filter, other, Join, nested-loop, hash, Node, leaf, over, join, columns, optional-size, leaf-size, over-size, join-size, node-size}
-use Rattle.sql.specs.Optimizer.{map-sources, push-into, push-part, pushed-or-back, push-left, push-right, map-optional, go-on, maybe-push-join, maybe-push-filter, push-filters, push-filters-from, FilterPushdown, Found, filtered, access, find-lookup, lookup-or-scan, index-lookup, IndexLookup, hash-join, HashJoin, short-circuit, ShortCircuit}
-
--- `transform`, where `rewrite` is applied before or after the sources. The number bounds how deep the calls go.
-abbrev pub transform-before : (Node → Node) → ℕ → Node → Node
-transform-before rewrite zero n = n
-transform-before rewrite (suc k) n = map-sources (transform-before rewrite k) (rewrite n)
-
-abbrev pub transform-after : (Node → Node) → ℕ → Node → Node
-transform-after rewrite zero n = n
-transform-after rewrite (suc k) n = rewrite (map-sources (transform-after rewrite k) n)
+use Rattle.sql.specs.Expression.{Expression, and-vec, shift-column-down, into-cnf-vec}
+use Rattle.sql.specs.Plan.{Leaf, scan, lookup, nothing, values, limit, offset, order, projection, remap, aggregate, Over, filter, other, Join, nested-loop, hash, Node, leaf, over, join, columns, leaf-size, over-size, join-size, node-size}
+use Rattle.sql.specs.Optimizer.{map-sources, push-into, push-part, pushed-or-back, push-left, push-right, map-optional, go-on, maybe-push-join, maybe-push-filter, push-filters, push-filters-from, FilterPushdown}
 
 abbrev pub nodes : Node → ℕ
 nodes (leaf og l) = 1
@@ -33,13 +21,13 @@ nodes-positive (join og outer j left right) = omega arith
 
 -- ---- a plan has no more nodes than cells
 
-leaf-positive : (l : Leaf) → 1 ≤ leaf-size l
+pub leaf-positive : (l : Leaf) → 1 ≤ leaf-size l
 leaf-positive (scan table alias p) = omega arith
 leaf-positive (lookup by table alias constants) = omega arith
 leaf-positive (nothing labels) = omega arith
 leaf-positive (values rows) = omega arith
 
-over-positive : (o : Over) → 1 ≤ over-size o
+pub over-positive : (o : Over) → 1 ≤ over-size o
 over-positive (filter p) = omega arith
 over-positive (other (limit amount)) = omega arith
 over-positive (other (offset amount)) = omega arith
@@ -48,7 +36,7 @@ over-positive (other (projection items)) = omega arith
 over-positive (other (remap targets)) = omega arith
 over-positive (other (aggregate group-by aggregates)) = omega arith
 
-join-positive : (j : Join) → 1 ≤ join-size j
+pub join-positive : (j : Join) → 1 ≤ join-size j
 join-positive (nested-loop p) = omega arith
 join-positive (hash a b) = omega arith
 
@@ -138,31 +126,8 @@ module _ (schema : Schema) where
   abbrev pub push-filters-of : Node → Node
   push-filters-of n = push-filters schema (node-size n) n
 
-  push-enough : (k : ℕ) (n : Node) → nodes n ≤ k → push-filters schema k n ≡ push-filters-of n
+  pub push-enough : (k : ℕ) (n : Node) → nodes n ≤ k → push-filters schema k n ≡ push-filters-of n
   push-enough k n h = ap (maybe-push-join schema) (filter-enough k (node-size n) n h (nodes-cells n))
-
-  -- maybe_push_filter, by the Rust's text: a Filter that its source takes is gone, and push_filters goes on with the source
-  abbrev pub maybe-push-filter-of : Node → Node
-  maybe-push-filter-of (leaf og l) = leaf og l
-  maybe-push-filter-of (over og (filter p) source) = go-on push-filters-of (over og (filter p) source) (push-into og p source)
-  maybe-push-filter-of (over og (other o) source) = over og (other o) source
-  maybe-push-filter-of (join og outer j left right) = join og outer j left right
-
-  literal-at : (k : ℕ) (n : Node) → node-size n ≡ k → push-filters schema k n ≡ maybe-push-join schema (maybe-push-filter-of n)
-  unfolding maybe-push-filter
-  literal-at zero n e = absurd (let p = nodes-positive n in let q = nodes-cells n in omega arith)
-  literal-at (suc k) (leaf og l) e = refl
-  literal-at (suc k) (over og (filter p) source) e = ap (maybe-push-join schema) (go (push-into og p source) refl)
-    where
-      go : (o : Option Node) → push-into og p source ≡ o
-          → go-on (λ pushed. maybe-push-join schema (maybe-push-filter schema k pushed)) (over og (filter p) source) o ≡ go-on push-filters-of (over og (filter p) source) o
-      go none i = refl
-      go (some pushed) i = let c = nodes-into og p source pushed i in let d = nodes-cells source in push-enough k pushed (omega arith)
-  literal-at (suc k) (over og (other o) source) e = refl
-  literal-at (suc k) (join og outer j left right) e = refl
-
-  pub push-filters-literal : (n : Node) → push-filters-of n ≡ maybe-push-join schema (maybe-push-filter-of n)
-  push-filters-literal n = literal-at (node-size n) n refl
 
 -- what two functions do to plans with few nodes, they do to the sources of plans with one more
 sources-same : (f g : Node → Node) (j : ℕ) → ((n : Node) → nodes n ≤ j → f n ≡ g n) → (n : Node) → nodes n ≤ suc j → map-sources f n ≡ map-sources g n
@@ -207,66 +172,3 @@ module _ (schema : Schema) where
   pub pushdown-literal : (n : Node) → FilterPushdown schema n ≡ map-sources (FilterPushdown schema) (push-filters-of schema n)
   unfolding FilterPushdown
   pushdown-literal n = pushdown-at (node-size n) n refl
-
-  -- ---- IndexLookup
-
-  abbrev pub index-lookup-node : Node → Node
-  index-lookup-node (leaf og l) = index-lookup schema og l
-  index-lookup-node (over og o source) = over og o source
-  index-lookup-node (join og outer j left right) = join og outer j left right
-
-  module _ (k : ℕ) where
-    abbrev again : Node → Node
-    again = transform-before index-lookup-node k
-
-    lookup-stays : (og m : ℕ) (by : Access) (table : ℕ) (alias : Option ℕ) (constants : List (Value × ℕ)) → transform-before index-lookup-node m (leaf og (lookup by table alias constants)) ≡ leaf og (lookup by table alias constants)
-    unfolding index-lookup
-    lookup-stays og zero by table alias constants = refl
-    lookup-stays og (suc m) by table alias constants = refl
-
-    found-stays : (og table : ℕ) (alias : Option ℕ) (p : Expression) (o : Option Found) → map-sources again (lookup-or-scan schema table og alias p o) ≡ lookup-or-scan schema table og alias p o
-    found-stays og table alias p none = refl
-    found-stays og table alias p (some f) = go (and-vec og (f .remaining))
-      where
-        looked : Node
-        looked = leaf og (lookup (access schema table (f .column-number)) table alias (into-column-values (f .conjunct)))
-
-        go : (q : Option Expression) → map-sources again (filtered og q looked) ≡ filtered og q looked
-        go none = refl
-        go (some q) = ap (over og (filter q)) (lookup-stays og k (access schema table (f .column-number)) table alias (into-column-values (f .conjunct)))
-
-    leaf-stays : (og : ℕ) (l : Leaf) → map-sources again (index-lookup schema og l) ≡ index-lookup schema og l
-    unfolding index-lookup
-    leaf-stays og (scan table alias none) = refl
-    leaf-stays og (scan table alias (some p)) = found-stays og table alias p (find-lookup schema table (into-cnf-vec p))
-    leaf-stays og (lookup by table alias constants) = refl
-    leaf-stays og (nothing labels) = refl
-    leaf-stays og (values rows) = refl
-
-  pub lookup-literal : (k : ℕ) (n : Node) → nodes n ≤ k → transform-before index-lookup-node k n ≡ IndexLookup schema n
-  unfolding IndexLookup
-  lookup-literal zero n h = absurd (let p = nodes-positive n in omega arith)
-  lookup-literal (suc k) (leaf og l) h = leaf-stays k og l
-  lookup-literal (suc k) (over og o source) h = ap (over og o) (lookup-literal k source (omega arith))
-  lookup-literal (suc k) (join og outer j left right) h = ap₂ (join og outer j) (lookup-literal k left (omega arith)) (lookup-literal k right (omega arith))
-
-  -- ---- HashJoin and ShortCircuit
-
-  abbrev pub hash-join-node : Node → Node
-  hash-join-node (leaf og l) = leaf og l
-  hash-join-node (over og o source) = over og o source
-  hash-join-node (join og outer j left right) = join og outer (hash-join (columns schema left) j) left right
-
-  pub hash-literal : (k : ℕ) (n : Node) → nodes n ≤ k → transform-before hash-join-node k n ≡ HashJoin schema n
-  hash-literal zero n h = absurd (let p = nodes-positive n in omega arith)
-  hash-literal (suc k) (leaf og l) h = refl
-  hash-literal (suc k) (over og o source) h = ap (over og o) (hash-literal k source (omega arith))
-  hash-literal (suc k) (join og outer j left right) h =
-      ap₂ (join og outer (hash-join (columns schema left) j)) (hash-literal k left (omega arith)) (hash-literal k right (omega arith))
-
-  pub circuit-literal : (k : ℕ) (n : Node) → nodes n ≤ k → transform-after (short-circuit schema) k n ≡ ShortCircuit schema n
-  circuit-literal zero n h = absurd (let p = nodes-positive n in omega arith)
-  circuit-literal (suc k) (leaf og l) h = refl
-  circuit-literal (suc k) (over og o source) h = ap (λ z. short-circuit schema (over og o z)) (circuit-literal k source (omega arith))
-  circuit-literal (suc k) (join og outer j left right) h =
-      ap₂ (λ x y. short-circuit schema (join og outer j x y)) (circuit-literal k left (omega arith)) (circuit-literal k right (omega arith))

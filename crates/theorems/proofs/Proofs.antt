@@ -21,13 +21,14 @@ use Rattle.sheet.specs.Check.{Numbers, text, schema, plan, checked, check}
 use Rattle.sheet.specs.Write.{write}
 use Rattle.sheet.specs.Operations.{Outcome, refuse, written, hand-out, one-pass, all-five}
 use Rattle.sheet_laws.specs.Plan.{Bytes, plan-size}
+use Rattle.literal.proofs.Law.{pass-literal, five-literal}
 use Rattle.room.specs.Done.{After, after}
 use Rattle.same_rows.specs.Proof.{same-rows}
 use Rattle.sound.specs.Refusals.{Refused-by, From-to, refused-then, refused-weaker, plan-refused, pass-refused, optimize-refused}
 use Rattle.sound.specs.HandedOut.{success, Handed-out, plan-room, pass-handed-out, optimize-handed-out}
 use Rattle.sound.specs.Operations.{sheet-of, all-five-sound}
 use Rattle.theorems.specs.Sizes
-use Rattle.theorems.specs.Theorems.{Checked, is-accepted, is-refused, Success, Answered, is-success, is-refusal, Check-answers, One-pass-answers, No-such-pass, All-five-answers, with-room, needed, Hands-out, Gives, One-pass-gives, All-five-gives, Folding-refuses, Never-larger, Bound-enough, Passes-in-turn, Same-rows-in-turn, Same-rows-all-five}
+use Rattle.theorems.specs.Theorems.{Checked, is-accepted, is-refused, Success, Answered, is-success, is-refusal, Check-answers, One-pass-answers, No-such-pass, All-five-answers, with-room, needed, Hands-out, Gives, One-pass-gives, All-five-gives, Folding-refuses, Never-larger, Bound-enough, Is-the-Rust, Passes-in-turn, Same-rows-in-turn, Same-rows-all-five}
 use Rattle.theorems.proofs.Sized.{left-out, folding-fits, bound-sized, hash-fits, pass-sized, optimize-sized}
 use Rattle.theorems.proofs.Written.{written-front, written-length, written-bytes}
 use Rattle.theorems.proofs.Places.{Placed, plan-placed, Fails, folding-fails}
@@ -219,6 +220,9 @@ never-larger tables n =
 
 pub bound-enough : Bound-enough
 bound-enough tables k room n h = bound-sized room tables k 0 n h
+
+pub is-the-rust : Is-the-Rust
+is-the-rust = (pass-literal, five-literal)
 
 -- ======== 3. rows
 

@@ -26,6 +26,7 @@ use Rattle.sql.specs.Plan.{Node, columns, node-size}
 use Rattle.sql.specs.Answer.{Answer, done, refused, _>>=_}
 use Rattle.sql.specs.Optimizer.{ConstantFolding, pass, optimize}
 use Rattle.sql.specs.Room.{max-cells}
+use Rattle.literal.specs.Law.{Pass-literal, Five-literal}
 use Rattle.sheet.specs.Parts.{cells-at, table-count, column-count, cell-count}
 use Rattle.sheet.specs.Check.{Numbers, refusal, text, schema, plan, check}
 use Rattle.sheet.specs.Write.{write}
@@ -117,8 +118,8 @@ Gives s out (done m) o = (needed s m ≤ length out → Hands-out s out m o) × 
 
 -- An operation is the Rust's passes: for each of the five, and every sheet and output, it gives check's refusal if there is one; then 14 if and only if one of
 -- the sizes that come up in the pass (Sizes.antt) is over 2,048 cells; then the Rust's answer. `pass` is one optimizer of optimizer.rs by its number, as defined
--- in crate sql, to be read beside it. It knows no limit of room, and only pass 1, ConstantFolding, refuses (11 to 13). Any other number than the five is refused
--- by 1, whatever the bytes are.
+-- in crate sql, which the Rust's text gives (Is-the-Rust, below). It knows no limit of room, and only pass 1, ConstantFolding, refuses (11 to 13). Any other number
+-- than the five is refused by 1, whatever the bytes are.
 pub record Is-one-pass (operation : List ℕ → ℕ → List ℕ → Outcome) : Type 0 where
   pub gives :
       (s : List ℕ) → Bytes s → (k : ℕ) → 1 ≤ k → k ≤ 5 → (out : List ℕ)
@@ -156,6 +157,10 @@ abbrev pub Bound-enough : Type 0
 Bound-enough =
     (tables : Schema) (k room : ℕ) (n : Node) → node-size n ≤ k
     → all (λ (cells : ℕ). leb cells room) (Sizes.push-filters-from tables k 0 n) ≡ all (λ (cells : ℕ). leb cells room) (Sizes.pass tables 2 n)
+
+-- `pass` and `optimize` are the Rust's: crate literal has its text, function by function, and its Law.antt says what is the same, with document 01's departures.
+abbrev pub Is-the-Rust : Type 0
+Is-the-Rust = Pass-literal × Five-literal
 
 -- ======== 3. The passes change no row, from bytes to rows.
 
