@@ -4,8 +4,7 @@ use checker::Answer;
 ghost use mathlib.Core.Path.{_≡_};
 ghost use Rattle.sheet.specs.Check.{check};
 ghost use Rattle.sheet.specs.Operations.{one-pass, all-five};
-ghost use Rattle.checker.specs.Checker.{numbers};
-ghost use Rattle.hand_out.specs.HandOut.{outcome};
+ghost use Rattle.checker.specs.Checker.{numbers, outcome};
 
 // Checks a sheet.
 #[no_mangle]
