@@ -5,6 +5,7 @@
  *     optimize passes     each of the five on the sheet handed in, under a line with its number
  *     optimize all        all five: what sheet_list prints
  *     optimize convert E  the sheet in edition E, its bytes, or the refusal
+ *     optimize editions   what comes of the sheet in editions 0 to 3: counts and origins, or the refusal
  *     optimize promises   prints nothing; exits with 1 and a line if one of the header's promises is not kept
  */
 #include "reqshabu.h"
@@ -39,6 +40,31 @@ static void list(reqshabu_answer a, const uint8_t *written) {
     const uint8_t *cell = written + word(written + a.length - 12);
     for (uint64_t i = 0; i < a.cells; i++, cell += 16)
         printf("%" PRIu64 " %u %u %" PRIu32 " %" PRIu32 " %" PRIu32 "\n", i, cell[0], cell[1], word(cell + 4), word(cell + 8), word(cell + 12));
+}
+
+static size_t origin(const uint8_t *cell) {
+    return cell[2] | (size_t)cell[3] << 8;
+}
+
+/* The counts and the origins of the sheet that was written in another edition. */
+static void list_edition(reqshabu_answer a, const uint8_t *written) {
+    if (a.number != 0) {
+        refused(a);
+        return;
+    }
+    const uint8_t *cell = written + word(written + a.length - 12);
+    int zeros = 1, numbers = 1;
+    for (uint64_t i = 0; i < a.cells; i++, cell += 16) {
+        zeros &= origin(cell) == 0;
+        numbers &= origin(cell) == i;
+    }
+    printf("cells %" PRIu64 " bytes %" PRIu64 " columns %" PRIu64 " origins ", a.cells, a.length, a.columns);
+    if (word(written + a.length - 8) == 1 && zeros)
+        printf("0\n");
+    else if (word(written + a.length - 8) == 2 && numbers)
+        printf("0 to %" PRIu64 "\n", a.cells - 1);
+    else
+        printf("of another edition\n");
 }
 
 /* ---- what the header promises */
@@ -127,7 +153,7 @@ static void promise_of_all(void) {
 static int numbered(void) {
     size_t i = 0;
     for (const uint8_t *cell = sheet + word(sheet + length - 12); cell < sheet + length - 20; cell += 16, i++)
-        if ((size_t)(cell[2] | cell[3] << 8) != i)
+        if (origin(cell) != i)
             return 0;
     return 1;
 }
@@ -217,10 +243,15 @@ int main(int count, char **words) {
             refused(a);
         else
             return fwrite(output, 1, a.length, stdout) != a.length;
+    } else if (strcmp(operation, "editions") == 0) {
+        for (size_t edition = 0; edition <= 3; edition++) {
+            printf("to %zu: ", edition);
+            list_edition(plan_convert(sheet, length, edition, output, sizeof output), output);
+        }
     } else if (strcmp(operation, "promises") == 0) {
         promises();
     } else {
-        fprintf(stderr, "usage: optimize check | pass N | passes | all | convert E | promises\n");
+        fprintf(stderr, "usage: optimize check | pass N | passes | all | convert E | editions | promises\n");
         return 2;
     }
     return 0;
