@@ -3,7 +3,7 @@
 use Prim.Native.Nat.{ℕ, zero, suc, _+_, _-_, _*_, _/_, _%_, _≤_, _<_}
 use native.Mathlib.Omega.{arith}
 use borrow.Author.Tests.{eq-eqb, ne-eqb, le-leb, lt-leb}
-use mathlib.Core.Path.{_≡_, refl, sym, ap, ap₂, _∙_, subst}
+use mathlib.Core.Path.{_≡_, refl, sym, ap, ap₂, _∙_}
 use mathlib.Core.Logic.{_≢_}
 use mathlib.Core.Bool.{Bool, true, false, not, _&&_, _||_, cond}
 use mathlib.Core.List.{List, [], _∷_, _++_}
@@ -11,17 +11,15 @@ use lib.Dec.{eqb, leb}
 use lib.ListN.{length, take, drop, set, length-set}
 use lib.Seq.{sets, length-sets, set-append-left, set-getD, getD-set-other, take-length}
 use Rattle.sheet.specs.Bytes.{byte, word, bytes}
-use Rattle.sheet.specs.Parts.{edition, edition-ok, cells-at, cell-count, record-at}
+use Rattle.sheet.specs.Parts.{edition, cells-at, cell-count, record-at}
 use Rattle.sheet.specs.Check.{Numbers, refusal, check}
-use Rattle.sheet.specs.Operations.{Outcome}
 use Rattle.sheet_laws.specs.Accepted.{accepted}
+use Rattle.sheet_laws.specs.Bytes.{bytes-of-digits}
 use Rattle.sheet_laws.specs.Plan.{Bytes, parts-of}
 use Rattle.sheet_laws.specs.Layout.{Parts, parts}
-use Rattle.layout.specs.Layout.{Whole}
 use Rattle.checker.specs.Checker.{numbers, outcome}
 use Rattle.checker.specs.declared.Answer as Code
 use Rattle.editions.specs.Editions.{origin-bytes, with-origins, in-edition}
-use Rattle.sheet_laws.specs.Bytes.{bytes-of-digits}
 use Rattle.editions.specs.Kept.{length-origins, origin-kept, cell-inside}
 use Rattle.convert.specs.Convert.{origin-in, carried, other-edition, put-out, convert}
 use Rattle.convert.specs.Code.{Carryable}
@@ -29,10 +27,9 @@ use Rattle.convert.specs.Accepted.{stands-for, sides, by-tests}
 
 -- ---- the target
 
-or-and : (a b c : Bool) → (a || b) ≡ c → ((a || b) && true) ≡ c
-or-and true b c h = h
-or-and false true c h = h
-or-and false false c h = h
+and-true : (b : Bool) → (b && true) ≡ b
+and-true true = refl
+and-true false = refl
 
 and-false : (b : Bool) → (b && false) ≡ false
 and-false true = refl
@@ -50,7 +47,7 @@ module _ (s : List ℕ) (target : ℕ) where
     is-1 h = sym (apart-by true (eq-eqb target 1 h))
 
     pub not-1 : target ≢ 1 → eqb target 2 ≡ other-edition s target
-    not-1 h = sym (apart-by false (ne-eqb target 1 h) ∙ or-and false (eqb target 2) (eqb target 2) refl)
+    not-1 h = sym (apart-by false (ne-eqb target 1 h) ∙ and-true (eqb target 2))
 
 -- ---- origins
 

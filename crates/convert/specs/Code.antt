@@ -5,7 +5,6 @@ use mathlib.Core.Bool.{true}
 use mathlib.Core.List.{List}
 use lib.ListN.{length}
 use Rattle.sheet.specs.Parts.{edition-ok}
-use Rattle.sheet_laws.specs.Plan.{Bytes}
 use Rattle.layout.specs.Layout.{Whole}
 use Rattle.convert.specs.Convert.{other-edition}
 

@@ -1,11 +1,11 @@
 -- Small sheets carried to the other edition, and each refusal, worked out. A cell is written as document 01 lists it, its origin first: origin, tag, flag, a, b, c.
-use Prim.Native.Nat.{ℕ, _+_, _*_}
+use Prim.Native.Nat.{ℕ}
 use mathlib.Core.Path.{_≡_, refl}
 use mathlib.Core.List.{List, [], _∷_, _++_, map}
 use lib.ListN.{length, replicate}
 use Rattle.sheet.specs.Bytes.{bytes, word, half}
 use Rattle.sheet.specs.Parts.{length-ok, edition-ok, parts-ok, bad-record}
-use Rattle.sheet.specs.Cell.{Cell, cell, cell-ok, bad-cell}
+use Rattle.sheet.specs.Cell.{cell, cell-ok, bad-cell}
 use Rattle.sheet.specs.Tree.{read}
 use Rattle.sheet.specs.Check.{check}
 use Rattle.sheet.specs.Write.{cells-bytes}

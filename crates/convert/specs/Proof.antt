@@ -1,11 +1,11 @@
 -- The proof of Law.antt.
-use Prim.Native.Nat.{ℕ, _+_, _≤_, _<_}
+use Prim.Native.Nat.{ℕ, _≤_, _<_}
 use native.Mathlib.Omega.{arith}
-use mathlib.Core.Path.{_≡_, refl, sym, ap, ap₂, _∙_, subst}
+use mathlib.Core.Path.{_≡_, refl, sym, ap, _∙_, subst}
 use mathlib.Core.Bool.{Bool, true, false, cond}
-use mathlib.Core.List.{List, _++_}
+use mathlib.Core.List.{List}
 use lib.Dec.{eqb}
-use lib.ListN.{length, take, drop}
+use lib.ListN.{length, drop}
 use lib.Seq.{take-at}
 use Rattle.sql.specs.Answer.{Answer, done, refused}
 use Rattle.sql.specs.Plan.{Node}
@@ -23,7 +23,7 @@ use Rattle.sheet_laws.specs.Plan.{Bytes, parts-of, plan-origins}
 use Rattle.origins.specs.Origins.{map-answer}
 use Rattle.sound.specs.HandedOut.{success}
 use Rattle.sound.specs.Origins.{node-left}
-use Rattle.sound.specs.Operations.{sheet-of, Sound-outcome}
+use Rattle.sound.specs.Operations.{sheet-of}
 use Rattle.editions.specs.Editions.{in-edition, down}
 use Rattle.editions.specs.Law.{zeroed}
 use Rattle.editions.specs.Kept.{same-length, same-tables-at, same-columns-at, same-cells-at, edition-set, front-stays, cell-set}
@@ -31,8 +31,8 @@ use Rattle.editions.specs.Front.{same-text, same-schema}
 use Rattle.editions.specs.Again.{carried-twice, carried-own}
 use Rattle.editions.specs.Proof.{plan-alike, check-alike}
 use Rattle.convert.specs.Convert.{origin-in, carried, other-edition, put-out, convert}
-use Rattle.convert.specs.Law.{Own-numbers, Up-then-down, Back, Down-then-up, Same-plan, Carried, Carries}
-use Rattle.convert.specs.Accepted.{stands-for, sides, other-than, converts, Success, succeeded}
+use Rattle.convert.specs.Law.{Up-then-down, Down-then-up, Same-plan, Carried, Carries}
+use Rattle.convert.specs.Accepted.{stands-for, sides, other-than, converts, succeeded}
 use Rattle.convert.specs.Bytes.{carried-bytes}
 
 -- ---- a sheet of edition 1 has no origins but 0, nor has its plan

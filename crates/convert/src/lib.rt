@@ -1,12 +1,10 @@
 // The operation `convert`: a sheet of one edition carried to the other. Upward each cell's origin is its number, downward 0.
 use checker::Answer;
 ghost use mathlib.Core.Path.{_≡_};
-ghost use mathlib.Core.Bool.{true};
 ghost use mathlib.Core.List.{_++_};
 ghost use Prim.Native.Nat.{_+_, _*_, _≤_, _<_};
 ghost use lib.ListN.{length, drop};
 ghost use lib.Seq.{sets};
-ghost use Rattle.layout.specs.Layout.{Whole};
 ghost use Rattle.checker.specs.Checker.{outcome};
 ghost use Rattle.editions.specs.Editions.{origin-bytes, with-origins};
 ghost use Rattle.convert.specs.Convert;

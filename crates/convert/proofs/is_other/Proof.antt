@@ -1,6 +1,5 @@
 use Rattle.convert.proofs.Laws.{own, is-1, not-1}
 use native.Mathlib.Omega.{arith}
-use mathlib.Core.Path.{_∙_, sym}
 use borrow.Author.Needs.{needs}
 use Rattle.convert.proofs.is_other.Statement.{statement}
 use Rattle.convert.proofs.is_other.Tie as tie

@@ -2,7 +2,7 @@ use Rattle.convert.proofs.Laws.{origin-small, Going, going-start, going
 use Rattle.convert.specs.Convert.{origin-in}
 use Prim.Native.Nat.{_-_}
 use native.Mathlib.Omega.{arith}
-use mathlib.Core.Path.{_≡_, refl, sym, _∙_}
+use mathlib.Core.Path.{_≡_, refl, _∙_}
 use lib.ListN.{length}
 use borrow.Author.Needs.{needs}
 use Rattle.convert.proofs.put_origins.Statement.{statement}
