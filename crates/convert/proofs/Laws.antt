@@ -27,27 +27,19 @@ use Rattle.convert.specs.Accepted.{stands-for, sides, by-tests}
 
 -- ---- the target
 
-and-true : (b : Bool) → (b && true) ≡ b
-and-true true = refl
-and-true false = refl
-
-and-false : (b : Bool) → (b && false) ≡ false
-and-false true = refl
-and-false false = refl
-
 module _ (s : List ℕ) (target : ℕ) where
   pub own : target ≡ edition s → false ≡ other-edition s target
-  own h = sym (ap (λ (b : Bool). (eqb target 1 || eqb target 2) && not b) (eq-eqb target (edition s) h) ∙ and-false (eqb target 1 || eqb target 2))
+  own h = sym (ap (λ (b : Bool). not b && (eqb target 1 || eqb target 2)) (eq-eqb target (edition s) h))
 
   module _ (apart : target ≢ edition s) where
-    apart-by : (a : Bool) → eqb target 1 ≡ a → other-edition s target ≡ ((a || eqb target 2) && true)
-    apart-by a h = ap₂ (λ (x y : Bool). (x || eqb target 2) && not y) h (ne-eqb target (edition s) apart)
+    apart-by : (a : Bool) → eqb target 1 ≡ a → other-edition s target ≡ (a || eqb target 2)
+    apart-by a h = ap₂ (λ (x y : Bool). not x && (y || eqb target 2)) (ne-eqb target (edition s) apart) h
 
     pub is-1 : target ≡ 1 → true ≡ other-edition s target
     is-1 h = sym (apart-by true (eq-eqb target 1 h))
 
     pub not-1 : target ≢ 1 → eqb target 2 ≡ other-edition s target
-    not-1 h = sym (apart-by false (ne-eqb target 1 h) ∙ and-true (eqb target 2))
+    not-1 h = sym (apart-by false (ne-eqb target 1 h))
 
 -- ---- origins
 

@@ -36,16 +36,16 @@ pub sides : {A : Type 0} (s : List ℕ) (target : ℕ) → edition-ok s ≡ true
     → (target ≡ 1 → edition s ≡ 2 → A) → (target ≡ 2 → edition s ≡ 1 → A) → A
 unfolding edition-ok
 sides s target known other down up =
-    let apart = eqb-false target (edition s) (not-true (eqb target (edition s)) (and-right (eqb target 1 || eqb target 2) (not (eqb target (edition s))) other)) in
-    either (eqb target 1) (eqb target 2) (and-left (eqb target 1 || eqb target 2) (not (eqb target (edition s))) other)
+    let apart = eqb-false target (edition s) (not-true (eqb target (edition s)) (and-left (not (eqb target (edition s))) (eqb target 1 || eqb target 2) other)) in
+    either (eqb target 1) (eqb target 2) (and-right (not (eqb target (edition s))) (eqb target 1 || eqb target 2) other)
     (λ t. let is = eqb-true target 1 t in
     either (eqb (edition s) 1) (eqb (edition s) 2) known (λ e. absurd (apart (is ∙ sym (eqb-true (edition s) 1 e)))) (λ e. down is (eqb-true (edition s) 2 e)))
     (λ t. let is = eqb-true target 2 t in
     either (eqb (edition s) 1) (eqb (edition s) 2) known (λ e. up is (eqb-true (edition s) 1 e)) (λ e. absurd (apart (is ∙ sym (eqb-true (edition s) 2 e)))))
 
 -- Of a sheet of the one edition, the other is a target.
-pub other-than : (s : List ℕ) (target e : ℕ) → edition s ≡ e → ((eqb target 1 || eqb target 2) && not (eqb target e)) ≡ true → other-edition s target ≡ true
-other-than s target e is h = ap (λ (k : ℕ). (eqb target 1 || eqb target 2) && not (eqb target k)) is ∙ h
+pub other-than : (s : List ℕ) (target e : ℕ) → edition s ≡ e → (not (eqb target e) && (eqb target 1 || eqb target 2)) ≡ true → other-edition s target ≡ true
+other-than s target e is h = ap (λ (k : ℕ). not (eqb target k) && (eqb target 1 || eqb target 2)) is ∙ h
 
 -- ---- the operation
 

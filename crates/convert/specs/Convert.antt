@@ -19,9 +19,9 @@ origin-in target i = cond (eqb target 1) 0 i
 abbrev pub carried : (target : ℕ) → List ℕ → List ℕ
 carried target s = in-edition target (origin-in target) s
 
--- The target is an edition, and not the sheet's own.
+-- The target is not the sheet's own edition, and is one.
 abbrev pub other-edition : (s : List ℕ) (target : ℕ) → Bool
-other-edition s target = (eqb target 1 || eqb target 2) && not (eqb target (edition s))
+other-edition s target = not (eqb target (edition s)) && (eqb target 1 || eqb target 2)
 
 -- Of a sheet with these counts: it is written over the output's first bytes, and the bytes after it stay. It stays as long as it was, so refusal 15 gives its length.
 abbrev pub put-out : (s : List ℕ) (target : ℕ) (out : List ℕ) (counts : Numbers) → Bool → Outcome

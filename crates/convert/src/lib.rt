@@ -11,7 +11,7 @@ ghost use Rattle.convert.specs.Convert;
 ghost use Rattle.convert.specs.Convert.{origin-in, carried, other-edition};
 ghost use Rattle.convert.specs.Code.{Carryable};
 
-// The target is an edition, and not that of s.
+// The target is not the edition of s, and is one.
 fn is_other(s: &[u8], target: usize) -> bool
     requires { ⌜ 20 ≤ length (now s) ⌝ }
     ensures { λ r. ⌜ r ≡ other-edition (now (s .entry)) target ⌝ }

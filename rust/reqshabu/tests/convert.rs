@@ -1,7 +1,7 @@
 //! Sheets carried to the other edition, through the wrapper: both directions, refusals 21 and 15, damaged sheets, outputs of awkward lengths.
 mod common;
 
-use common::{down, edition, example, examples, origins, output, untouched, up};
+use common::{LARGEST, cell, down, edition, example, examples, on_small_stack, origins, output, sheet_with, untouched, up};
 use reqshabu::{Accepted, LARGEST_SHEET, Refusal, Written, check, convert, convert_to_vec, optimize_to_vec, pass_to_vec};
 use std::fs;
 
@@ -121,6 +121,23 @@ fn what_check_refuses_comes_first() {
     seen.sort_unstable();
     seen.dedup();
     assert_eq!(seen, (2..=10).collect::<Vec<_>>());
+}
+
+#[test]
+fn largest_sheet() {
+    on_small_stack(|| {
+        // Every part as long as it may be: text, 16 tables of 16 columns each, and a Nothing under 2,047 Offsets.
+        let tables: Vec<u8> = (0..16).flat_map(|i| [0, 16 * i, 16, 0].map(u32::to_le_bytes)).flatten().collect();
+        let mut cells = vec![cell(57, 0, 0, 0, 0)];
+        cells.resize(2_048, cell(58, 0, 1, 0, 0));
+        let sheet = sheet_with(&[b'~'; 8_192], &tables, &[0; 16 * 256], &cells);
+        assert_eq!(sheet.len(), LARGEST);
+        agrees("the largest sheet", &sheet, 2);
+        let there = convert_to_vec(&sheet, 2).unwrap();
+        assert_eq!(origins(&there), (0..2_048).collect::<Vec<u16>>());
+        agrees("the largest sheet of edition 2", &there, 1);
+        assert_eq!(convert_to_vec(&there, 1).unwrap(), sheet);
+    });
 }
 
 #[test]
