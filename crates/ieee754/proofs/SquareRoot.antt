@@ -1,11 +1,14 @@
 -- The square root at each pattern: what is asked for is worked out, by the definition and by the code's cases. Assumes nothing.
 use mathlib.Core.Path.{_≡_, refl, sym, ap, _∙_, subst}
 use mathlib.Core.Logic.{_≢_, _↔_, inl, inr}
-use mathlib.Core.Bool.{Bool, true, false}
-use Prim.Native.Nat.{ℕ, zero, suc, _+_, _-_, _*_, _%_, _^_, _≤_, _<_}
+use mathlib.Core.Bool.{Bool, true, false, not}
+use Prim.Native.Nat.{ℕ, zero, suc, _+_, _-_, _*_, _%_, _^_, _≤_, _<_, zero-le}
 use native.Mathlib.Nat.{le-refl, le-trans, le-antisymm, le-of-lt, le-of-eq, lt-of-lt-of-le, lt-of-le-of-lt, lt-irrefl, mul-one, eq-or-lt-of-le, pos-of-ne-zero}
 use native.Mathlib.Omega.{arith}
-use borrow.Author.Tests.{le-leb, lt-leb}
+use lib.Dec.{T}
+use borrow.Author.Tests.{le-ltb, le-leb, lt-leb}
+use lib.Ieee.{binary64, ofBits, toBits}
+use lib.Ieee.Bits.{toBits-ofBits, nanBits-is, nanBits-above}
 use Rattle.ieee754.specs.Ieee754.{infinity, one, units, square, Nearest, Nearest-root, nearest-root, with-sign, negative, without-sign, quiet-nan, Double, nan, infinite, finite, read, Is, square-root-by, square-root, square-root-bits}
 use Rattle.ieee754.specs.Roots.{Positive}
 use Rattle.ieee754.proofs.Units.{lt-or-le, units-lt, units-le}
@@ -61,13 +64,16 @@ never-infinite {p} h =
 
 -- ---- what is asked for is what is worked out
 
-root-right : (s : Bool) (u p : ℕ) → units p ≡ u → p < infinity → Is (square-root (finite s u)) (square-root-by (λ p. p) nearest-root (finite s u))
-root-right s zero p e l = refl
-root-right true (suc u) p e l = refl
-root-right false (suc u) p e l = subst (λ (n : ℕ). Nearest-root (n * one) (nearest-root (n * one))) e (root-nearest (record { above = pos-of-ne-zero (λ z. none (units p) u e (ap units z ∙ units-zero)); below = l }))
+above : (u p : ℕ) → units p ≡ suc u → p < infinity → Positive p
+above u p e l = record { above = pos-of-ne-zero (λ z. none (units p) u e (ap units z ∙ units-zero)); below = l }
   where
     none : (x u : ℕ) → x ≡ suc u → x ≡ 0 → ⊥
     none x u e z = omega arith
+
+root-right : (s : Bool) (u p : ℕ) → units p ≡ u → p < infinity → Is (square-root (finite s u)) (square-root-by (λ p. p) nearest-root (finite s u))
+root-right s zero p e l = refl
+root-right true (suc u) p e l = refl
+root-right false (suc u) p e l = subst (λ (n : ℕ). Nearest-root (n * one) (nearest-root (n * one))) e (root-nearest (above u p e l))
 
 infinite-right : (s : Bool) → Is (square-root (infinite s)) (square-root-by (λ p. p) nearest-root (infinite s))
 infinite-right true = refl
@@ -92,6 +98,48 @@ square-root-unique (infinite true) p q a b = a ∙ sym b
 square-root-unique (finite s zero) p q a b = a ∙ sym b
 square-root-unique (finite true (suc u)) p q a b = a ∙ sym b
 square-root-unique (finite false (suc u)) p q a b = nearest-root-unique (suc u * one) p q a b
+
+-- ---- read as a float and written again, a root's pattern is the same: it is no NaN's, or the one that is written
+
+kept : (s : Bool) (p : ℕ) → p ≤ infinity → toBits binary64 (ofBits binary64 (with-sign s p)) ≡ with-sign s p
+kept s p h =
+    toBits-ofBits binary64 (with-sign s p) (signed-lt s p h)
+    (subst (λ (t : Bool). T (not t))
+    (sym (sym (nanBits-is binary64 (with-sign s p)) ∙ nanBits-above binary64 (with-sign s p) ∙ le-ltb infinity (without-sign (with-sign s p)) (signed-rest s p h)))
+    tt)
+  where
+    signed-lt : (s : Bool) (p : ℕ) → p ≤ infinity → with-sign s p < 2 ^ 64
+    signed-lt false p h = omega arith
+    signed-lt true p h = omega arith
+
+    signed-rest : (s : Bool) (p : ℕ) → p ≤ infinity → with-sign s p % 2 ^ 63 ≤ infinity
+    signed-rest false p h = omega arith
+    signed-rest true p h = omega arith
+
+nan-kept : toBits binary64 (ofBits binary64 quiet-nan) ≡ quiet-nan
+unfolding toBits ofBits
+nan-kept = refl
+
+abbrev Kept : Double → Type 0
+Kept d = toBits binary64 (ofBits binary64 (square-root-by (λ p. p) nearest-root d)) ≡ square-root-by (λ p. p) nearest-root d
+
+infinite-kept : (s : Bool) → Kept (infinite s)
+infinite-kept true = nan-kept
+infinite-kept false = kept false infinity (le-refl infinity)
+
+finite-kept : (s : Bool) (u p : ℕ) → units p ≡ u → p < infinity → Kept (finite s u)
+finite-kept s zero p e l = kept s 0 zero-le
+finite-kept true (suc u) p e l = nan-kept
+finite-kept false (suc u) p e l = subst (λ (n : ℕ). toBits binary64 (ofBits binary64 (nearest-root (n * one))) ≡ nearest-root (n * one)) e (kept false (nearest-root (units p * one)) (le-of-lt (never-infinite (above u p e l))))
+
+pub root-kept : (b : ℕ) → toBits binary64 (ofBits binary64 (square-root-bits b)) ≡ square-root-bits b
+root-kept b = elim (lt-or-le infinity (without-sign b)) [
+  | inl l ↦ subst Kept (sym (read-nan b l)) nan-kept
+  | inr g ↦ elim (eq-or-lt-of-le g) [
+    | inl e ↦ subst Kept (sym (read-infinite b e)) (infinite-kept (negative b))
+    | inr l ↦ subst Kept (sym (read-finite b l)) (finite-kept (negative b) (units (without-sign b)) (without-sign b) refl l)
+  ]
+]
 
 -- ---- the nearest double to the root of a square is the nearest to that number, in the sense of every other operation
 
