@@ -1,18 +1,16 @@
 -- `Nearest-root`: it has one answer at most, `nearest-root` works it out, and the whole root of 54 digits, halved, gives it. The root of a double is never in the
 -- middle of two doubles, and never subnormal. Assumes nothing.
 use mathlib.Core.Path.{_≡_, refl, sym, ap, _∙_, subst}
-use mathlib.Core.Logic.{_⊎_, inl, inr, _↔_}
-use mathlib.Core.Bool.{Bool, true, false, cond}
+use mathlib.Core.Logic.{inl, inr}
+use mathlib.Core.Bool.{Bool, cond}
 use Prim.Native.Nat.{ℕ, zero, suc, _+_, _-_, _*_, _/_, _%_, _^_, _≤_, _<_}
-use native.Mathlib.Nat.{le-refl, le-trans, le-of-lt, le-of-eq, le-antisymm, lt-of-lt-of-le, lt-of-le-of-lt, lt-irrefl, add-le-add, mul-pos, mul-le-mul, mul-le-mul-right, mul-lt-mul-of-pos-right, mul-mul-mul-comm, mul-assoc, mul-comm, eq-or-lt-of-le, pow-succ', mod-lt, div-add-mod'}
+use native.Mathlib.Nat.{le-refl, le-trans, le-of-lt, le-of-eq, le-antisymm, lt-of-lt-of-le, lt-of-le-of-lt, lt-irrefl, add-le-add, mul-pos, mul-le-mul, mul-le-mul-right, mul-lt-mul-of-pos-right, mul-mul-mul-comm, eq-or-lt-of-le, pow-succ'}
 use native.Mathlib.Omega.{arith}
-use lib.Dec.{leb}
-use lib.Pow.{pow-pos, pow-add}
+use lib.Pow.{pow-pos}
 use borrow.Author.Tests.{le-leb, lt-leb}
-use Rattle.ieee754.specs.Ieee754.{infinity, units, square, Nearest, Nearest-root, reached, root-bits, nearest-root}
+use Rattle.ieee754.specs.Ieee754.{infinity, units, square, Nearest-root, root-bits, nearest-root}
 use Rattle.ieee754.specs.Roots.{Whole-root}
-use Rattle.ieee754.proofs.Units.{lt-or-le, units-digits, units-next, units-lt, units-le}
-use Rattle.ieee754.proofs.Nearest.{Closest, closest-nearest}
+use Rattle.ieee754.proofs.Units.{lt-or-le, units-digits, units-lt, units-le}
 
 -- ---- squares
 

@@ -1,16 +1,16 @@
 -- The root of each double above zero, from its digits: the pattern that the whole root of these makes is the nearest one. Assumes nothing.
 use mathlib.Core.Path.{_≡_, refl, sym, ap, _∙_, subst}
-use mathlib.Core.Logic.{_≢_, inl, inr}
+use mathlib.Core.Logic.{inl, inr}
 use Prim.Native.Nat.{ℕ, zero, suc, _+_, _-_, _*_, _/_, _%_, _^_, _≤_, _<_}
-use native.Mathlib.Nat.{le-refl, le-trans, le-of-lt, le-of-eq, lt-of-lt-of-le, lt-of-le-of-lt, lt-irrefl, one-mul, mul-one, mul-comm, mul-assoc, mul-le-mul, mul-le-mul-right, mul-lt-mul-of-pos-right, le-of-suc-le-suc, mod-lt, div-lt-iff-lt-mul}
+use native.Mathlib.Nat.{le-refl, le-trans, le-of-lt, lt-of-lt-of-le, lt-of-le-of-lt, lt-irrefl, mul-assoc, mul-le-mul-right, mul-lt-mul-of-pos-right, le-of-suc-le-suc, mod-lt, div-lt-iff-lt-mul}
 use native.Mathlib.Omega.{arith}
 use lib.Pow.{pow-pos, pow-add, pow-mono}
 use lib.Count.{leadingZeros}
-use Rattle.ieee754.specs.Ieee754.{infinity, one, of-fields, units, square, Nearest-root, nearest-root}
+use Rattle.ieee754.specs.Ieee754.{infinity, one, of-fields, units, square, nearest-root}
 use Rattle.ieee754.specs.Roots.{Whole-root, Digits, Positive}
-use Rattle.ieee754.proofs.Units.{lt-or-le, units-le}
+use Rattle.ieee754.proofs.Units.{lt-or-le}
 use Rattle.ieee754.proofs.Pattern.{Leading, leading, zeros-lt, moved-lt, moved-ge, none-lost}
-use Rattle.ieee754.proofs.Root.{square-le, square-lt, root-lt, Encloses, nearest-root-is, encloses}
+use Rattle.ieee754.proofs.Root.{square-lt, root-lt, Encloses, nearest-root-is, encloses}
 
 -- m, or twice m where e is odd, has at most 54 digits
 pub one-more : {m e : ℕ} → Digits m e → m * (1 + e % 2) < 2 ^ 54

@@ -1,6 +1,6 @@
 -- The square root at each pattern: what is asked for is worked out, by the definition and by the code's cases. Assumes nothing.
 use mathlib.Core.Path.{_≡_, refl, sym, ap, _∙_, subst}
-use mathlib.Core.Logic.{_≢_, _↔_, inl, inr}
+use mathlib.Core.Logic.{_≢_, inl, inr}
 use mathlib.Core.Bool.{Bool, true, false, not}
 use Prim.Native.Nat.{ℕ, zero, suc, _+_, _-_, _*_, _%_, _^_, _≤_, _<_, zero-le}
 use native.Mathlib.Nat.{le-refl, le-trans, le-antisymm, le-of-lt, le-of-eq, lt-of-lt-of-le, lt-of-le-of-lt, lt-irrefl, mul-one, eq-or-lt-of-le, pos-of-ne-zero}
@@ -12,9 +12,8 @@ use lib.Ieee.Bits.{toBits-ofBits, nanBits-is, nanBits-above}
 use Rattle.ieee754.specs.Ieee754.{infinity, one, units, square, Nearest, Nearest-root, nearest-root, with-sign, negative, without-sign, quiet-nan, Double, nan, infinite, finite, read, Is, square-root-by, square-root, square-root-bits}
 use Rattle.ieee754.specs.Roots.{Positive}
 use Rattle.ieee754.proofs.Units.{lt-or-le, units-lt, units-le}
-use Rattle.ieee754.proofs.Nearest.{Closest, closest-nearest}
 use Rattle.ieee754.proofs.Reading.{sign-and-rest, read-nan, read-infinite, read-finite}
-use Rattle.ieee754.proofs.Root.{square-le, root-le, Encloses, encloses-nearest, nearest-root-is, nearest-root-unique}
+use Rattle.ieee754.proofs.Root.{square-le, root-le, encloses-nearest, nearest-root-is, nearest-root-unique}
 use Rattle.ieee754.proofs.RootDigits.{Root, has-root}
 
 units-zero : units 0 ≡ 0

@@ -1,5 +1,5 @@
 -- The whole root digit by digit: what holds before each turn of `whole_root`'s loop. Assumes nothing.
-use mathlib.Core.Path.{_≡_, refl, sym, ap, _∙_, subst}
+use mathlib.Core.Path.{_≡_, sym, ap, _∙_, subst}
 use Prim.Native.Nat.{ℕ, suc, _+_, _-_, _*_, _/_, _%_, _^_, _≤_, _<_}
 use native.Mathlib.Nat.{lt-of-lt-of-le, pow-suc, mul-assoc}
 use native.Mathlib.Numerals.{add-one}

@@ -57,11 +57,11 @@ pub record Nearest-root (n p : ℕ) : Type 0 where
   pub ties : (q : ℕ) → q ≤ infinity → q ≢ p → square (units p + units q) ≡ 4 * n → p % 2 ≡ 0
 
 -- The same worked out, from p's highest bit down: p is the largest pattern for which the middle of p and the pattern before it is at most the root.
--- The root of a double is never in such a middle itself (proofs/Root.antt), so ties are no matter here.
+-- The root of a double is never in such a middle itself (proofs/Agreement.antt: `never-a-tie`), so ties are no matter here.
 abbrev pub reached : ℕ → ℕ → Bool
 reached n p = leb (square (units (p - 1) + units p)) (4 * n)
 
--- n's pattern, of which p is found and i bits are left
+-- the pattern of n's root, of which the highest bits are found, p, and the lowest i are left
 unfoldable pub root-bits : ℕ → ℕ → ℕ → ℕ
 root-bits n zero p = p
 root-bits n (suc i) p = root-bits n i (cond (reached n (p + 2 ^ i)) (p + 2 ^ i) p)

@@ -1,6 +1,6 @@
 -- `ieee754::root_of_digits` meets its contract: the whole root makes the nearest pattern. Assumes nothing.
 use native.Mathlib.Omega.{arith}
-use Rattle.ieee754.proofs.RootDigits.{one-more, root-high, pattern-is}
+use Rattle.ieee754.proofs.RootDigits.{one-more, pattern-is}
 use borrow.Author.Needs.{needs}
 use Rattle.ieee754.proofs.root_of_digits.Statement.{statement}
 use Rattle.ieee754.proofs.root_of_digits.Tie as tie

@@ -1,8 +1,6 @@
 -- `ieee754::square_root_bits` meets its contract, case by case. Assumes nothing.
 use mathlib.Core.Path.{_∙_}
-use native.Mathlib.Omega.{arith}
 use Rattle.ieee754.proofs.SquareRoot.{at-nan, at-zero, at-negative, at-infinity, positive, at-positive}
-use borrow.Author.Needs.{needs}
 use Rattle.ieee754.proofs.square_root_bits.Statement.{statement}
 use Rattle.ieee754.proofs.square_root_bits.Tie as tie
 
