@@ -1,0 +1,4 @@
+pub mod Strings
+pub mod Slots
+pub mod Compact
+pub mod Examples
