@@ -12,7 +12,7 @@ use Rattle.sheet.specs.Parts.{table-count, column-count, cell-count, edition}
 use Rattle.sheet.specs.Check.{text, plan}
 use Rattle.sheet.specs.Operations.{Outcome, refuse, written}
 use Rattle.compact.specs.Strings.{kept, joined, reference-to}
-use Rattle.compact.specs.Slots.{slots, references, redirected, slot-bytes}
+use Rattle.compact.specs.Slots.{slots, references, redirect, slot-bytes}
 
 -- the strings that records and cells refer to, in order of reference
 unfoldable pub strings : List ℕ → List (List ℕ)
@@ -45,7 +45,7 @@ unfoldable pub compacted : List ℕ → List ℕ
 unfolding kept-text moved slots slot-bytes trailer-with
 compacted s =
     kept-text s
-    ++ (slot-bytes (redirected (moved s) (slots s)) ++ trailer-with (length (kept-text s)) (table-count s) (column-count s) (cell-count s) (edition s))
+    ++ (slot-bytes (map (redirect (moved s)) (slots s)) ++ trailer-with (length (kept-text s)) (table-count s) (column-count s) (cell-count s) (edition s))
 
 -- Refusal 14 if the text kept has over 8,192 bytes, and then 15 if the output is too short, with the bytes needed.
 abbrev pub handed-out : (s out : List ℕ) → Answer Node → Outcome

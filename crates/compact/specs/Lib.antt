@@ -6,3 +6,4 @@ pub mod Examples
 pub mod References
 pub mod Unseen
 pub mod Reading
+pub mod Cells

@@ -53,15 +53,18 @@ references [] = []
 references (number v ∷ xs) = references xs
 references (reference r ∷ xs) = r ∷ references xs
 
--- with each reference put through a function
-abbrev pub redirected : (ℕ → ℕ) → List Slot → List Slot
-redirected f [] = []
-redirected f (number v ∷ xs) = number v ∷ redirected f xs
-redirected f (reference r ∷ xs) = reference (f r) ∷ redirected f xs
+-- the number that stands there
+abbrev pub value : Slot → ℕ
+value (number v) = v
+value (reference r) = r
+
+-- a word whose reference, if it is one, is put through a function
+abbrev pub redirect : (ℕ → ℕ) → Slot → Slot
+redirect f (number v) = number v
+redirect f (reference r) = reference (f r)
 
 -- as bytes
 unfoldable pub slot-bytes : List Slot → List ℕ
 unfolding bytes
 slot-bytes [] = []
-slot-bytes (number v ∷ xs) = bytes v ++ slot-bytes xs
-slot-bytes (reference r ∷ xs) = bytes r ++ slot-bytes xs
+slot-bytes (x ∷ xs) = bytes (value x) ++ slot-bytes xs
