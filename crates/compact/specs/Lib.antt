@@ -7,3 +7,5 @@ pub mod References
 pub mod Unseen
 pub mod Reading
 pub mod Cells
+pub mod Blocks
+pub mod Moved
