@@ -9,3 +9,4 @@ pub mod Reading
 pub mod Cells
 pub mod Blocks
 pub mod Moved
+pub mod Accepts
