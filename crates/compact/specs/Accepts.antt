@@ -13,10 +13,12 @@ use Rattle.value.specs.Meaning.{bytes-at}
 use Rattle.sql.specs.Answer.{done}
 use Rattle.sql.specs.Schema.{Column, Table, Schema}
 use Rattle.sql.specs.Plan.{Node, up-to}
+use Rattle.sql.specs.Optimizer.{map-optional}
 use Rattle.sheet.specs.Bytes.{byte, half, word}
 use Rattle.sheet.specs.Parts.{tables-at, columns-at, cells-at, edition, said-length, table-count, column-count, cell-count, inside, record-at, length-ok, edition-ok, records-ok, parts-ok, table-name, first-column, columns-of, key-of, columns-before, table-ok, column-name, kind-of, index-mark, column-ok, record-ok, bad-record}
 use Rattle.sheet.specs.Cell.{Cell, cell-from, cell, cell-ok, origins, tag-of, bad-cell}
 use Rattle.sheet.specs.Content.{content-of}
+use Rattle.sheet.specs.Tree.{node-tree, stack, read}
 use Rattle.sheet.specs.Scope.{outside}
 use Rattle.sheet.specs.Check.{text, column, table, schema, cells-of, plan}
 use Rattle.sheet_laws.specs.Fits.{All}
@@ -28,7 +30,8 @@ use Rattle.compact.specs.Slots.{Slot, record-slots, cell-slots, field-sl
 use Rattle.compact.specs.Compact.{kept-text, moved, compacted}
 use Rattle.compact.specs.References
 use Rattle.compact.specs.Unseen.{in-scope-unseen, targets-unseen}
-use Rattle.compact.specs.Reading.{Alike-cells, Each-alike, none-left, one-more, node-alike-read}
+use Rattle.compact.specs.Reading.{map-content, Alike-cells, Each-alike, none-left, one-more, node-alike-read, Agreeing, Each-agreeing, none-more, and-one, plans-agree}
+use Rattle.compact.specs.Agree.{says-agree}
 use Rattle.compact.specs.Cells.{Refers, moved-by, moved-cell, moved-says, moved-ok, same-origin}
 use Rattle.compact.specs.Blocks.{all-part, Copied, copied-word, copied-half}
 use Rattle.compact.specs.Moved as Moved
@@ -54,6 +57,11 @@ each-alike : (h : ℕ → ℕ) (new old : List ℕ) (u v : ℕ → Cell) (i k : 
     → Each-alike h new old (map u (up-to i k)) (map v (up-to i k))
 each-alike h new old u v i zero a = none-left
 each-alike h new old u v i (suc k) a = one-more (a i (omega arith) (omega arith)) (each-alike h new old u v (suc i) k (λ j p q. a j (omega arith) (omega arith)))
+
+each-agreeing : (g g′ : ℕ → ℕ) (new old : List ℕ) (u v : ℕ → Cell) (i k : ℕ) → ((j : ℕ) → i ≤ j → j < i + k → Agreeing g g′ new old (u j) (v j))
+    → Each-agreeing g g′ new old (map u (up-to i k)) (map v (up-to i k))
+each-agreeing g g′ new old u v i zero a = none-more
+each-agreeing g g′ new old u v i (suc k) a = and-one (a i (omega arith) (omega arith)) (each-agreeing g g′ new old u v (suc i) k (λ j p q. a j (omega arith) (omega arith)))
 
 module _ (s : List ℕ) (b : Bytes s) (n : Node) (h : plan s ≡ done n) (short : length (kept-text s) ≤ 8192) where
   abbrev pub f : ℕ → ℕ
@@ -255,23 +263,27 @@ module _ (s : List ℕ) (b : Bytes s) (n : Node) (h : plan s ≡ done n) (short 
   unfolding moved-cell
   origin-moved k = same-origin f (tag-of (k .tag)) k
 
+  cell-says : (j : ℕ) → j < cell-count s → content-of (text d) (cell d j) ≡ map-optional (map-content f) (content-of (text s) (cell s j))
+  cell-says j l =
+      let t = Moved.text-d s b p short in
+      let m = Moved.refers-map (Moved.Moves s b p short) (λ r. bytes-at (text d) (f r) ≡ bytes-at (text s) r) (λ r z. ap (λ (u : List ℕ). bytes-at u (f r)) t ∙ z .same)
+      (field-slots (cell s j) (tag-of (cell s j .tag))) (cell-refers j l) in
+      ap (content-of (text d)) (cell-d j l) ∙ moved-says f (text d) (text s) (cell s j) m
+
+  cell-origin : (j : ℕ) → j < cell-count s → cell d j .origin ≡ cell s j .origin
+  cell-origin j l = ap (λ (k : Cell). k .origin) (cell-d j l) ∙ origin-moved (cell s j)
+
   cells-alike : Each-alike f (text d) (text s) (cells-of d) (cells-of s)
   unfolding cells-of
   cells-alike =
       subst (λ (m : ℕ). Each-alike f (text d) (text s) (map (cell d) (up-to 0 m)) (map (cell s) (up-to 0 (cell-count s)))) (sym (Moved.cell-count-d s b p short))
       (each-alike f (text d) (text s) (cell d) (cell s) 0 (cell-count s)
-      (λ j x y.
-      let l : j < cell-count s = omega arith in
-      let t = Moved.text-d s b p short in
-      let m = Moved.refers-map (Moved.Moves s b p short) (λ r. bytes-at (text d) (f r) ≡ bytes-at (text s) r)
-      (λ r z. ap (λ (u : List ℕ). bytes-at u (f r)) t ∙ z .same) (field-slots (cell s j) (tag-of (cell s j .tag))) (cell-refers j l) in
-      let e = cell-d j l in
-      record {
-        says = ap (content-of (text d)) e ∙ moved-says f (text d) (text s) (cell s j) m;
-        origin-is = ap (λ (k : Cell). k .origin) e ∙ origin-moved (cell s j);
-      }))
+      (λ j x y. record { says = cell-says j (omega arith); origin-is = cell-origin j (omega arith) }))
 
   -- ---- the plan
+
+  reads-d : read (text d) 0 (cells-of d) [] ≡ stack (node-tree (References.map-node f n) ∷ [])
+  reads-d = node-alike-read f (text d) (text s) (cells-of d) (cells-of s) n cells-alike (a .reads)
 
   pub plan-d : plan d ≡ done (References.map-node f n)
   plan-d =
@@ -281,7 +293,52 @@ module _ (s : List ℕ) (b : Bytes s) (n : Node) (h : plan s ≡ done n) (short 
         parts-are = parts-ok-d;
         records-are = bad-record-d;
         cells-are = bad-cell-d;
-        reads = node-alike-read f (text d) (text s) (cells-of d) (cells-of s) n cells-alike (a .reads);
+        reads = reads-d;
         scope-is = ap (λ (t : Schema). outside t 0 (References.map-node f n)) schema-d ∙ in-scope-unseen f (schema s) n (a .scope-is);
         targets-are = targets-unseen f n (a .targets-are);
       })
+
+  -- ---- read by their texts, both are the same
+
+  module _ (g g′ : ℕ → ℕ) (agree : (r : ℕ) → bytes-at (kept-text s) (f r) ≡ bytes-at (text s) r → g (f r) ≡ g′ r) where
+    cells-agree : Each-agreeing g g′ (text d) (text s) (cells-of d) (cells-of s)
+    unfolding cells-of
+    cells-agree =
+        subst (λ (m : ℕ). Each-agreeing g g′ (text d) (text s) (map (cell d) (up-to 0 m)) (map (cell s) (up-to 0 (cell-count s)))) (sym (Moved.cell-count-d s b p short))
+        (each-agreeing g g′ (text d) (text s) (cell d) (cell s) 0 (cell-count s)
+        (λ j x y.
+        let l : j < cell-count s = omega arith in
+        let m = Moved.refers-map (Moved.Moves s b p short) (λ r. g (f r) ≡ g′ r) (λ r z. agree r (z .same)) (field-slots (cell s j) (tag-of (cell s j .tag))) (cell-refers j l) in
+        record { says = ap (map-optional (map-content g)) (cell-says j l) ∙ says-agree f g g′ (text s) (cell s j) m; origin-is = cell-origin j l }))
+
+    pub plan-agrees : References.map-node g (References.map-node f n) ≡ References.map-node g′ n
+    plan-agrees = plans-agree g g′ (text d) (text s) (cells-of d) (cells-of s) (References.map-node f n) n cells-agree reads-d (a .reads)
+
+    column-agrees : (i : ℕ) → i < column-count s → References.map-column g (References.map-column f (column s i)) ≡ References.map-column g′ (column s i)
+    column-agrees i l =
+        let m = all-part (Refers (Moved.Moves s b p short)) (Moved.column-around s b p short i l) (Moved.all-move s b p short) in
+        let e = agree (column-name s i) (m .0 .same) in
+        cc
+
+    table-agrees : (i : ℕ) → i < table-count s → References.map-table g (References.map-table f (table s i)) ≡ References.map-table g′ (table s i)
+    table-agrees i l =
+        let m = all-part (Refers (Moved.Moves s b p short)) (Moved.table-around s b p short i l) (Moved.all-move s b p short) in
+        let e = agree (table-name s i) (m .0 .same) in
+        let t = table-facts s (a .records-are) i l in
+        let range = up-to (first-column s i) (columns-of s i) in
+        let cs : map (References.map-column g) (map (References.map-column f) (map (column s) range)) ≡ map (References.map-column g′) (map (column s) range) =
+        ap (map (References.map-column g)) (sym (map-after (References.map-column f) (column s) range))
+        ∙ sym (map-after (References.map-column g) (λ j. References.map-column f (column s j)) range)
+        ∙ map-alike (λ j. References.map-column g (References.map-column f (column s j))) (λ j. References.map-column g′ (column s j)) (first-column s i) (columns-of s i)
+        (λ j x y. column-agrees j (omega (arith, t .in-range)))
+        ∙ map-after (References.map-column g′) (column s) range in
+        cc
+
+    pub schema-agrees : References.map-schema g (References.map-schema f (schema s)) ≡ References.map-schema g′ (schema s)
+    unfolding schema
+    schema-agrees =
+        let range = up-to 0 (table-count s) in
+        ap (map (References.map-table g)) (sym (map-after (References.map-table f) (table s) range))
+        ∙ sym (map-after (References.map-table g) (λ j. References.map-table f (table s j)) range)
+        ∙ map-alike (λ j. References.map-table g (References.map-table f (table s j))) (λ j. References.map-table g′ (table s j)) 0 (table-count s) (λ j x y. table-agrees j (omega arith))
+        ∙ map-after (References.map-table g′) (table s) range

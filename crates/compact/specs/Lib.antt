@@ -7,6 +7,9 @@ pub mod References
 pub mod Unseen
 pub mod Reading
 pub mod Cells
+pub mod Agree
 pub mod Blocks
 pub mod Moved
 pub mod Accepts
+pub mod Law
+pub mod Proof

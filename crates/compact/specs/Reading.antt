@@ -1,5 +1,6 @@
 -- Reading with references put through a function: cells that say the same but for their references are read as the plan with its references put through it.
 use Prim.Native.Nat.{ℕ, zero, suc}
+use native.Mathlib.Omega.{arith}
 use mathlib.Core.Path.{_≡_, refl, sym, ap, _∙_}
 use mathlib.Core.Bool.{Bool, true, false}
 use mathlib.Core.List.{List, [], _∷_, map}
@@ -237,3 +238,54 @@ module _ (h : ℕ → ℕ) where
   pub node-alike-read : (text′ text : List ℕ) (ds cs : List Cell) (n : Node) → Each-alike text′ text ds cs → read text 0 cs [] ≡ stack (node-tree n ∷ [])
       → read text′ 0 ds [] ≡ stack (node-tree (M n) ∷ [])
   node-alike-read text′ text ds cs n e r = read-alike text′ text e 0 [] ∙ ap map-read r
+
+-- ---- two readings that agree
+
+-- Cell by cell, the contents agree when the references of one are put through g, and those of the other through g′.
+pub record Agreeing (g g′ : ℕ → ℕ) (text′ text : List ℕ) (d c : Cell) : Type 0 where
+  pub says : map-optional (map-content g) (content-of text′ d) ≡ map-optional (map-content g′) (content-of text c)
+  pub origin-is : d .origin ≡ c .origin
+
+pub data Each-agreeing (g g′ : ℕ → ℕ) (text′ text : List ℕ) : List Cell → List Cell → Type 0 where
+  none-more : Each-agreeing g g′ text′ text [] []
+  and-one : {d c : Cell} {ds cs : List Cell} → Agreeing g g′ text′ text d c → Each-agreeing g g′ text′ text ds cs → Each-agreeing g g′ text′ text (d ∷ ds) (c ∷ cs)
+
+-- what a cell does to a stack, its references put through h
+abbrev put-through : (h : ℕ → ℕ) (text : List ℕ) → Cell → Stack → Option Stack
+put-through h text c st = bind (map-optional (map-content h) (content-of text c)) (λ k. reduce (c .origin) k st)
+
+after-through : (h : ℕ → ℕ) (text : List ℕ) (c : Cell) (st : Stack) → map-optional (S h) (after text c st) ≡ put-through h text c (S h st)
+after-through h text c st = go (content-of text c)
+  where
+    go : (o : Option Content) → map-optional (S h) (bind o (λ k. reduce (c .origin) k st)) ≡ bind (map-optional (map-content h) o) (λ k. reduce (c .origin) k (S h st))
+    go none = refl
+    go (some k) = sym (reduce-alike h (c .origin) k st)
+
+module _ (g g′ : ℕ → ℕ) (text′ text : List ℕ) where
+  after-agree : (d c : Cell) (st st′ : Stack) → Agreeing g g′ text′ text d c → S g st ≡ S g′ st′ → map-optional (S g) (after text′ d st) ≡ map-optional (S g′) (after text c st′)
+  after-agree d c st st′ a e =
+      after-through g text′ d st
+      ∙ ap (λ (x : Stack). put-through g text′ d x) e
+      ∙ ap (λ (o : Option Content). bind o (λ k. reduce (d .origin) k (S g′ st′))) (a .says)
+      ∙ ap (λ (og : ℕ). bind (map-optional (map-content g′) (content-of text c)) (λ k. reduce og k (S g′ st′))) (a .origin-is)
+      ∙ sym (after-through g′ text c st′)
+
+  read-agree : {ds cs : List Cell} → Each-agreeing g g′ text′ text ds cs → (i : ℕ) (st st′ : Stack) → S g st ≡ S g′ st′ → map-read g (read text′ i ds st) ≡ map-read g′ (read text i cs st′)
+  unfolding read
+  read-agree none-more i st st′ e = ap stack e
+  read-agree (and-one {d} {c} {ds} {cs} a l) i st st′ e =
+      go (after text′ d st) (after text c st′) (after-agree d c st st′ a e) (λ x y q. read-agree l (suc i) x y q)
+    where
+      go : (x y : Option Stack) → map-optional (S g) x ≡ map-optional (S g′) y → ((x y : Stack) → S g x ≡ S g′ y → map-read g (read text′ (suc i) ds x) ≡ map-read g′ (read text (suc i) cs y))
+          → map-read g (elim x [ none ↦ lacking i | some next ↦ read text′ (suc i) ds next ]) ≡ map-read g′ (elim y [ none ↦ lacking i | some next ↦ read text (suc i) cs next ])
+      go none none q ih = refl
+      go none (some y) q ih = absurd (let z : _≡_ {A = ℕ} 0 1 = cc in omega arith)
+      go (some x) none q ih = absurd (let z : _≡_ {A = ℕ} 0 1 = cc in omega arith)
+      go (some x) (some y) q ih = ih x y (cc)
+
+  -- The two plans agree.
+  pub plans-agree : (ds cs : List Cell) (m n : Node) → Each-agreeing g g′ text′ text ds cs → read text′ 0 ds [] ≡ stack (node-tree m ∷ []) → read text 0 cs [] ≡ stack (node-tree n ∷ [])
+      → References.map-node g m ≡ References.map-node g′ n
+  plans-agree ds cs m n l p q =
+      let e : map-read g (stack (node-tree m ∷ [])) ≡ map-read g′ (stack (node-tree n ∷ [])) = sym (ap (map-read g) p) ∙ (read-agree l 0 [] [] refl ∙ ap (map-read g′) q) in
+      cc

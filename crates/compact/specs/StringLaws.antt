@@ -128,7 +128,7 @@ all-last P [] x a p = (p, tt)
 all-last P (y ∷ ys) x a p = (a .0, all-last P ys x (a .1) p)
 
 -- Any property of strings that each kept one has and each new one has.
-keep-all : (P : List ℕ → Type 0) (ks ts : List (List ℕ)) → All P ks → All (λ t. Filled t → P t) ts → All P (keep ks ts)
+pub keep-all : (P : List ℕ → Type 0) (ks ts : List (List ℕ)) → All P ks → All (λ t. Filled t → P t) ts → All P (keep ks ts)
 keep-all P ks [] a n = a
 keep-all P ks (t ∷ ts) a n = keep-all P (add ks t) ts (go (empty t || among t ks) refl) (n .1)
   where
@@ -144,7 +144,7 @@ keep-distinct ks (t ∷ ts) d = keep-distinct (add ks t) ts (go (empty t || amon
     go true e = d
     go false e = distinct-last ks t d (or-false-right (empty t) (among t ks) e)
 
-all-of : {A : Type 0} (P : A → Type 0) (xs : List A) → ((x : A) → P x) → All P xs
+pub all-of : {A : Type 0} (P : A → Type 0) (xs : List A) → ((x : A) → P x) → All P xs
 all-of P [] h = tt
 all-of P (x ∷ xs) h = (h x, all-of P xs h)
 
@@ -324,3 +324,21 @@ pub shortest : (ks : List (List ℕ)) (text : List ℕ) (place : List ℕ → �
 shortest ks text place f d p =
     let xs = map (stretch-of place) ks in
     omega (arith, total-joined place ks, apart-total (length xs) (length text) xs (omega arith) (stands-all ks text place (p .stands) f) (apart-all ks place (p .apart) d))
+
+-- Strings one behind the other lie apart.
+pub offsets-apart : (ks : List (List ℕ)) (t u : List ℕ) → among t ks ≡ true → among u ks ≡ true → t ≢ u → Apart (stretch-of (offset-in ks) t) (stretch-of (offset-in ks) u)
+offsets-apart [] t u h i ne = absurd (let z : _≡_ {A = ℕ} 0 1 = cc in omega arith)
+offsets-apart (k ∷ ks) t u h i ne = go (same k t) (same k u) refl refl h i (offsets-apart ks t u)
+  where
+    go : (b c : Bool) → same k t ≡ b → same k u ≡ c → (b || among t ks) ≡ true → (c || among u ks) ≡ true
+        → (among t ks ≡ true → among u ks ≡ true → t ≢ u → Apart (stretch-of (offset-in ks) t) (stretch-of (offset-in ks) u))
+        → Apart (cond b 0 (length k + offset-in ks t), length t) (cond c 0 (length k + offset-in ks u), length u)
+    go true true e g h i ih = absurd (ne (sym (same-true k t e) ∙ same-true k u g))
+    go true false e g h i ih = before (let l = ap length (same-true k t e) in omega arith)
+    go false true e g h i ih = behind (let l = ap length (same-true k u g) in omega arith)
+    go false false e g h i ih = further (ih h i ne)
+      where
+        further : Apart (stretch-of (offset-in ks) t) (stretch-of (offset-in ks) u)
+            → Apart (length k + offset-in ks t, length t) (length k + offset-in ks u, length u)
+        further (before x) = before (omega arith)
+        further (behind x) = behind (omega arith)
