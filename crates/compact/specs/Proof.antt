@@ -1,5 +1,6 @@
 -- The proof of Law.antt.
 use Prim.Native.Nat.{ℕ, zero, suc, _+_, _*_, _/_, _%_, _≤_, _<_}
+use native.Mathlib.Nat.{mod-lt}
 use native.Mathlib.Omega.{arith}
 use borrow.Author.Tests.{leb-true, le-leb}
 use mathlib.Core.Path.{_≡_, refl, sym, ap, ap₂, _∙_, subst}
@@ -15,20 +16,21 @@ use Rattle.sql.specs.Answer.{Answer, done, refused}
 use Rattle.sql.specs.Schema.{Column, Table, Schema}
 use Rattle.sql.specs.Plan.{Node, columns, node-size}
 use Rattle.sheet.specs.Bytes.{bytes}
-use Rattle.sheet.specs.Parts.{edition, cell-count, table-count, column-count}
-use Rattle.sheet.specs.Check.{text, schema, plan, check, checked}
+use Rattle.sheet.specs.Parts.{edition, tables-at, cell-count, table-count, column-count}
+use Rattle.sheet.specs.Check.{Numbers, text, schema, plan, check, checked}
 use Rattle.sheet.specs.Operations.{Outcome, refuse, written}
 use Rattle.sheet_laws.specs.Fits.{All}
 use Rattle.sheet_laws.specs.Layout.{Parts}
-use Rattle.sheet_laws.specs.Plan.{Bytes, parts-of}
+use Rattle.sheet_laws.specs.Plan.{Bytes, parts-of, plan-size}
 use Rattle.sheet_laws.specs.Accepted.{accepted}
 use Rattle.origins.specs.Origins.{map-answer}
+use Rattle.sound.specs.Lists.{all-append, getD-of}
 use Rattle.sound.specs.Refusals.{Refused-by, From-to, plan-refused}
 use Rattle.sound.specs.HandedOut.{success}
 use Rattle.sound.specs.Operations.{sheet-of}
 use Rattle.compact.specs.Strings.{same, empty, among, kept, joined, offset-in, reference-to}
 use Rattle.compact.specs.StringLaws.{Has, Filled, Distinct, Placed, stretch-of, Apart, before, behind, same-true, kept-filled, kept-distinct, kept-met, keep-has, keep-all, offset-stands, offset-inside, offsets-apart, shortest}
-use Rattle.compact.specs.Slots.{Slot, number, reference, slots, references, redirect, slot-bytes}
+use Rattle.compact.specs.Slots.{Slot, number, reference, slots, references, value, redirect, slot-bytes}
 use Rattle.compact.specs.Compact.{strings, kept-strings, kept-text, moved, trailer-with, compacted, handed-out, compact}
 use Rattle.compact.specs.References
 use Rattle.compact.specs.References.{read-plan, read-schema}
@@ -37,6 +39,54 @@ use Rattle.compact.specs.Cells.{Refers}
 use Rattle.compact.specs.Moved as Moved
 use Rattle.compact.specs.Accepts.{plan-d, schema-d, plan-agrees, schema-agrees}
 use Rattle.compact.specs.Law.{Succeeds, handed, Plans-equal, Schemas-equal, Spelling, Twice-the-same, Stand-apart, Shortest-text, Shortest, Passes-check, Passes, Compacts}
+
+-- ---- lists of bytes
+
+abbrev Small-bytes : List ℕ → Type 0
+Small-bytes = All (λ x. x < 256)
+
+small-bytes : (l : List ℕ) → Bytes l → Small-bytes l
+small-bytes [] b = tt
+small-bytes (x ∷ xs) b = (b 0, small-bytes xs (λ i. b (suc i)))
+
+bytes-small : (l : List ℕ) → Small-bytes l → Bytes l
+bytes-small l a i = getD-of (λ x. x < 256) l i 0 a (omega arith)
+
+small-append : (xs ys : List ℕ) → Small-bytes xs → Small-bytes ys → Small-bytes (xs ++ ys)
+small-append xs ys = all-append (λ x. x < 256) xs ys
+
+small-take : (k : ℕ) (l : List ℕ) → Small-bytes l → Small-bytes (take k l)
+small-take zero l a = tt
+small-take (suc k) [] a = tt
+small-take (suc k) (x ∷ xs) a = (a .0, small-take k xs (a .1))
+
+small-drop : (k : ℕ) (l : List ℕ) → Small-bytes l → Small-bytes (drop k l)
+small-drop zero l a = a
+small-drop (suc k) [] a = tt
+small-drop (suc k) (x ∷ xs) a = small-drop k xs (a .1)
+
+small-word : (w : ℕ) → Small-bytes (bytes w)
+unfolding bytes
+small-word w = (mod-lt w (omega arith), (mod-lt (w / 256) (omega arith), (mod-lt (w / 65536) (omega arith), (mod-lt (w / 16777216) (omega arith), tt))))
+
+small-joined : (ks : List (List ℕ)) → All Small-bytes ks → Small-bytes (joined ks)
+small-joined [] a = tt
+small-joined (k ∷ ks) a = small-append k (joined ks) (a .0) (small-joined ks (a .1))
+
+small-slots : (xs : List Slot) → Small-bytes (slot-bytes xs)
+unfolding slot-bytes
+small-slots [] = tt
+small-slots (x ∷ xs) = small-append (bytes (value x)) (slot-bytes xs) (small-word (value x)) (small-slots xs)
+
+small-trailer : (t tables columns cells e : ℕ) → Small-bytes (trailer-with t tables columns cells e)
+unfolding trailer-with
+small-trailer t tables columns cells e =
+    let c = t + tables * 16 in
+    let k = c + columns * 16 in
+    let z = k + cells * 16 + 20 in
+    small-append (bytes t) (bytes c ++ (bytes k ++ (bytes e ++ bytes z))) (small-word t)
+    (small-append (bytes c) (bytes k ++ (bytes e ++ bytes z)) (small-word c)
+    (small-append (bytes k) (bytes e ++ bytes z) (small-word k) (small-append (bytes e) (bytes z) (small-word e) (small-word z))))
 
 -- ---- a success
 
@@ -223,3 +273,107 @@ module _ (s out : List ℕ) (b : Bytes s) (u : Success s out) where
         apart = λ v w h i ne. a .apart v w (only v h .0) (only w i .0) (only v h .1) (only w i .1) ne;
       }) in
       omega (arith, ap length text-is, short)
+
+  -- ---- the answer
+
+  twice-d : (again : List ℕ) → length d ≤ length again → compact d again ≡ record { numbers = compact s out .numbers; output = d ++ drop (length d) again }
+  unfolding compact
+  twice-d again room =
+      let m = References.map-node f n in
+      let few : leb (length (kept-text d)) 8192 ≡ true = ap (λ (t : List ℕ). leb (length t) 8192) kept-text-d ∙ le-leb (length (kept-text s)) 8192 (u .short) in
+      let fits : leb (length d) (length again) ≡ true = le-leb (length d) (length again) room in
+      let numbers : compact s out .numbers ≡ record { number = 0; place = 0; length = length d; cells = node-size m; columns = columns (schema d) m } =
+      ap (λ (o : Outcome). o .numbers) (u .is)
+      ∙ ap₂ (λ (k w : ℕ). record { number = 0; place = 0; length = length d; cells = k; columns = w }) (sym size-d) (sym wide-d) in
+      ap (handed-out d again) plan-is
+      ∙ ap (λ (t : Bool). cond t (written d again m (compacted d) (leb (length (compacted d)) (length again))) (refuse again 14 0)) few
+      ∙ ap (λ (l : List ℕ). written d again m l (leb (length l) (length again))) compacted-d
+      ∙ ap (written d again m d) fits
+      ∙ ap (λ (k : Numbers). record { numbers = k; output = d ++ drop (length d) again }) (sym numbers)
+
+  check-s : check s ≡ success (cell-count s) (columns (schema s) n)
+  unfolding check
+  check-s = ap (checked s) (u .stands-for)
+
+  check-d : check d ≡ check s
+  unfolding check
+  check-d =
+      ap (checked d) plan-is
+      ∙ ap₂ (λ (k w : ℕ). success k w) (Moved.cell-count-d s b p (u .short)) wide-d ∙ sym (ap (checked s) (u .stands-for))
+
+  counts-s : check s ≡ success (compact s out .numbers .cells) (compact s out .numbers .columns)
+  counts-s = check-s ∙ ap₂ (λ (k w : ℕ). success k w) (sym (plan-size s b n (u .stands-for)) ∙ sym (ap (λ (o : Outcome). o .numbers .cells) (u .is))) (sym (ap (λ (o : Outcome). o .numbers .columns) (u .is)))
+
+  -- ---- it is made of bytes
+
+  kept-small : All Small-bytes ks
+  unfolding kept-strings strings
+  kept-small = keep-all Small-bytes [] (strings s) tt (each-small (references (slots s)))
+    where
+      each-small : (rs : List ℕ) → All (λ t. Filled t → Small-bytes t) (map (bytes-at (text s)) rs)
+      each-small [] = tt
+      each-small (r ∷ rs) = (λ e. small-take (r / 65536) (drop (r % 65536) (text s)) (small-drop (r % 65536) (text s) (small-take (tables-at s) s (small-bytes s b))), each-small rs)
+
+  bytes-d : Bytes d
+  unfolding compacted kept-text
+  bytes-d =
+      bytes-small d
+      (small-append (joined ks) (slot-bytes (map (redirect f) (slots s)) ++ trailer-with (length (joined ks)) (table-count s) (column-count s) (cell-count s) (edition s)) (small-joined ks kept-small)
+      (small-append (slot-bytes (map (redirect f) (slots s))) (trailer-with (length (joined ks)) (table-count s) (column-count s) (cell-count s) (edition s)) (small-slots (map (redirect f) (slots s)))
+      (small-trailer (length (joined ks)) (table-count s) (column-count s) (cell-count s) (edition s))))
+
+  passes-d : Passes-check s out
+  passes-d =
+      let length-is : compact s out .numbers .length ≡ length d = ap (λ (o : Outcome). o .numbers .length) (u .is) in
+      record {
+        checks = ap check is-d ∙ check-d;
+        counts = counts-s;
+        same-edition = ap edition is-d ∙ Moved.edition-d s b p (u .short);
+        long = ap length is-d ∙ sym length-is;
+        fits = subst (λ (k : ℕ). k ≤ length out) (sym length-is) (u .room);
+        rest-stays = ap (λ (o : Outcome). o .output) (u .is) ∙ ap₂ (λ (l : List ℕ) (k : ℕ). l ++ drop k out) (sym is-d) (sym length-is);
+        bytes = subst Bytes (sym is-d) bytes-d;
+      }
+
+-- ---- strings spelled as numbers
+
+spelled : List ℕ → ℕ
+spelled [] = 0
+spelled (x ∷ xs) = suc x + 257 * spelled xs
+
+spelled-apart : (t u : List ℕ) → Bytes t → Bytes u → spelled t ≡ spelled u → t ≡ u
+unfolding spelled
+spelled-apart [] [] p q e = refl
+spelled-apart [] (y ∷ ys) p q e = absurd (omega arith)
+spelled-apart (x ∷ xs) [] p q e = absurd (omega arith)
+spelled-apart (x ∷ xs) (y ∷ ys) p q e =
+    let a : x < 256 = p 0 in
+    let c : y < 256 = q 0 in
+    ap₂ _∷_ (omega arith) (spelled-apart xs ys (λ i. p (suc i)) (λ i. q (suc i)) (omega arith))
+
+-- ---- all of it
+
+pub compacts : Compacts
+compacts =
+    record {
+      plans = λ s out b z spell.
+          let u = succeeds s out z in
+          subst (λ (x : List ℕ). map-answer (read-plan spell (text x)) (plan x) ≡ map-answer (read-plan spell (text s)) (plan s)) (sym (handed-is s out u)) (plans-d s out b u spell);
+      schemas = λ s out b z spell.
+          let u = succeeds s out z in
+          subst (λ (x : List ℕ). read-schema spell (text x) (schema x) ≡ read-schema spell (text s) (schema s)) (sym (handed-is s out u)) (schemas-d s out b u spell);
+      spelling = record { spell = spelled; apart = spelled-apart };
+      twice = λ s out again b z room.
+          let u = succeeds s out z in
+          subst (λ (x : List ℕ). length x ≤ length again → compact x again ≡ record { numbers = compact s out .numbers; output = x ++ drop (length x) again }) (sym (handed-is s out u))
+          (twice-d s out b u again) room;
+      minimal = λ s out b z.
+          let u = succeeds s out z in
+          let e = sym (handed-is s out u) in
+          record {
+            place = offset-in (kept-strings s);
+            itself = subst (λ (x : List ℕ). Stand-apart s (text x) (offset-in (kept-strings s))) e (itself-d s out b u);
+            shortest = λ t place a. subst (λ (x : List ℕ). length (text x) ≤ length t) e (shortest-d s out b u t place a);
+          };
+      passes = λ s out b z. passes-d s out b (succeeds s out z);
+    }
