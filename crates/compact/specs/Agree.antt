@@ -69,23 +69,196 @@ module _ (f g g′ : ℕ → ℕ) (old : List ℕ) where
 
   -- As in Cells.antt.
   each-reads : Each tags readers
-  each-reads =
-      ((λ k q. refl), ((λ k q. refl), ((λ k q. refl), ((λ k q. refl), ((λ k q. refl),
-      ((λ k q. ap (λ (r : ℕ). some (constant-cell (datum (string r (bytes-at old (k .a)))))) (string-agrees (leb 0 (k .flag)) (k .a) (leb·zero (k .flag)) (q .0))),
-      ((λ k q. refl), ((λ k q. refl), ((λ k q. refl), ((λ k q. refl), ((λ k q. refl), ((λ k q. refl), ((λ k q. refl), ((λ k q. refl),
-      ((λ k q. refl), ((λ k q. refl), ((λ k q. refl), ((λ k q. refl), ((λ k q. refl), ((λ k q. refl), ((λ k q. refl), ((λ k q. refl),
-      ((λ k q. refl), ((λ k q. refl), ((λ k q. refl), ((λ k q. refl), ((λ k q. refl), ((λ k q. refl), ((λ k q. refl), ((λ k q. refl),
-      ((λ k q. refl), ((λ k q. refl), ((λ k q. refl), ((λ k q. refl), ((λ k q. refl), ((λ k q. refl), ((λ k q. refl), ((λ k q. refl),
-      ((λ k q. refl), ((λ k q. refl),
-      ((λ k q. ap (λ (l : Label). some (label-cell l)) (label-of-agrees k q)),
-      ((λ k q. ap (λ (l : Label). some (item-cell l)) (label-of-agrees k q)),
-      ((λ k q. refl), ((λ k q. refl), ((λ k q. refl), ((λ k q. refl), ((λ k q. refl), ((λ k q. refl), ((λ k q. refl), ((λ k q. refl),
-      ((λ k q. refl), ((λ k q. refl), ((λ k q. refl),
-      ((λ k q. ap (λ (al : Option ℕ). some (index-lookup-cell (k .a) al (k .c % 65536) (k .c / 65536))) (optional-agrees (leb 1 (k .flag)) (k .b) (q .1 .0))),
-      ((λ k q. ap (λ (al : Option ℕ). some (key-lookup-cell (k .a) al (k .c))) (optional-agrees (leb 1 (k .flag)) (k .b) (q .1 .0))),
-      ((λ k q. refl), ((λ k q. refl), ((λ k q. refl), ((λ k q. refl), ((λ k q. refl), ((λ k q. refl), ((λ k q. refl),
-      ((λ k q. ap (λ (al : Option ℕ). some (scan-cell (bit0 k) (k .a) al)) (optional-agrees (leb 2 (k .flag)) (k .b) (q .1 .0))),
-      ((λ k q. refl), tt))))))))))))))))))))))))))))))))))))))))))))))))))))))))))))))))
+  each-reads = (
+    (λ k q. refl),
+    (
+      (λ k q. refl),
+      (
+        (λ k q. refl),
+        (
+          (λ k q. refl),
+          (
+            (λ k q. refl),
+            (
+              (λ k q. ap (λ (r : ℕ). some (constant-cell (datum (string r (bytes-at old (k .a)))))) (string-agrees (leb 0 (k .flag)) (k .a) (leb·zero (k .flag)) (q .0))),
+              (
+                (λ k q. refl),
+                (
+                  (λ k q. refl),
+                  (
+                    (λ k q. refl),
+                    (
+                      (λ k q. refl),
+                      (
+                        (λ k q. refl),
+                        (
+                          (λ k q. refl),
+                          (
+                            (λ k q. refl),
+                            (
+                              (λ k q. refl),
+                              (
+                                (λ k q. refl),
+                                (
+                                  (λ k q. refl),
+                                  (
+                                    (λ k q. refl),
+                                    (
+                                      (λ k q. refl),
+                                      (
+                                        (λ k q. refl),
+                                        (
+                                          (λ k q. refl),
+                                          (
+                                            (λ k q. refl),
+                                            (
+                                              (λ k q. refl),
+                                              (
+                                                (λ k q. refl),
+                                                (
+                                                  (λ k q. refl),
+                                                  (
+                                                    (λ k q. refl),
+                                                    (
+                                                      (λ k q. refl),
+                                                      (
+                                                        (λ k q. refl),
+                                                        (
+                                                          (λ k q. refl),
+                                                          (
+                                                            (λ k q. refl),
+                                                            (
+                                                              (λ k q. refl),
+                                                              (
+                                                                (λ k q. refl),
+                                                                (
+                                                                  (λ k q. refl),
+                                                                  (
+                                                                    (λ k q. refl),
+                                                                    (
+                                                                      (λ k q. refl),
+                                                                      (
+                                                                        (λ k q. refl),
+                                                                        (
+                                                                          (λ k q. refl),
+                                                                          (
+                                                                            (λ k q. refl),
+                                                                            (
+                                                                              (λ k q. refl),
+                                                                              (
+                                                                                (λ k q. refl),
+                                                                                (
+                                                                                  (λ k q. refl),
+                                                                                  (
+                                                                                    (λ k q. ap (λ (l : Label). some (label-cell l)) (label-of-agrees k q)),
+                                                                                    (
+                                                                                      (λ k q. ap (λ (l : Label). some (item-cell l)) (label-of-agrees k q)),
+                                                                                      (
+                                                                                        (λ k q. refl),
+                                                                                        (
+                                                                                          (λ k q. refl),
+                                                                                          (
+                                                                                            (λ k q. refl),
+                                                                                            (
+                                                                                              (λ k q. refl),
+                                                                                              (
+                                                                                                (λ k q. refl),
+                                                                                                (
+                                                                                                  (λ k q. refl),
+                                                                                                  (
+                                                                                                    (λ k q. refl),
+                                                                                                    (
+                                                                                                      (λ k q. refl),
+                                                                                                      (
+                                                                                                        (λ k q. refl),
+                                                                                                        (
+                                                                                                          (λ k q. refl),
+                                                                                                          (
+                                                                                                            (λ k q. refl),
+                                                                                                            (
+                                                                                                              (λ k q. ap (λ (al : Option ℕ). some (index-lookup-cell (k .a) al (k .c % 65536) (k .c / 65536))) (optional-agrees (leb 1 (k .flag)) (k .b) (q .1 .0))),
+                                                                                                              (
+                                                                                                                (λ k q. ap (λ (al : Option ℕ). some (key-lookup-cell (k .a) al (k .c))) (optional-agrees (leb 1 (k .flag)) (k .b) (q .1 .0))),
+                                                                                                                (
+                                                                                                                  (λ k q. refl),
+                                                                                                                  (
+                                                                                                                    (λ k q. refl),
+                                                                                                                    (
+                                                                                                                      (λ k q. refl),
+                                                                                                                      (
+                                                                                                                        (λ k q. refl),
+                                                                                                                        (
+                                                                                                                          (λ k q. refl),
+                                                                                                                          (
+                                                                                                                            (λ k q. refl),
+                                                                                                                            (
+                                                                                                                              (λ k q. refl),
+                                                                                                                              (
+                                                                                                                                (λ k q. ap (λ (al : Option ℕ). some (scan-cell (bit0 k) (k .a) al)) (optional-agrees (leb 2 (k .flag)) (k .b) (q .1 .0))),
+                                                                                                                                ((λ k q. refl), tt),
+                                                                                                                              ),
+                                                                                                                            ),
+                                                                                                                          ),
+                                                                                                                        ),
+                                                                                                                      ),
+                                                                                                                    ),
+                                                                                                                  ),
+                                                                                                                ),
+                                                                                                              ),
+                                                                                                            ),
+                                                                                                          ),
+                                                                                                        ),
+                                                                                                      ),
+                                                                                                    ),
+                                                                                                  ),
+                                                                                                ),
+                                                                                              ),
+                                                                                            ),
+                                                                                          ),
+                                                                                        ),
+                                                                                      ),
+                                                                                    ),
+                                                                                  ),
+                                                                                ),
+                                                                              ),
+                                                                            ),
+                                                                          ),
+                                                                        ),
+                                                                      ),
+                                                                    ),
+                                                                  ),
+                                                                ),
+                                                              ),
+                                                            ),
+                                                          ),
+                                                        ),
+                                                      ),
+                                                    ),
+                                                  ),
+                                                ),
+                                              ),
+                                            ),
+                                          ),
+                                        ),
+                                      ),
+                                    ),
+                                  ),
+                                ),
+                              ),
+                            ),
+                          ),
+                        ),
+                      ),
+                    ),
+                  ),
+                ),
+              ),
+            ),
+          ),
+        ),
+      ),
+    ),
+  )
 
   pub says-agree : (k : Cell) → All (Refers Agree) (field-slots k (tag-of (k .tag)))
       → map-optional (map-content g) (map-optional (map-content f) (content-of old k)) ≡ map-optional (map-content g′) (content-of old k)

@@ -98,23 +98,196 @@ module _ (f : ℕ → ℕ) (new old : List ℕ) where
 
   -- 5 String, 40 Label, 41 Item, 53 IndexLookup, 54 KeyLookup and 62 Scan refer to text; no other tag does.
   each-reads : Each tags readers
-  each-reads =
-      ((λ k q. refl), ((λ k q. refl), ((λ k q. refl), ((λ k q. refl), ((λ k q. refl),
-      ((λ k q. string-through (leb 0 (k .flag)) (k .a) (leb·zero (k .flag)) (q .0)),
-      ((λ k q. refl), ((λ k q. refl), ((λ k q. refl), ((λ k q. refl), ((λ k q. refl), ((λ k q. refl), ((λ k q. refl), ((λ k q. refl),
-      ((λ k q. refl), ((λ k q. refl), ((λ k q. refl), ((λ k q. refl), ((λ k q. refl), ((λ k q. refl), ((λ k q. refl), ((λ k q. refl),
-      ((λ k q. refl), ((λ k q. refl), ((λ k q. refl), ((λ k q. refl), ((λ k q. refl), ((λ k q. refl), ((λ k q. refl), ((λ k q. refl),
-      ((λ k q. refl), ((λ k q. refl), ((λ k q. refl), ((λ k q. refl), ((λ k q. refl), ((λ k q. refl), ((λ k q. refl), ((λ k q. refl),
-      ((λ k q. refl), ((λ k q. refl),
-      ((λ k q. ap (λ (l : Label). some (label-cell l)) (label-of-through k)),
-      ((λ k q. ap (λ (l : Label). some (item-cell l)) (label-of-through k)),
-      ((λ k q. refl), ((λ k q. refl), ((λ k q. refl), ((λ k q. refl), ((λ k q. refl), ((λ k q. refl), ((λ k q. refl), ((λ k q. refl),
-      ((λ k q. refl), ((λ k q. refl), ((λ k q. refl),
-      ((λ k q. ap (λ (al : Option ℕ). some (index-lookup-cell (k .a) al (k .c % 65536) (k .c / 65536))) (optional-through (leb 1 (k .flag)) (k .b))),
-      ((λ k q. ap (λ (al : Option ℕ). some (key-lookup-cell (k .a) al (k .c))) (optional-through (leb 1 (k .flag)) (k .b))),
-      ((λ k q. refl), ((λ k q. refl), ((λ k q. refl), ((λ k q. refl), ((λ k q. refl), ((λ k q. refl), ((λ k q. refl),
-      ((λ k q. ap (λ (al : Option ℕ). some (scan-cell (bit0 k) (k .a) al)) (optional-through (leb 2 (k .flag)) (k .b))),
-      ((λ k q. refl), tt))))))))))))))))))))))))))))))))))))))))))))))))))))))))))))))))
+  each-reads = (
+    (λ k q. refl),
+    (
+      (λ k q. refl),
+      (
+        (λ k q. refl),
+        (
+          (λ k q. refl),
+          (
+            (λ k q. refl),
+            (
+              (λ k q. string-through (leb 0 (k .flag)) (k .a) (leb·zero (k .flag)) (q .0)),
+              (
+                (λ k q. refl),
+                (
+                  (λ k q. refl),
+                  (
+                    (λ k q. refl),
+                    (
+                      (λ k q. refl),
+                      (
+                        (λ k q. refl),
+                        (
+                          (λ k q. refl),
+                          (
+                            (λ k q. refl),
+                            (
+                              (λ k q. refl),
+                              (
+                                (λ k q. refl),
+                                (
+                                  (λ k q. refl),
+                                  (
+                                    (λ k q. refl),
+                                    (
+                                      (λ k q. refl),
+                                      (
+                                        (λ k q. refl),
+                                        (
+                                          (λ k q. refl),
+                                          (
+                                            (λ k q. refl),
+                                            (
+                                              (λ k q. refl),
+                                              (
+                                                (λ k q. refl),
+                                                (
+                                                  (λ k q. refl),
+                                                  (
+                                                    (λ k q. refl),
+                                                    (
+                                                      (λ k q. refl),
+                                                      (
+                                                        (λ k q. refl),
+                                                        (
+                                                          (λ k q. refl),
+                                                          (
+                                                            (λ k q. refl),
+                                                            (
+                                                              (λ k q. refl),
+                                                              (
+                                                                (λ k q. refl),
+                                                                (
+                                                                  (λ k q. refl),
+                                                                  (
+                                                                    (λ k q. refl),
+                                                                    (
+                                                                      (λ k q. refl),
+                                                                      (
+                                                                        (λ k q. refl),
+                                                                        (
+                                                                          (λ k q. refl),
+                                                                          (
+                                                                            (λ k q. refl),
+                                                                            (
+                                                                              (λ k q. refl),
+                                                                              (
+                                                                                (λ k q. refl),
+                                                                                (
+                                                                                  (λ k q. refl),
+                                                                                  (
+                                                                                    (λ k q. ap (λ (l : Label). some (label-cell l)) (label-of-through k)),
+                                                                                    (
+                                                                                      (λ k q. ap (λ (l : Label). some (item-cell l)) (label-of-through k)),
+                                                                                      (
+                                                                                        (λ k q. refl),
+                                                                                        (
+                                                                                          (λ k q. refl),
+                                                                                          (
+                                                                                            (λ k q. refl),
+                                                                                            (
+                                                                                              (λ k q. refl),
+                                                                                              (
+                                                                                                (λ k q. refl),
+                                                                                                (
+                                                                                                  (λ k q. refl),
+                                                                                                  (
+                                                                                                    (λ k q. refl),
+                                                                                                    (
+                                                                                                      (λ k q. refl),
+                                                                                                      (
+                                                                                                        (λ k q. refl),
+                                                                                                        (
+                                                                                                          (λ k q. refl),
+                                                                                                          (
+                                                                                                            (λ k q. refl),
+                                                                                                            (
+                                                                                                              (λ k q. ap (λ (al : Option ℕ). some (index-lookup-cell (k .a) al (k .c % 65536) (k .c / 65536))) (optional-through (leb 1 (k .flag)) (k .b))),
+                                                                                                              (
+                                                                                                                (λ k q. ap (λ (al : Option ℕ). some (key-lookup-cell (k .a) al (k .c))) (optional-through (leb 1 (k .flag)) (k .b))),
+                                                                                                                (
+                                                                                                                  (λ k q. refl),
+                                                                                                                  (
+                                                                                                                    (λ k q. refl),
+                                                                                                                    (
+                                                                                                                      (λ k q. refl),
+                                                                                                                      (
+                                                                                                                        (λ k q. refl),
+                                                                                                                        (
+                                                                                                                          (λ k q. refl),
+                                                                                                                          (
+                                                                                                                            (λ k q. refl),
+                                                                                                                            (
+                                                                                                                              (λ k q. refl),
+                                                                                                                              (
+                                                                                                                                (λ k q. ap (λ (al : Option ℕ). some (scan-cell (bit0 k) (k .a) al)) (optional-through (leb 2 (k .flag)) (k .b))),
+                                                                                                                                ((λ k q. refl), tt),
+                                                                                                                              ),
+                                                                                                                            ),
+                                                                                                                          ),
+                                                                                                                        ),
+                                                                                                                      ),
+                                                                                                                    ),
+                                                                                                                  ),
+                                                                                                                ),
+                                                                                                              ),
+                                                                                                            ),
+                                                                                                          ),
+                                                                                                        ),
+                                                                                                      ),
+                                                                                                    ),
+                                                                                                  ),
+                                                                                                ),
+                                                                                              ),
+                                                                                            ),
+                                                                                          ),
+                                                                                        ),
+                                                                                      ),
+                                                                                    ),
+                                                                                  ),
+                                                                                ),
+                                                                              ),
+                                                                            ),
+                                                                          ),
+                                                                        ),
+                                                                      ),
+                                                                    ),
+                                                                  ),
+                                                                ),
+                                                              ),
+                                                            ),
+                                                          ),
+                                                        ),
+                                                      ),
+                                                    ),
+                                                  ),
+                                                ),
+                                              ),
+                                            ),
+                                          ),
+                                        ),
+                                      ),
+                                    ),
+                                  ),
+                                ),
+                              ),
+                            ),
+                          ),
+                        ),
+                      ),
+                    ),
+                  ),
+                ),
+              ),
+            ),
+          ),
+        ),
+      ),
+    ),
+  )
 
   -- The cell says of the new text what it said of the old one, but for its references.
   pub moved-says : (k : Cell) → All (Refers Same-bytes) (field-slots k (tag-of (k .tag))) → content-of new (moved-cell f k) ≡ map-optional (map-content f) (content-of old k)

@@ -298,16 +298,18 @@ stands-inside text (x ∷ xs) p f h =
 stands-all : (ks : List (List ℕ)) (text : List ℕ) (place : List ℕ → ℕ) → ((t : List ℕ) → among t ks ≡ true → take (length t) (drop (place t) text) ≡ t)
     → All Filled ks → All (Ends-by (length text)) (map (stretch-of place) ks)
 stands-all [] text place h f = tt
-stands-all (k ∷ ks) text place h f =
-    (stands-inside text k (place k) (f .0) (h k (or-left (same k k) (among k ks) (same-self k))),
-    stands-all ks text place (λ t a. h t (or-right (same k t) (among t ks) a)) (f .1))
+stands-all (k ∷ ks) text place h f = (
+  stands-inside text k (place k) (f .0) (h k (or-left (same k k) (among k ks) (same-self k))),
+  stands-all ks text place (λ t a. h t (or-right (same k t) (among t ks) a)) (f .1),
+)
 
 apart-all : (ks : List (List ℕ)) (place : List ℕ → ℕ)
     → ((t u : List ℕ) → among t ks ≡ true → among u ks ≡ true → t ≢ u → Apart (stretch-of place t) (stretch-of place u)) → Distinct ks → All-apart (map (stretch-of place) ks)
 apart-all [] place h d = tt
-apart-all (k ∷ ks) place h d =
-    (from ks (d .0) (λ u a. or-right (same k u) (among u ks) a),
-    apart-all ks place (λ t u a b. h t u (or-right (same k t) (among t ks) a) (or-right (same k u) (among u ks) b)) (d .1))
+apart-all (k ∷ ks) place h d = (
+  from ks (d .0) (λ u a. or-right (same k u) (among u ks) a),
+  apart-all ks place (λ t u a b. h t u (or-right (same k t) (among t ks) a) (or-right (same k u) (among u ks) b)) (d .1),
+)
   where
     differ : (u : List ℕ) → same k u ≡ false → k ≢ u
     differ u f e = let z = sym f ∙ (ap (same k) (sym e) ∙ same-self k) in absurd (let y : _≡_ {A = ℕ} 0 1 = cc in omega arith)
@@ -315,9 +317,10 @@ apart-all (k ∷ ks) place h d =
     from : (ls : List (List ℕ)) → All (λ l. same k l ≡ false) ls → ((u : List ℕ) → among u ls ≡ true → among u (k ∷ ks) ≡ true)
         → All (Apart (stretch-of place k)) (map (stretch-of place) ls)
     from [] f m = tt
-    from (l ∷ ls) f m =
-        (h k l (or-left (same k k) (among k ks) (same-self k)) (m l (or-left (same l l) (among l ls) (same-self l))) (differ l (f .0)),
-        from ls (f .1) (λ u a. m u (or-right (same l u) (among u ls) a)))
+    from (l ∷ ls) f m = (
+      h k l (or-left (same k k) (among k ks) (same-self k)) (m l (or-left (same l l) (among l ls) (same-self l))) (differ l (f .0)),
+      from ls (f .1) (λ u a. m u (or-right (same l u) (among u ls) a)),
+    )
 
 -- No text that has different non-empty strings without shared or overlapping bytes is shorter than these one behind the other.
 pub shortest : (ks : List (List ℕ)) (text : List ℕ) (place : List ℕ → ℕ) → All Filled ks → Distinct ks → Placed ks text place → length (joined ks) ≤ length text
