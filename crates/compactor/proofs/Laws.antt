@@ -77,9 +77,10 @@ pub text-on : (s olds d₀ d d′ : List ℕ) (j to r : ℕ) → j < length olds
     → (r ≡ length (joined (held s olds (j + 1)))) × (d′ ≡ written d₀ 0 (joined (held s olds (j + 1))))
 text-on s olds d₀ d d′ j to r l i e w x =
     let t = bytes-at s (getD olds j 0) in
-    let k : joined (held s olds (j + 1)) ≡ joined (held s olds j) ++ t = ap joined (held-last s olds j l) ∙ joined-last (held s olds j) t in
-    (omega (arith, x .0, e, ap length k, length-append (joined (held s olds j)) t, length-stretch s (getD olds j 0 % 65536) (getD olds j 0 / 65536) (i .within)),
-    chain d₀ 0 (joined (held s olds j)) t (omega arith) (e ∙ omega arith) w (x .1) ∙ ap (written d₀ 0) (sym k))
+    let k : joined (held s olds (j + 1)) ≡ joined (held s olds j) ++ t = ap joined (held-last s olds j l) ∙ joined-last (held s olds j) t in (
+      omega (arith, x .0, e, ap length k, length-append (joined (held s olds j)) t, length-stretch s (getD olds j 0 % 65536) (getD olds j 0 / 65536) (i .within)),
+      chain d₀ 0 (joined (held s olds j)) t (omega arith) (e ∙ omega arith) w (x .1) ∙ ap (written d₀ 0) (sym k),
+    )
 
 -- ---- words
 
@@ -245,10 +246,11 @@ cells-on s fresh d₀ d d′ from at i first j h n w x =
     let e : drop j fresh ≡ drop (length (references xs)) (drop first fresh) = ap (λ (k : ℕ). drop k fresh) n ∙ sym (drop-drop (length (references xs)) first fresh) in
     let last = in-each-last (cell-slots s) from i in
     let size : length (references (in-each (cell-slots s) from (i + 1))) ≡ length (references xs) + length (references (cell-slots s q)) =
-    ap (λ (l : List Slot). length (references l)) last ∙ ap length (references-append xs (cell-slots s q)) ∙ length-append (references xs) (references (cell-slots s q)) in
-    (omega (arith, x .0, n, size),
-    filled-then d₀ at (at + i * 16) xs (cell-slots s q) (drop first fresh) h (omega (arith, length-cells s from i)) w (x .1 ∙ ap (λ (l : List ℕ). written d (at + i * 16) (slot-bytes (fill (cell-slots s q) l))) e)
-    ∙ ap (λ (l : List Slot). written d₀ at (slot-bytes (fill l (drop first fresh)))) (sym last))
+    ap (λ (l : List Slot). length (references l)) last ∙ ap length (references-append xs (cell-slots s q)) ∙ length-append (references xs) (references (cell-slots s q)) in (
+      omega (arith, x .0, n, size),
+      filled-then d₀ at (at + i * 16) xs (cell-slots s q) (drop first fresh) h (omega (arith, length-cells s from i)) w (x .1 ∙ ap (λ (l : List ℕ). written d (at + i * 16) (slot-bytes (fill (cell-slots s q) l))) e)
+          ∙ ap (λ (l : List Slot). written d₀ at (slot-bytes (fill l (drop first fresh)))) (sym last),
+    )
 
 pub put-reference : (refers : Bool) (d d₁ fresh : List ℕ) (v j at : ℕ) → refers ≡ true → d₁ ≡ written d at (bytes (getD fresh j 0))
     → (j + 1 ≡ j + length (references (if-refers refers v))) × (d₁ ≡ written d at (slot-bytes (fill (if-refers refers v) (drop j fresh))))

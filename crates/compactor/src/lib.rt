@@ -7,12 +7,12 @@ ghost use lib.ListN.{length, take, drop};
 ghost use Rattle.sheet.specs.Bytes.{bytes, word};
 ghost use Rattle.compact.specs.Strings.{joined};
 ghost use Rattle.compact.specs.Slots.{record-slots, cell-slots, in-each, references, slot-bytes};
-ghost use Rattle.compact.specs.Compact.{compact};
+ghost use Rattle.compact.specs.Compact as Definition;
 ghost use Rattle.layout.specs.Layout.{Whole};
 ghost use Rattle.encode.specs.Encode.{written};
 ghost use Rattle.gather.specs.Gather.{stretch, held};
 ghost use Rattle.text_references.specs.Asks.{if-refers};
-ghost use Rattle.compactor.specs.Compactor.{outcome, fill, TextAt, Ready, Writes};
+ghost use Rattle.compactor.specs.Compactor.{outcome, fill, trailer-at, TextAt, Ready, Writes, Counted, Runs};
 
 // ---- writing
 
@@ -108,7 +108,15 @@ fn put_cell(s: &[u8], p: usize, fresh: &[usize], j: usize, out: &mut [u8], at: u
 }
 
 // n cells, the first at byte `from`, with references of `fresh` from number j on.
-fn put_cells(s: &[u8], from: usize, n: usize, fresh: &[usize], first: usize, out: &mut [u8], at: usize) -> usize
+fn put_cells(
+    s: &[u8],
+    from: usize,
+    n: usize,
+    fresh: &[usize],
+    first: usize,
+    out: &mut [u8],
+    at: usize,
+) -> usize
     requires { ⌜ (from + n * 16 ≤ length (now s)) × ((first + n * 2 ≤ length (now fresh)) × (at + n * 16 ≤ length (now out))) ⌝ }
     ensures { λ r. ⌜ (r ≡ at + n * 16) × (now (out .exit) ≡ written (now (out .entry)) at (slot-bytes (fill (in-each (cell-slots (now (s .entry))) from n) (drop first (now (fresh .entry)))))) ⌝ }
 {
@@ -119,4 +127,87 @@ fn put_cells(s: &[u8], from: usize, n: usize, fresh: &[usize], first: usize, out
         i += 1;
     }
     at + n * 16
+}
+
+// The trailer of a sheet that ends with it, whose parts start at these bytes.
+fn put_trailer(
+    out: &mut [u8],
+    at: usize,
+    tables: usize,
+    columns: usize,
+    cells: usize,
+    edition: usize,
+) -> usize
+    requires { ⌜ at + 20 ≤ length (now out) ⌝ }
+    ensures { λ r. ⌜ (r ≡ at + 20) × (now (out .exit) ≡ written (now (out .entry)) at (trailer-at tables columns cells edition (at + 20))) ⌝ }
+{
+    let a = put_word(out, at, tables);
+    let b = put_word(out, a, columns);
+    let c = put_word(out, b, cells);
+    let d = put_word(out, c, edition);
+    put_word(out, d, d + 4)
+}
+
+// ---- the operation
+
+// The compacted sheet, or refusal 15. `count` strings are kept, of `bytes` bytes together, and the plan has n columns.
+fn write(
+    s: &[u8],
+    count: usize,
+    bytes: usize,
+    n: usize,
+    olds: &[usize],
+    fresh: &[usize],
+    out: &mut [u8],
+) -> Answer
+    requires { ⌜ Ready (now s) count bytes n (now olds) (now fresh) ⌝ }
+    ensures { λ a. ⌜ Writes (now (s .entry)) (now (out .entry)) a (now (out .exit)) ⌝ }
+{
+    let p = layout::parts_of(s);
+    let records = p.tables.count + p.columns.count;
+    let needed = bytes + records * 16 + p.cells.count * 16 + 20;
+    if out.len() < needed {
+        return checker::refusal(15, needed);
+    }
+    let a = put_text(s, olds, count, out);
+    let b = put_records(s, p.tables.at, records, fresh, out, a);
+    let c = put_cells(s, p.cells.at, p.cells.count, fresh, records, out, b);
+    let edition = layout::word_at(s, s.len() - 8);
+    put_trailer(out, c, a, a + p.tables.count * 16, b, edition);
+    Answer {
+        number: 0,
+        place: 0,
+        length: needed,
+        cells: p.cells.count,
+        columns: n,
+    }
+}
+
+// An accepted sheet whose plan has n columns: strings are gathered, and written if they have at most 8,192 bytes together.
+fn run(s: &[u8], n: usize, out: &mut [u8]) -> Answer
+    requires { ⌜ Counted (now s) n ⌝ }
+    ensures { λ a. ⌜ Runs (now (s .entry)) (now (out .entry)) a (now (out .exit)) ⌝ }
+{
+    let mut refs = [0usize; text_references::MOST];
+    let mut olds = [0usize; text_references::MOST];
+    let mut marks = [0usize; text_references::MOST];
+    let mut news = [0usize; text_references::MOST];
+    let mut fresh = [0usize; text_references::MOST];
+    let m = text_references::references(s, &mut refs);
+    let k = gather::gather(s, &refs, m, &mut olds, &mut marks, &mut news, &mut fresh);
+    if 8192 < k.bytes {
+        return checker::refusal(14, 0);
+    }
+    write(s, k.count, k.bytes, n, &olds, &fresh, out)
+}
+
+// On any bytes.
+pub fn compact(s: &[u8], out: &mut [u8]) -> Answer
+    ensures { λ a. ⌜ outcome a (now (out .exit)) ≡ Definition.compact (now (s .entry)) (now (out .entry)) ⌝ }
+{
+    let a = checker::check(s);
+    if a.number != 0 {
+        return a;
+    }
+    run(s, a.columns, out)
 }
