@@ -4,6 +4,7 @@ use checker::Answer;
 ghost use mathlib.Core.Path.{_≡_};
 ghost use Rattle.sheet.specs.Check.{check};
 ghost use Rattle.sheet.specs.Operations.{one-pass, all-five};
+ghost use Rattle.compact.specs.Compact.{compact};
 ghost use Rattle.checker.specs.Checker.{numbers};
 ghost use Rattle.hand_out.specs.HandOut.{outcome};
 
@@ -29,4 +30,12 @@ pub extern "C" fn plan_optimize(sheet: &[u8], output: &mut [u8]) -> Answer
     ensures { λ r. ⌜ outcome r (now (output .exit)) ≡ all-five (now (sheet .entry)) (now (output .entry)) ⌝ }
 {
     operations::optimize(sheet, output)
+}
+
+// The sheet without the text that nobody refers to.
+#[no_mangle]
+pub extern "C" fn plan_compact(sheet: &[u8], output: &mut [u8]) -> Answer
+    ensures { λ r. ⌜ outcome r (now (output .exit)) ≡ compact (now (sheet .entry)) (now (output .entry)) ⌝ }
+{
+    compactor::compact(sheet, output)
 }
