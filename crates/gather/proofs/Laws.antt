@@ -17,7 +17,7 @@ use Rattle.sheet_laws.specs.Plan.{Bytes, word-bound}
 use Rattle.sheet_laws.specs.Bytes.{next, word-next}
 use Rattle.compact.specs.Strings.{same}
 use Rattle.compact.specs.StringLaws.{same-true, same-self}
-use Rattle.gather.specs.Gather.{stretch, eight, mark-of}
+use Rattle.gather.specs.Gather.{stretch, eight, mark-of, Begins}
 
 -- ---- a byte of a stretch
 
@@ -131,3 +131,32 @@ same-lengths t u ne = go (same t u) refl
     go : (b : Bool) → same t u ≡ b → false ≡ b
     go true e = absurd (ne (ap length (same-true t u e)))
     go false e = refl
+
+-- ---- eight bytes that differ
+
+word-in : (s : List ℕ) (a n k : ℕ) → k + 4 ≤ n → word (stretch s a n) k ≡ word s (a + k)
+unfolding word
+word-in s a n k h =
+    let p1 : a + (k + 1) ≡ a + k + 1 = omega arith in
+    let p2 : a + (k + 2) ≡ a + k + 2 = omega arith in
+    let p3 : a + (k + 3) ≡ a + k + 3 = omega arith in
+    let b0 = byte-in s a n k (omega arith) in
+    let b1 = ap (byte s) (sym p1) ∙ byte-in s a n (k + 1) (omega arith) in
+    let b2 = ap (byte s) (sym p2) ∙ byte-in s a n (k + 2) (omega arith) in
+    let b3 = ap (byte s) (sym p3) ∙ byte-in s a n (k + 3) (omega arith) in
+    cc
+
+eight-in : (s : List ℕ) (a n k : ℕ) → k + 8 ≤ n → eight (stretch s a n) k ≡ eight s (a + k)
+eight-in s a n k h =
+    let p : a + (k + 4) ≡ a + k + 4 = omega arith in
+    ap₂ (λ (x y : ℕ). x + 4294967296 * y) (word-in s a n k (omega arith)) (word-in s a n (k + 4) (omega arith) ∙ ap (word s) p)
+
+pub eights-differ : (s : List ℕ) (a b n k : ℕ) → k + 8 ≤ n → eight s (a + k) ≢ eight s (b + k) → false ≡ same (stretch s a n) (stretch s b n)
+eights-differ s a b n k h ne = go (same (stretch s a n) (stretch s b n)) refl
+  where
+    go : (t : Bool) → same (stretch s a n) (stretch s b n) ≡ t → false ≡ t
+    go true e = absurd (ne (sym (eight-in s a n k h) ∙ (ap (λ (l : List ℕ). eight l k) (same-true (stretch s a n) (stretch s b n) e) ∙ eight-in s b n k h)))
+    go false e = refl
+
+pub rest-begins : {s : List ℕ} {a b n r : ℕ} → Begins s a b n r → Rest s a b n r
+rest-begins x = record { within = x .within; is = x .rest }

@@ -1,6 +1,7 @@
 -- What `gather` holds of the strings that are kept, set beside the definitions of crate `compact`.
 use Prim.Native.Nat.{ℕ, zero, suc, _+_, _-_, _*_, _/_, _%_, _≤_, _<_}
 use mathlib.Core.Path.{_≡_}
+use mathlib.Core.Logic.{_≢_}
 use mathlib.Core.Bool.{Bool, true, false, cond}
 use mathlib.Core.List.{List, [], _∷_, _++_, map}
 use lib.ListN.{length, take, drop, getD}
@@ -22,6 +23,12 @@ eight s i = word s i + 4294967296 * word s (i + 4)
 -- the first eight bytes of a string as one number; what is read past its end counts as 0
 abbrev pub mark-of : List ℕ → ℕ
 mark-of t = eight t 0
+
+-- The n bytes from a on and the n from b on begin alike with r bytes; the next eight, if there are as many, differ.
+pub record Begins (s : List ℕ) (a b n r : ℕ) : Type 0 where
+  pub within : r ≤ n
+  pub rest : same (stretch s a n) (stretch s b n) ≡ same (stretch s (a + r) (n - r)) (stretch s (b + r) (n - r))
+  pub differ : r + 8 ≤ n → eight s (a + r) ≢ eight s (b + r)
 
 -- A reference refers to bytes of s, and is a number of 4 bytes.
 pub record Inside (s : List ℕ) (r : ℕ) : Type 0 where

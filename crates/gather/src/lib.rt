@@ -10,7 +10,7 @@ ghost use Rattle.sheet.specs.Bytes.{byte, word};
 ghost use Rattle.sheet_laws.specs.Fits.{All};
 ghost use Rattle.compact.specs.Strings as Strings;
 ghost use Rattle.compact.specs.Strings.{joined};
-ghost use Rattle.gather.specs.Gather.{stretch, eight, mark-of, Inside, index-in, held, Holds, Room, Places, Gathered};
+ghost use Rattle.gather.specs.Gather.{stretch, eight, mark-of, Begins, Inside, index-in, held, Holds, Room, Places, Gathered};
 
 // A byte as a number.
 fn wide(x: u8) -> usize
@@ -66,10 +66,23 @@ fn eight_at(s: &[u8], i: usize) -> usize
     low + 4294967296 * high
 }
 
-// How many bytes the n from a on and the n from b on begin alike with, found eight at a time.
+// The last eight of the n bytes from a on are those of the n from b on, if there are eight. Where they aren't, the rest needn't be looked at.
+fn ends_alike(s: &[u8], a: usize, b: usize, n: usize) -> bool
+    requires { ⌜ (a + n ≤ length (now s)) × (b + n ≤ length (now s)) ⌝ }
+    ensures { λ r. ⌜ (r ≡ false → false ≡ Strings.same (stretch (now (s .entry)) a n) (stretch (now (s .entry)) b n)) ⌝ }
+{
+    if n < 8 {
+        return true;
+    }
+    let x = eight_at(s, a + (n - 8));
+    let y = eight_at(s, b + (n - 8));
+    x == y
+}
+
+// How many bytes the n from a on and the n from b on begin alike with, found eight at a time. The next eight, if there are as many, differ.
 fn alike(s: &[u8], a: usize, b: usize, n: usize) -> usize
     requires { ⌜ (a + n ≤ length (now s)) × (b + n ≤ length (now s)) ⌝ }
-    ensures { λ r. ⌜ (r ≤ n) × (Strings.same (stretch (now (s .entry)) a n) (stretch (now (s .entry)) b n) ≡ Strings.same (stretch (now (s .entry)) (a + r) (n - r)) (stretch (now (s .entry)) (b + r) (n - r))) ⌝ }
+    ensures { λ r. ⌜ Begins (now (s .entry)) a b n r ⌝ }
 {
     let mut i: usize = 0;
     while i + 8 <= n {
@@ -88,7 +101,13 @@ fn same(s: &[u8], a: usize, b: usize, n: usize) -> bool
     requires { ⌜ (a + n ≤ length (now s)) × (b + n ≤ length (now s)) ⌝ }
     ensures { λ r. ⌜ r ≡ Strings.same (stretch (now (s .entry)) a n) (stretch (now (s .entry)) b n) ⌝ }
 {
+    if !ends_alike(s, a, b, n) {
+        return false;
+    }
     let mut i = alike(s, a, b, n);
+    if i + 8 <= n {
+        return false;
+    }
     while i < n {
         if s[a + i] != s[b + i] {
             return false;

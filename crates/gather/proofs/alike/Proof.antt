@@ -36,7 +36,7 @@ eight-at-requires-2 : tie.Need-eight-at-requires-2 Inv-loop μ-loop
 eight-at-requires-2 c κs = search needs
 
 returns : tie.Need-returns Inv-loop μ-loop
-returns c = (c .before .before .before .before .loop .inv .within, c .before .before .before .before .loop .inv .is)
+returns c = record { within = c .before .before .before .before .loop .inv .within; rest = c .before .before .before .before .loop .inv .is; differ = λ h e. c .if1 .taken (c .before .before .eight-at .ensures ∙ (e ∙ sym (c .before .eight-at2 .ensures))) }
 
 add-i : tie.Need-add-i Inv-loop μ-loop
 add-i c = search needs
@@ -48,7 +48,7 @@ loop-again : tie.Need-loop-again Inv-loop μ-loop
 loop-again c = rest-eight (c .before .before .before .before .before .before .args .s .now) (λ i. omega (arith, c .before .before .before .before .before .shared-slice-known .given i)) (c .before .before .before .before .before .before .args .a) (c .before .before .before .before .before .before .args .b) (c .before .before .before .before .before .before .args .n) (c .before .before .before .before .loop .i) (omega arith) (omega arith) (omega arith) (c .before .before .before .before .loop .inv) (sym (c .before .before .eight-at .ensures) ∙ (c .if1 .left ∙ c .before .eight-at2 .ensures))
 
 returns-2 : tie.Need-returns-2 Inv-loop μ-loop
-returns-2 c = (c .before .loop .inv .within, c .before .loop .inv .is)
+returns-2 c = record { within = c .before .loop .inv .within; rest = c .before .loop .inv .is; differ = λ h. absurd (omega arith) }
 
 pub alike-spec : {M : Type 1} → statement M
 alike-spec =
