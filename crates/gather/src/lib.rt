@@ -1,5 +1,5 @@
 // The different strings that references refer to, each once, in order of first reference. Strings are compared by their first eight bytes as one number, then
-// by their length, then eight bytes at a time: a sheet can have 4,366 references.
+// by their length, by their last eight bytes, and then eight bytes at a time: a sheet can have 4,366 references.
 ghost use mathlib.Core.Path.{_≡_};
 ghost use mathlib.Core.Bool.{Bool, true, false};
 ghost use Prim.Native.Nat.{ℕ, _+_, _-_, _*_, _≤_, _<_};
