@@ -1,0 +1,5 @@
+pub mod Parts
+pub mod Grammar
+pub mod Machine
+pub mod Examples
+pub mod Fed
