@@ -3,3 +3,4 @@ pub mod Grammar
 pub mod Machine
 pub mod Examples
 pub mod Fed
+pub mod Typed

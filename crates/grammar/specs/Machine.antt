@@ -191,8 +191,14 @@ pub data Class : Type 0 where
 
 unfoldable pub class : ℕ → Class
 class b =
-    cond (digit b) a-digit (cond (eqb b 32) a-space (cond (eqb b 39) a-quote (cond (eqb b 45) a-minus (cond (eqb b 35) a-hash
-    (cond (eqb b 40) an-opening (cond (eqb b 41) a-closing (cond (eqb b 61) (a-sign equal) (cond (eqb b 60) (a-sign less) (cond (eqb b 62) (a-sign greater) another)))))))))
+    cond (digit b) a-digit
+    (cond (eqb b 32) a-space
+    (cond (eqb b 39) a-quote
+    (cond (eqb b 45) a-minus
+    (cond (eqb b 35) a-hash
+    (cond (eqb b 40) an-opening
+    (cond (eqb b 41) a-closing
+    (cond (eqb b 61) (a-sign equal) (cond (eqb b 60) (a-sign less) (cond (eqb b 62) (a-sign greater) another)))))))))
 
 -- The state after a sign or parenthesis.
 abbrev pub apart : Option Position → Option State

@@ -5,7 +5,7 @@ use Prim.Native.String.{String}
 use mathlib.Core.Path.{_≡_}
 use mathlib.Core.Bool.{Bool, true, false, not, _&&_}
 use mathlib.Core.List.{List, [], _∷_, _++_}
-use lib.Dec.{T, eqb, leb}
+use lib.Dec.{eqb, leb}
 use lib.IntN.{ℤ, pos, negℤ}
 use lib.ListN.{length}
 
@@ -78,12 +78,12 @@ pub data Part : Type 0 where
 pub data Spells : ℕ → List ℕ → Part → Type 0 where
   a-word : {at : ℕ} (w : Word) → Spells at (letters w) (word w)
   -- "integers are digits that fit 64 bits with an optional minus directly before"; "leading zeros may stand in both"
-  an-integer : {at : ℕ} (s : List ℕ) → T (digits s) → decimal s < 9223372036854775808 → Spells at s (integer (pos (decimal s)))
-  a-negative : {at : ℕ} (s : List ℕ) → T (digits s) → decimal s ≤ 9223372036854775808 → Spells at (45 ∷ s) (integer (negℤ (pos (decimal s))))
+  an-integer : {at : ℕ} (s : List ℕ) → digits s ≡ true → decimal s < 9223372036854775808 → Spells at s (integer (pos (decimal s)))
+  a-negative : {at : ℕ} (s : List ℕ) → digits s ≡ true → decimal s ≤ 9223372036854775808 → Spells at (45 ∷ s) (integer (negℤ (pos (decimal s))))
   -- "a column is # and decimal digits below 4,294,967,296"
-  a-column : {at : ℕ} (s : List ℕ) → T (digits s) → decimal s < 4294967296 → Spells at (35 ∷ s) (column (decimal s))
+  a-column : {at : ℕ} (s : List ℕ) → digits s ≡ true → decimal s < 4294967296 → Spells at (35 ∷ s) (column (decimal s))
   -- "strings stand in single quotes and hold none": it begins behind its first quote
-  a-string : {at : ℕ} (s : List ℕ) → T (all (λ b. not (eqb b 39)) s) → Spells at (39 ∷ (s ++ (39 ∷ []))) (string (suc at + 65536 * length s) s)
+  a-string : {at : ℕ} (s : List ℕ) → all (λ b. not (eqb b 39)) s ≡ true → Spells at (39 ∷ (s ++ (39 ∷ []))) (string (suc at + 65536 * length s) s)
   a-sign : {at : ℕ} (o : Sign) → Spells at (sign-byte o ∷ []) (sign o)
   a-parenthesis : {at : ℕ} → Spells at (40 ∷ []) opening
   its-end : {at : ℕ} → Spells at (41 ∷ []) closing
@@ -104,4 +104,4 @@ pub data Parts : Bool → ℕ → List ℕ → List Part → Type 0 where
   none-left : {behind : Bool} {at : ℕ} → Parts behind at [] []
   space : {behind : Bool} {at : ℕ} {s : List ℕ} {ps : List Part} → Parts false (suc at) s ps → Parts behind at (32 ∷ s) ps
   part : {behind : Bool} {at : ℕ} {s r : List ℕ} {p : Part} {ps : List Part}
-      → Spells at s p → T (not (behind && solid p)) → Parts (solid p) (at + length s) r ps → Parts behind at (s ++ r) (p ∷ ps)
+      → Spells at s p → behind && solid p ≡ false → Parts (solid p) (at + length s) r ps → Parts behind at (s ++ r) (p ∷ ps)
