@@ -4,3 +4,4 @@ pub mod Machine
 pub mod Examples
 pub mod Fed
 pub mod Typed
+pub mod Told
