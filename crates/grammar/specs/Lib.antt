@@ -1,7 +1,10 @@
 pub mod Parts
 pub mod Grammar
 pub mod Machine
+pub mod Statements
 pub mod Examples
 pub mod Fed
 pub mod Typed
 pub mod Told
+pub mod Completed
+pub mod Proof

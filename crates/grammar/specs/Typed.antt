@@ -96,7 +96,7 @@ word-is NOT b e st q r at h = nowhere q h
 word-is IS b e st q r at h = nowhere q h
 word-is NAN b e st q r at h = arrive (suc (suc (suc at))) (at + 3) r true _ q (omega arith) h
 
-word-run : (w : Word) (p q : Position) (r : List ℕ) (at : ℕ) → feed p (word w) ≡ some q
+pub word-run : (w : Word) (p q : Position) (r : List ℕ) (at : ℕ) → feed p (word w) ≡ some q
     → run at (letters w ++ r) (between false p) ≡ run (at + length (letters w)) r (between true q)
 word-run w (want slot st) q r at h = word-wanted w (slot .before) (slot .left) st q r at h
 word-run w (have b more e st) q r at h = word-had w b more e st q r at h
