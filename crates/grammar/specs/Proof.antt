@@ -16,6 +16,7 @@ use Rattle.grammar.specs.Fed.{fed-of-read, read-of-fed}
 use Rattle.grammar.specs.Typed.{run-step, run-of-parts}
 use Rattle.grammar.specs.Told.{parts-of-run}
 use Rattle.grammar.specs.Completed.{completed}
+use Rattle.grammar.specs.Refers.{condition-refers}
 
 condition-taken : (text : List ℕ) (e : Expression) → Condition text e → reading text ≡ taken e
 unfolding reading
@@ -140,4 +141,5 @@ proved =
         λ text place.
           (λ h. (refused-place text place h, λ e c. Option·none-ne-some e (ap tree-in (sym h ∙ condition-taken text e c))),
           λ h. place-refused text place (h .0) (h .1));
+      strings = condition-refers;
     }

@@ -6,6 +6,7 @@ use mathlib.Core.List.{List, _++_}
 use lib.ListN.{length, take}
 use Rattle.sql.specs.Expression.{Expression}
 use Rattle.grammar.specs.Grammar.{Condition}
+use Rattle.grammar.specs.Refers.{Refers}
 use Rattle.grammar.specs.Machine.{Reading, taken, refused, reading}
 
 -- "place the first byte no text of the grammar, of any length, can continue with, or the length": some text of the grammar continues what stands before the
@@ -22,3 +23,5 @@ pub record Statements : Type 0 where
   pub one-tree : (text : List ℕ) (e f : Expression) → Condition text e → Condition text f → e ≡ f
   -- Every other text is refused, at this place and no other.
   pub the-place : (text : List ℕ) (place : ℕ) → (reading text ≡ refused place) ↔ (Place text place × ((e : Expression) → ¬ Condition text e))
+  -- "the typed text serving as text section": the strings of a text within the limit refer to their bytes in it
+  pub strings : (text : List ℕ) (e : Expression) → length text ≤ 8192 → Condition text e → Refers text e
