@@ -60,13 +60,13 @@ position-completed : (p : Position) (behind : Bool) → Completed (between behin
 unfolding step
 position-completed (want slot st) behind =
     one-byte 32 (between behind (want slot st)) (between false (want slot st)) (λ at. refl)
-      (one-byte 48 (between false (want slot st)) (in-number plain 0 slot st) (λ at. refl) (number-closes plain 0 slot st))
+    (one-byte 48 (between false (want slot st)) (in-number plain 0 slot st) (λ at. refl) (number-closes plain 0 slot st))
 position-completed (have b more e st) behind = closes st b more e behind
 position-completed (is b e st) behind =
     let null = unary 0 (Unary.function IsNull) e in
     let c = closes st b false null true in
     let named : Completed (between false (is b e st)) =
-        record { rest = letters NULL ++ c .rest; tree = c .tree; completes = λ at. word-run NULL (is b e st) (have b false null st) (c .rest) at refl ∙ c .completes (at + 4) } in
+    record { rest = letters NULL ++ c .rest; tree = c .tree; completes = λ at. word-run NULL (is b e st) (have b false null st) (c .rest) at refl ∙ c .completes (at + 4) } in
     one-byte 32 (between behind (is b e st)) (between false (is b e st)) (λ at. refl) named
 
 word-completed : (l : List ℕ) (c : ℕ) (p : Position) (cs : List Candidate) → Completed (in-word c l p cs)

@@ -191,8 +191,8 @@ derived-negation =
     record {
       parts = word NOT ∷ Part.column 2 ∷ sign equal ∷ Part.integer (pos 7) ∷ [];
       typed =
-        part (a-word NOT) refl
-        (space (part (a-column (50 ∷ []) refl (omega arith)) refl (part (a-sign equal) refl (part (an-integer (55 ∷ []) refl (omega arith)) refl (space none-left)))));
+          part (a-word NOT) refl
+          (space (part (a-column (50 ∷ []) refl (omega arith)) refl (part (a-sign equal) refl (part (an-integer (55 ∷ []) refl (omega arith)) refl (space none-left)))));
       read = single (one (negated (affirmed (compared (simple refl) (simple refl)))));
     }
 
@@ -202,10 +202,10 @@ derived-string =
     record {
       parts = opening ∷ Part.string 65538 (97 ∷ []) ∷ word IS ∷ word NAN ∷ closing ∷ word OR ∷ word TRUE ∷ [];
       typed =
-        part a-parenthesis refl
-        (part (a-string (97 ∷ []) refl) refl
-        (part (a-word IS) refl (space (part (a-word NAN) refl (part its-end refl (part (a-word OR) refl (space (part (a-word TRUE) refl none-left))))))));
+          part a-parenthesis refl
+          (part (a-string (97 ∷ []) refl) refl
+          (part (a-word IS) refl (space (part (a-word NAN) refl (part its-end refl (part (a-word OR) refl (space (part (a-word TRUE) refl none-left))))))));
       read =
-        either (single (one (affirmed (alone (in-parentheses (single (one (affirmed (is-nan (simple refl))))))))))
+          either (single (one (affirmed (alone (in-parentheses (single (one (affirmed (is-nan (simple refl))))))))))
           (one (affirmed (alone (simple refl))));
     }

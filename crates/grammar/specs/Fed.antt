@@ -164,7 +164,7 @@ unfolding feeds
 close-next b f [] xs s e later so h = absurd (Option·none-ne-some e h)
 close-next b f (slot ∷ st) xs s e later (p, q, inside {p = p′} {q = q′} a o′ c, o, d) h =
     later (fill slot (whole b f) st)
-      (filled (slot .before) (slot .left) (whole b f) st s p′ q′ (opening ∷ p) xs a o′ c (in-parentheses (closed b p q (closing ∷ xs) f o d))) h
+    (filled (slot .before) (slot .left) (whole b f) st s p′ q′ (opening ∷ p) xs a o′ c (in-parentheses (closed b p q (closing ∷ xs) f o d))) h
 
 -- a comparison or IS behind an operand
 may-next : (b : Before) (more : Bool) (f : Expression) (st : Stack) (x : Part) (xs s : List Part) (e : Expression) → Next (have b more f st) x xs s e

@@ -25,7 +25,7 @@ written out cells count false = refuse out 15 (length cells)
 abbrev pub handed-out : (out : List ℕ) → Expression → Outcome
 handed-out out e =
     cond (leb (length (expression-cells e)) 2048)
-      (written out (tree-bytes e) (length (expression-cells e)) (leb (length (tree-bytes e)) (length out))) (refuse out 14 0)
+    (written out (tree-bytes e) (length (expression-cells e)) (leb (length (tree-bytes e)) (length out))) (refuse out 14 0)
 
 abbrev pub answered : (out : List ℕ) → Reading → Outcome
 answered out (refused place) = refuse out 22 place

@@ -138,8 +138,9 @@ proved =
       exactly = λ text e. (taken-condition text e, condition-taken text e);
       one-tree = λ text e f c d. same-tree e f (sym (condition-taken text e c) ∙ condition-taken text f d);
       the-place =
-        λ text place.
-          (λ h. (refused-place text place h, λ e c. Option·none-ne-some e (ap tree-in (sym h ∙ condition-taken text e c))),
-          λ h. place-refused text place (h .0) (h .1));
+          λ text place. (
+            λ h. (refused-place text place h, λ e c. Option·none-ne-some e (ap tree-in (sym h ∙ condition-taken text e c))),
+            λ h. place-refused text place (h .0) (h .1),
+          );
       strings = condition-refers;
     }

@@ -94,7 +94,6 @@ abbrev Goes : ℕ → List ℕ → Expression → Option State → Type 0
 Goes at w e o = _≡_ {A = Reading} (elim o as (λ z. Reading) [ none ↦ refused at | some next ↦ run (suc at) w next ]) (taken e)
 
 module _ (at b : ℕ) (w : List ℕ) (e : Expression) (later : (s : State) → run (suc at) w s ≡ taken e → To-come s (suc at) w e) where
-
   -- a sign or parenthesis
   apart-told : (x : Part) → Spells at (b ∷ []) x → solid x ≡ false → (behind : Bool) (p : Position) → Goes at w e (apart (feed p x)) → Told behind p at (b ∷ w) e
   apart-told x spelt loose behind p = go (feed p x) refl
@@ -102,6 +101,7 @@ module _ (at b : ℕ) (w : List ℕ) (e : Expression) (later : (s : State) → r
       free : (t : Bool) → solid x ≡ false → t && solid x ≡ false
       free true h = h
       free false h = refl
+
       go : (o : Option Position) → feed p x ≡ o → Goes at w e (apart o) → Told behind p at (b ∷ w) e
       go none f h = not-taken h
       go (some q) f h =
@@ -132,6 +132,7 @@ widen at b w e (k ∷ cs) d = go (k .0) (k .1) d (widen at b w e cs)
         subst (λ (z : ℕ). Word-then e ((c ∷ l, p) ∷ cs) at (z ∷ (l ++ r))) (sym (eqb-true b c h)) (here {l = c ∷ l} {r = r} (moved u d′))
     letter c l p true h v (there d′) rest = there (rest d′)
     letter c l p false h v d′ rest = there (rest d′)
+
     go : (l : List ℕ) (p : Position) → Word-then e (narrow-one b l p (narrow b cs)) (suc at) w → (Word-then e (narrow b cs) (suc at) w → Word-then e cs at (b ∷ w))
         → Word-then e ((l, p) ∷ cs) at (b ∷ w)
     go [] p d′ rest = there (rest d′)
@@ -150,7 +151,6 @@ word-told (x ∷ ws) p at w e d = go (feed p (word x)) refl w d (word-told ws p 
 -- ---- a byte in each state
 
 module _ (at b : ℕ) (w : List ℕ) (e : Expression) (later : (s : State) → run (suc at) w s ≡ taken e → To-come s (suc at) w e) where
-
   digit-small : digit b ≡ true → b - 48 ≤ 9
   digit-small h = let u : b ≤ 57 = leb-true b 57 (and-right (leb 48 b) (leb b 57) h) in omega arith
 
@@ -202,7 +202,6 @@ string-told slot st e at w behind (string-then s r n t) =
     free false = refl
 
 module _ (at b : ℕ) (w : List ℕ) (e : Expression) (later : (s : State) → run (suc at) w s ≡ taken e → To-come s (suc at) w e) where
-
   -- the same for a byte that is known
   known : (c : ℕ) (behind : Bool) (p : Position) → b ≡ c → Told behind p at (c ∷ w) e → Told behind p at (b ∷ w) e
   known c behind p h t = subst (λ (z : ℕ). Told behind p at (z ∷ w) e) (sym h) t
@@ -250,6 +249,7 @@ module _ (at b : ℕ) (w : List ℕ) (e : Expression) (later : (s : State) → r
       more : (v : List ℕ) → Number-then k slot st e (10 * n + (b - 48)) (suc at) v → Number-then k slot st e n at (b ∷ v)
       more v (number-then s r d m′ t) =
           let u : suc at + length s ≡ at + suc (length s) = omega arith in number-then (b ∷ s) r (and-true (digit b) (all digit s) h d) m′ (moved u t)
+
       within : (t : Bool) → leb (10 * n + (b - 48)) (greatest k) ≡ t → Goes at w e (cond t (some (in-number k (10 * n + (b - 48)) slot st)) none)
           → Number-then k slot st e n at (b ∷ w)
       within true l g′ = more w (later (in-number k (10 * n + (b - 48)) slot st) g′ (leb-true (10 * n + (b - 48)) (greatest k) l))
@@ -272,7 +272,7 @@ module _ (at b : ℕ) (w : List ℕ) (e : Expression) (later : (s : State) → r
       more v (string-then s r n told) =
           let u : suc at + length (s ++ (39 ∷ [])) ≡ at + suc (length (s ++ (39 ∷ []))) = omega arith in
           string-then (b ∷ s) r (and-true (not (eqb b 39)) (all (λ c. not (eqb c 39)) s) (ap not h) n)
-            (subst (λ (z : List ℕ). Told false (string-ends from z slot st) (at + suc (length (s ++ (39 ∷ [])))) r e) (append-assoc t (b ∷ []) s) (moved u told))
+          (subst (λ (z : List ℕ). Told false (string-ends from z slot st) (at + suc (length (s ++ (39 ∷ [])))) r e) (append-assoc t (b ∷ []) s) (moved u told))
 
   told-step : (s : State) → Goes at w e (step at b s) → To-come s at (b ∷ w) e
   unfolding step

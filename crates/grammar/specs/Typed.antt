@@ -120,7 +120,7 @@ module _ (k : Sort) (slot : Slot) (st : Stack) where
   number-ends n [] at h = refl
   number-ends n (b ∷ r) at h =
       ap (λ (z : Bool). elim (cond z (one-more-digit k (10 * n + (b - 48)) slot st) (begin (class b) at b true (numbered k n slot st))) as (λ w. Reading)
-          [ none ↦ refused at | some y ↦ run (suc at) r y ]) h
+      [ none ↦ refused at | some y ↦ run (suc at) r y ]) h
 
   digit-more : (n b at : ℕ) → digit b ≡ true → 10 * n + (b - 48) ≤ greatest k → step at b (in-number k n slot st) ≡ some (in-number k (10 * n + (b - 48)) slot st)
   unfolding step
@@ -138,7 +138,7 @@ module _ (k : Sort) (slot : Slot) (st : Stack) where
       let u : suc at + length s ≡ upto = omega arith in
       let grows : 10 * n + (b - 48) ≤ decimal-from (10 * n + (b - 48)) s = decimal-grows s (10 * n + (b - 48)) in
       run-step at b (s ++ r) (in-number k n slot st) (in-number k (10 * n + (b - 48)) slot st)
-        (digit-more n b at (and-left (digit b) (all digit s) d) (omega arith))
+      (digit-more n b at (and-left (digit b) (all digit s) d) (omega arith))
       ∙ number-run s r (10 * n + (b - 48)) (suc at) upto (and-right (digit b) (all digit s) d) m h u
 
   begun-run : (s r : List ℕ) (at upto : ℕ) → digits s ≡ true → decimal s ≤ greatest k → Ends r → at + length s ≡ upto
@@ -148,7 +148,7 @@ module _ (k : Sort) (slot : Slot) (st : Stack) where
   begun-run (b ∷ s) r at upto d m h g =
       let u : suc at + length s ≡ upto = omega arith in
       run-step at b (s ++ r) (begun k slot st) (in-number k (b - 48) slot st)
-        (ap (λ (z : Bool). cond z (some (in-number k (b - 48) slot st)) none) (and-left (digit b) (all digit s) d))
+      (ap (λ (z : Bool). cond z (some (in-number k (b - 48) slot st)) none) (and-left (digit b) (all digit s) d))
       ∙ number-run s r (b - 48) (suc at) upto (and-right (digit b) (all digit s) d) m h u
 
 -- ---- every part
@@ -157,13 +157,13 @@ digit-class : (b : ℕ) → digit b ≡ true → class b ≡ a-digit
 unfolding class
 digit-class b h =
     ap (λ (z : Bool). cond z a-digit
-      (cond (eqb b 32) a-space
-      (cond (eqb b 39) a-quote
-      (cond (eqb b 45) a-minus
-      (cond (eqb b 35) a-hash
-      (cond (eqb b 40) an-opening
-      (cond (eqb b 41) a-closing
-      (cond (eqb b 61) (Class.a-sign equal) (cond (eqb b 60) (Class.a-sign less) (cond (eqb b 62) (Class.a-sign greater) another)))))))))) h
+    (cond (eqb b 32) a-space
+    (cond (eqb b 39) a-quote
+    (cond (eqb b 45) a-minus
+    (cond (eqb b 35) a-hash
+    (cond (eqb b 40) an-opening
+    (cond (eqb b 41) a-closing
+    (cond (eqb b 61) (Class.a-sign equal) (cond (eqb b 60) (Class.a-sign less) (cond (eqb b 62) (Class.a-sign greater) another)))))))))) h
 
 -- Where an operand is wanted, a digit begins a number as it does behind a minus.
 plain-begins : (b : ℕ) (t : List ℕ) (at : ℕ) (slot : Slot) (st : Stack) → digit b ≡ true
@@ -197,7 +197,7 @@ string-run (b ∷ s) r t from at upto slot st h g =
     let u : suc at + length (s ++ (39 ∷ [])) ≡ upto = omega arith in
     let other : eqb b 39 ≡ false = not-true (eqb b 39) (and-left (not (eqb b 39)) (all (λ c. not (eqb c 39)) s) h) in
     run-step at b ((s ++ (39 ∷ [])) ++ r) (in-string from t slot st) (in-string from (t ++ (b ∷ [])) slot st)
-      (ap (λ (z : Bool). cond z (some (between false (string-ends from t slot st))) (some (in-string from (t ++ (b ∷ [])) slot st))) other)
+    (ap (λ (z : Bool). cond z (some (between false (string-ends from t slot st))) (some (in-string from (t ++ (b ∷ [])) slot st))) other)
     ∙ string-run s r (t ++ (b ∷ [])) from (suc at) upto slot st (and-right (not (eqb b 39)) (all (λ c. not (eqb c 39)) s) h) u
     ∙ ap (λ (z : List ℕ). run upto r (between false (string-ends from z slot st))) (append-assoc t (b ∷ []) s)
 
