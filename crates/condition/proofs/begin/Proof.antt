@@ -1,0 +1,85 @@
+use borrow.Author.Needs.{needs}
+use Rattle.condition.proofs.begin.Statement.{statement}
+use Rattle.condition.proofs.begin.Tie as tie
+use Rattle.condition.proofs.begin.Reads as reads
+use Rattle.condition.proofs.begin.Lts as lts
+use Rattle.condition.proofs.begin_sign.Reads as begin-sign-reads
+use Rattle.condition.proofs.close_one.Reads as close-one-reads
+use Rattle.condition.proofs.open_one.Reads as open-one-reads
+use Rattle.condition.proofs.to_mode.Reads as to-mode-reads
+use Rattle.condition.proofs.wanted.Reads as wanted-reads
+
+-- src/lib.rt:515:9
+to-mode-requires : tie.Need-to-mode-requires
+to-mode-requires c κs = search needs
+
+-- src/lib.rt:515:9
+returns : tie.Need-returns
+returns c = ?
+
+-- src/lib.rt:518:29
+add-wanted : tie.Need-add-wanted
+add-wanted c = search needs
+
+-- src/lib.rt:518:9
+wanted-requires : tie.Need-wanted-requires
+wanted-requires c κs = search needs
+
+-- src/lib.rt:518:9
+returns-2 : tie.Need-returns-2
+returns-2 c = ?
+
+-- src/lib.rt:521:9
+open-one-requires : tie.Need-open-one-requires
+open-one-requires c κs = search needs
+
+-- src/lib.rt:521:9
+same-length : tie.Need-same-length
+same-length c = search needs
+
+-- src/lib.rt:521:9
+returns-3 : tie.Need-returns-3
+returns-3 c = ?
+
+-- src/lib.rt:524:9
+close-one-requires : tie.Need-close-one-requires
+close-one-requires c κs = search needs
+
+-- src/lib.rt:524:9
+same-length-2 : tie.Need-same-length-2
+same-length-2 c = search needs
+
+-- src/lib.rt:524:9
+same-length-3 : tie.Need-same-length-3
+same-length-3 c = search needs
+
+-- src/lib.rt:524:9
+returns-4 : tie.Need-returns-4
+returns-4 c = ?
+
+-- src/lib.rt:526:5
+begin-sign-requires : tie.Need-begin-sign-requires
+begin-sign-requires c κs = search needs
+
+-- src/lib.rt:510:1
+returns-5 : tie.Need-returns-5
+returns-5 c = ?
+
+pub begin-spec : {M : Type 1} → statement M
+begin-spec =
+    tie.close
+    (tie.spec
+    to-mode-requires
+    returns
+    add-wanted
+    wanted-requires
+    returns-2
+    open-one-requires
+    same-length
+    returns-3
+    close-one-requires
+    same-length-2
+    same-length-3
+    returns-4
+    begin-sign-requires
+    returns-5)

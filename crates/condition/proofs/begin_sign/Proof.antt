@@ -1,0 +1,52 @@
+use borrow.Author.Needs.{needs}
+use Rattle.condition.proofs.begin_sign.Statement.{statement}
+use Rattle.condition.proofs.begin_sign.Tie as tie
+use Rattle.condition.proofs.begin_sign.Reads as reads
+use Rattle.condition.proofs.begin_sign.Lts as lts
+use Rattle.condition.proofs.begin_solid.Reads as begin-solid-reads
+use Rattle.condition.proofs.sign.Reads as sign-reads
+
+-- src/lib.rt:427:9
+sign-requires : tie.Need-sign-requires
+sign-requires c κs = search needs
+
+-- src/lib.rt:427:9
+returns : tie.Need-returns
+returns c = ?
+
+-- src/lib.rt:430:9
+sign-requires-2 : tie.Need-sign-requires-2
+sign-requires-2 c κs = search needs
+
+-- src/lib.rt:430:9
+returns-2 : tie.Need-returns-2
+returns-2 c = ?
+
+-- src/lib.rt:433:9
+sign-requires-3 : tie.Need-sign-requires-3
+sign-requires-3 c κs = search needs
+
+-- src/lib.rt:433:9
+returns-3 : tie.Need-returns-3
+returns-3 c = ?
+
+-- src/lib.rt:435:5
+begin-solid-requires : tie.Need-begin-solid-requires
+begin-solid-requires c κs = search needs
+
+-- src/lib.rt:423:1
+returns-4 : tie.Need-returns-4
+returns-4 c = ?
+
+pub begin-sign-spec : {M : Type 1} → statement M
+begin-sign-spec =
+    tie.close
+    (tie.spec
+    sign-requires
+    returns
+    sign-requires-2
+    returns-2
+    sign-requires-3
+    returns-3
+    begin-solid-requires
+    returns-4)

@@ -1,0 +1,95 @@
+use borrow.Author.Needs.{needs}
+use Rattle.condition.proofs.close_one.Statement.{statement}
+use Rattle.condition.proofs.close_one.Tie as tie
+use Rattle.condition.proofs.close_one.Reads as reads
+use Rattle.condition.proofs.close_one.Lts as lts
+use Rattle.condition.proofs.disjoin.Reads as disjoin-reads
+use Rattle.condition.proofs.fill.Reads as fill-reads
+use Rattle.condition.proofs.reopened.Reads as reopened-reads
+use Rattle.condition.proofs.stuck.Reads as stuck-reads
+use Rattle.condition.proofs.there.Reads as there-reads
+
+-- src/lib.rt:493:9
+there-requires : tie.Need-there-requires
+there-requires c κs = search needs
+
+-- src/lib.rt:494:9
+stuck-requires : tie.Need-stuck-requires
+stuck-requires c κs = search needs
+
+-- src/lib.rt:494:9
+returns : tie.Need-returns
+returns c = ?
+
+-- src/lib.rt:498:9
+stuck-requires-2 : tie.Need-stuck-requires-2
+stuck-requires-2 c κs = search needs
+
+-- src/lib.rt:498:9
+returns-2 : tie.Need-returns-2
+returns-2 c = ?
+
+-- src/lib.rt:501:9
+stuck-requires-3 : tie.Need-stuck-requires-3
+stuck-requires-3 c κs = search needs
+
+-- src/lib.rt:501:9
+returns-3 : tie.Need-returns-3
+returns-3 c = ?
+
+-- src/lib.rt:503:19
+sub-e : tie.Need-sub-e
+sub-e c = search needs
+
+-- src/lib.rt:503:13
+mul-e : tie.Need-mul-e
+mul-e c = search needs
+
+-- src/lib.rt:503:13
+shared-slice-read-e : tie.Need-shared-slice-read-e
+shared-slice-read-e c = search needs
+
+-- src/lib.rt:504:9
+disjoin-requires : tie.Need-disjoin-requires
+disjoin-requires c κs = search needs
+
+-- src/lib.rt:505:28
+sub-reopened : tie.Need-sub-reopened
+sub-reopened c = search needs
+
+-- src/lib.rt:505:9
+reopened-requires : tie.Need-reopened-requires
+reopened-requires c κs = search needs
+
+-- src/lib.rt:506:5
+fill-requires : tie.Need-fill-requires
+fill-requires c κs = search needs
+
+-- src/lib.rt:490:1
+same-length : tie.Need-same-length
+same-length c = search needs
+
+-- src/lib.rt:490:1
+returns-4 : tie.Need-returns-4
+returns-4 c = ?
+
+pub close-one-spec : {M : Type 1} → statement M
+close-one-spec =
+    tie.close
+    (tie.spec
+    there-requires
+    stuck-requires
+    returns
+    stuck-requires-2
+    returns-2
+    stuck-requires-3
+    returns-3
+    sub-e
+    mul-e
+    shared-slice-read-e
+    disjoin-requires
+    sub-reopened
+    reopened-requires
+    fill-requires
+    same-length
+    returns-4)

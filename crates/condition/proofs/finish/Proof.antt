@@ -1,0 +1,68 @@
+use borrow.Author.Needs.{needs}
+use Rattle.condition.proofs.finish.Statement.{statement}
+use Rattle.condition.proofs.finish.Tie as tie
+use Rattle.condition.proofs.finish.Reads as reads
+use Rattle.condition.proofs.finish.Lts as lts
+use Rattle.condition.proofs.ends.Reads as ends-reads
+use Rattle.condition.proofs.number_ends.Reads as number-ends-reads
+use Rattle.condition.proofs.stuck.Reads as stuck-reads
+
+-- src/lib.rt:671:9
+ends-requires : tie.Need-ends-requires
+ends-requires c κs = search needs
+
+-- src/lib.rt:671:9
+same-length : tie.Need-same-length
+same-length c = search needs
+
+-- src/lib.rt:671:9
+returns : tie.Need-returns
+returns c = ?
+
+-- src/lib.rt:674:9
+stuck-requires : tie.Need-stuck-requires
+stuck-requires c κs = search needs
+
+-- src/lib.rt:674:9
+returns-2 : tie.Need-returns-2
+returns-2 c = ?
+
+-- src/lib.rt:677:13
+number-ends-requires : tie.Need-number-ends-requires
+number-ends-requires c κs = search needs
+
+-- src/lib.rt:678:9
+ends-requires-2 : tie.Need-ends-requires-2
+ends-requires-2 c κs = search needs
+
+-- src/lib.rt:678:9
+same-length-2 : tie.Need-same-length-2
+same-length-2 c = search needs
+
+-- src/lib.rt:678:9
+returns-3 : tie.Need-returns-3
+returns-3 c = ?
+
+-- src/lib.rt:680:5
+stuck-requires-2 : tie.Need-stuck-requires-2
+stuck-requires-2 c κs = search needs
+
+-- src/lib.rt:667:1
+returns-4 : tie.Need-returns-4
+returns-4 c = ?
+
+pub finish-spec : {M : Type 1} → statement M
+finish-spec =
+    tie.close
+    (tie.spec
+    ends-requires
+    same-length
+    returns
+    stuck-requires
+    returns-2
+    number-ends-requires
+    ends-requires-2
+    same-length-2
+    returns-3
+    stuck-requires-2
+    returns-4)

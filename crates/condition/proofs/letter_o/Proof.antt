@@ -1,0 +1,36 @@
+use borrow.Author.Needs.{needs}
+use Rattle.condition.proofs.letter_o.Statement.{statement}
+use Rattle.condition.proofs.letter_o.Tie as tie
+use Rattle.condition.proofs.letter_o.Reads as reads
+use Rattle.condition.proofs.letter_o.Lts as lts
+use Rattle.condition.proofs.stuck.Reads as stuck-reads
+use Rattle.condition.proofs.to_mode.Reads as to-mode-reads
+
+-- src/lib.rt:243:9
+stuck-requires : tie.Need-stuck-requires
+stuck-requires c κs = search needs
+
+-- src/lib.rt:243:9
+returns : tie.Need-returns
+returns c = ?
+
+-- src/lib.rt:246:9
+stuck-requires-2 : tie.Need-stuck-requires-2
+stuck-requires-2 c κs = search needs
+
+-- src/lib.rt:246:9
+returns-2 : tie.Need-returns-2
+returns-2 c = ?
+
+-- src/lib.rt:248:5
+to-mode-requires : tie.Need-to-mode-requires
+to-mode-requires c κs = search needs
+
+-- src/lib.rt:239:1
+returns-3 : tie.Need-returns-3
+returns-3 c = ?
+
+pub letter-o-spec : {M : Type 1} → statement M
+letter-o-spec =
+    tie.close
+    (tie.spec stuck-requires returns stuck-requires-2 returns-2 to-mode-requires returns-3)

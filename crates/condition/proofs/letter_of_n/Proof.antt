@@ -1,0 +1,54 @@
+use borrow.Author.Needs.{needs}
+use Rattle.condition.proofs.letter_of_n.Statement.{statement}
+use Rattle.condition.proofs.letter_of_n.Tie as tie
+use Rattle.condition.proofs.letter_of_n.Reads as reads
+use Rattle.condition.proofs.letter_of_n.Lts as lts
+use Rattle.condition.proofs.letter_a.Reads as letter-a-reads
+use Rattle.condition.proofs.letter_o.Reads as letter-o-reads
+use Rattle.condition.proofs.stuck.Reads as stuck-reads
+use Rattle.condition.proofs.to_mode.Reads as to-mode-reads
+
+-- src/lib.rt:264:9
+to-mode-requires : tie.Need-to-mode-requires
+to-mode-requires c κs = search needs
+
+-- src/lib.rt:264:9
+returns : tie.Need-returns
+returns c = ?
+
+-- src/lib.rt:267:9
+letter-o-requires : tie.Need-letter-o-requires
+letter-o-requires c κs = search needs
+
+-- src/lib.rt:267:9
+returns-2 : tie.Need-returns-2
+returns-2 c = ?
+
+-- src/lib.rt:270:9
+letter-a-requires : tie.Need-letter-a-requires
+letter-a-requires c κs = search needs
+
+-- src/lib.rt:270:9
+returns-3 : tie.Need-returns-3
+returns-3 c = ?
+
+-- src/lib.rt:272:5
+stuck-requires : tie.Need-stuck-requires
+stuck-requires c κs = search needs
+
+-- src/lib.rt:260:1
+returns-4 : tie.Need-returns-4
+returns-4 c = ?
+
+pub letter-of-n-spec : {M : Type 1} → statement M
+letter-of-n-spec =
+    tie.close
+    (tie.spec
+    to-mode-requires
+    returns
+    letter-o-requires
+    returns-2
+    letter-a-requires
+    returns-3
+    stuck-requires
+    returns-4)

@@ -1,0 +1,53 @@
+use borrow.Author.Needs.{needs}
+use Rattle.condition.proofs.number_ends.Statement.{statement}
+use Rattle.condition.proofs.number_ends.Tie as tie
+use Rattle.condition.proofs.number_ends.Reads as reads
+use Rattle.condition.proofs.number_ends.Lts as lts
+use Rattle.condition.proofs.operand.Reads as operand-reads
+use Rattle.condition.proofs.signed.Reads as signed-reads
+use Rattle.condition.proofs.to_mode.Reads as to-mode-reads
+
+-- src/lib.rt:547:9
+to-mode-requires : tie.Need-to-mode-requires
+to-mode-requires c κs = search needs
+
+-- src/lib.rt:549:9
+operand-requires : tie.Need-operand-requires
+operand-requires c κs = search needs
+
+-- src/lib.rt:549:9
+same-length : tie.Need-same-length
+same-length c = search needs
+
+-- src/lib.rt:549:9
+returns : tie.Need-returns
+returns c = ?
+
+-- src/lib.rt:551:9
+signed-requires : tie.Need-signed-requires
+signed-requires c κs = search needs
+
+-- src/lib.rt:552:5
+operand-requires-2 : tie.Need-operand-requires-2
+operand-requires-2 c κs = search needs
+
+-- src/lib.rt:544:1
+same-length-2 : tie.Need-same-length-2
+same-length-2 c = search needs
+
+-- src/lib.rt:544:1
+returns-2 : tie.Need-returns-2
+returns-2 c = ?
+
+pub number-ends-spec : {M : Type 1} → statement M
+number-ends-spec =
+    tie.close
+    (tie.spec
+    to-mode-requires
+    operand-requires
+    same-length
+    returns
+    signed-requires
+    operand-requires-2
+    same-length-2
+    returns-2)

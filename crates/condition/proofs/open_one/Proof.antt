@@ -1,0 +1,106 @@
+use borrow.Author.Needs.{needs}
+use Rattle.condition.proofs.open_one.Statement.{statement}
+use Rattle.condition.proofs.open_one.Tie as tie
+use Rattle.condition.proofs.open_one.Reads as reads
+use Rattle.condition.proofs.open_one.Lts as lts
+use Rattle.condition.proofs.stuck.Reads as stuck-reads
+
+-- src/lib.rt:444:9
+stuck-requires : tie.Need-stuck-requires
+stuck-requires c κs = search needs
+
+-- src/lib.rt:444:9
+returns : tie.Need-returns
+returns c = ?
+
+-- src/lib.rt:447:9
+stuck-requires-2 : tie.Need-stuck-requires-2
+stuck-requires-2 c κs = search needs
+
+-- src/lib.rt:447:9
+returns-2 : tie.Need-returns-2
+returns-2 c = ?
+
+-- src/lib.rt:449:16
+cast-stack : tie.Need-cast-stack
+cast-stack c = search needs
+
+-- src/lib.rt:449:38
+cast-stack-2 : tie.Need-cast-stack-2
+cast-stack-2 c = search needs
+
+-- src/lib.rt:449:31
+mul-stack : tie.Need-mul-stack
+mul-stack c = search needs
+
+-- src/lib.rt:449:16
+add-stack : tie.Need-add-stack
+add-stack c = search needs
+
+-- src/lib.rt:449:64
+cast-stack-3 : tie.Need-cast-stack-3
+cast-stack-3 c = search needs
+
+-- src/lib.rt:449:55
+mul-stack-2 : tie.Need-mul-stack-2
+mul-stack-2 c = search needs
+
+-- src/lib.rt:449:16
+add-stack-2 : tie.Need-add-stack-2
+add-stack-2 c = search needs
+
+-- src/lib.rt:449:93
+cast-stack-4 : tie.Need-cast-stack-4
+cast-stack-4 c = search needs
+
+-- src/lib.rt:449:81
+mul-stack-3 : tie.Need-mul-stack-3
+mul-stack-3 c = search needs
+
+-- src/lib.rt:449:16
+add-stack-3 : tie.Need-add-stack-3
+add-stack-3 c = search needs
+
+-- src/lib.rt:449:5
+mul-stack-4 : tie.Need-mul-stack-4
+mul-stack-4 c = search needs
+
+-- src/lib.rt:449:5
+slice-write-stack : tie.Need-slice-write-stack
+slice-write-stack c = search needs
+
+-- src/lib.rt:458:16
+add-t5 : tie.Need-add-t5
+add-t5 c = search needs
+
+-- src/lib.rt:439:1
+same-length : tie.Need-same-length
+same-length c = search needs
+
+-- src/lib.rt:439:1
+returns-3 : tie.Need-returns-3
+returns-3 c = ?
+
+pub open-one-spec : {M : Type 1} → statement M
+open-one-spec =
+    tie.close
+    (tie.spec
+    stuck-requires
+    returns
+    stuck-requires-2
+    returns-2
+    cast-stack
+    cast-stack-2
+    mul-stack
+    add-stack
+    cast-stack-3
+    mul-stack-2
+    add-stack-2
+    cast-stack-4
+    mul-stack-3
+    add-stack-3
+    mul-stack-4
+    slice-write-stack
+    add-t5
+    same-length
+    returns-3)

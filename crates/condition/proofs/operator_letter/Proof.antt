@@ -1,0 +1,53 @@
+use borrow.Author.Needs.{needs}
+use Rattle.condition.proofs.operator_letter.Statement.{statement}
+use Rattle.condition.proofs.operator_letter.Tie as tie
+use Rattle.condition.proofs.operator_letter.Reads as reads
+use Rattle.condition.proofs.operator_letter.Lts as lts
+use Rattle.condition.proofs.had.Reads as had-reads
+use Rattle.condition.proofs.letter_i.Reads as letter-i-reads
+use Rattle.condition.proofs.stuck.Reads as stuck-reads
+
+-- src/lib.rt:356:9
+had-requires : tie.Need-had-requires
+had-requires c κs = search needs
+
+-- src/lib.rt:356:9
+returns : tie.Need-returns
+returns c = ?
+
+-- src/lib.rt:359:9
+had-requires-2 : tie.Need-had-requires-2
+had-requires-2 c κs = search needs
+
+-- src/lib.rt:359:9
+returns-2 : tie.Need-returns-2
+returns-2 c = ?
+
+-- src/lib.rt:362:9
+letter-i-requires : tie.Need-letter-i-requires
+letter-i-requires c κs = search needs
+
+-- src/lib.rt:362:9
+returns-3 : tie.Need-returns-3
+returns-3 c = ?
+
+-- src/lib.rt:364:5
+stuck-requires : tie.Need-stuck-requires
+stuck-requires c κs = search needs
+
+-- src/lib.rt:352:1
+returns-4 : tie.Need-returns-4
+returns-4 c = ?
+
+pub operator-letter-spec : {M : Type 1} → statement M
+operator-letter-spec =
+    tie.close
+    (tie.spec
+    had-requires
+    returns
+    had-requires-2
+    returns-2
+    letter-i-requires
+    returns-3
+    stuck-requires
+    returns-4)

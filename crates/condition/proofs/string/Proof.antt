@@ -1,0 +1,37 @@
+use borrow.Author.Needs.{needs}
+use Rattle.condition.proofs.string.Statement.{statement}
+use Rattle.condition.proofs.string.Tie as tie
+use Rattle.condition.proofs.string.Reads as reads
+use Rattle.condition.proofs.string.Lts as lts
+use Rattle.condition.proofs.operand.Reads as operand-reads
+use Rattle.condition.proofs.reference.Reads as reference-reads
+use Rattle.condition.proofs.to_mode.Reads as to-mode-reads
+
+-- src/lib.rt:624:9
+returns : tie.Need-returns
+returns c = ?
+
+-- src/lib.rt:626:9
+to-mode-requires : tie.Need-to-mode-requires
+to-mode-requires c κs = search needs
+
+-- src/lib.rt:627:9
+reference-requires : tie.Need-reference-requires
+reference-requires c κs = search needs
+
+-- src/lib.rt:628:5
+operand-requires : tie.Need-operand-requires
+operand-requires c κs = search needs
+
+-- src/lib.rt:619:1
+same-length : tie.Need-same-length
+same-length c = search needs
+
+-- src/lib.rt:619:1
+returns-2 : tie.Need-returns-2
+returns-2 c = ?
+
+pub string-spec : {M : Type 1} → statement M
+string-spec =
+    tie.close
+    (tie.spec returns to-mode-requires reference-requires operand-requires same-length returns-2)
