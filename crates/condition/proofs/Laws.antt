@@ -1,17 +1,19 @@
 -- One law for each way out of a function: what its calls gave is what the definition gives.
 -- Assumes nothing.
-use Prim.Native.Nat.{ℕ, zero, suc, _+_, _-_, _*_, _≤_, _<_}
+use Prim.Native.Nat.{ℕ, zero, suc, _+_, _-_, _*_, _/_, _%_, _≤_, _<_}
 use native.Mathlib.Omega.{arith}
 use mathlib.Core.Path.{_≡_, refl, sym, ap, _∙_}
-use mathlib.Core.Bool.{Bool, true, false, cond}
+use mathlib.Core.Bool.{Bool, true, false, _&&_, cond}
 use mathlib.Core.List.{List, [], _∷_, _++_, append-assoc}
 use lib.Dec.{leb, ltb, eqb}
 use lib.ListN.{length, length-append, getD}
-use borrow.Author.Tests.{lt-ltb, le-ltb, le-leb, lt-leb, eq-eqb, ne-eqb}
+use borrow.Author.Tests.{lt-ltb, le-ltb, le-leb, lt-leb, leb-true, eq-eqb, ne-eqb}
 use Rattle.sheet.specs.Bytes.{bytes}
+use Rattle.sheet_laws.specs.Content.{and-left, and-right}
+use Rattle.grammar.specs.Parts.{digit}
 use Rattle.encode.specs.Encode.{written}
 use Rattle.encode.proofs.Written.{chain, length-bytes}
-use Rattle.condition.specs.Lean.{World, world, to-mode, stuck, to-stage, counted, four-words, if-room, put-in, put-times, put-nots, put-and, put-or, conjoin, disjoin, compared, fill, operand, and-before, or-before, closed, behind-and, behind-or, behind-is, with-nots, one-more-not, null-word, other-word, word, next-letters, last-letters, letter-of-n, letter-in, letter}
+use Rattle.condition.specs.Lean.{World, world, to-mode, stuck, to-stage, counted, four-words, if-room, put-in, put-times, put-nots, put-and, put-or, conjoin, disjoin, compared, fill, operand, and-before, or-before, closed, behind-and, behind-or, behind-is, with-nots, one-more-not, null-word, other-word, word, next-letters, last-letters, reopened, closes, ended, signed, reference}
 use Rattle.condition.specs.declared.Machine.{Machine}
 
 -- ---- which side of a test
@@ -34,6 +36,26 @@ module _ {A : Type 0} (a b : ℕ) (x y : A) where
 
   pub skip-eq : (a ≡ b → ⊥) → cond (eqb a b) x y ≡ y
   skip-eq h = ap (λ (t : Bool). cond t x y) (ne-eqb a b h)
+
+pub pick-b : {A : Type 0} (t : Bool) (x y : A) → t ≡ true → cond t x y ≡ x
+pick-b t x y h = ap (λ (s : Bool). cond s x y) h
+
+pub skip-b : {A : Type 0} (t : Bool) (x y : A) → t ≡ false → cond t x y ≡ y
+skip-b t x y h = ap (λ (s : Bool). cond s x y) h
+
+-- ---- digits
+
+pub digit-below : (b : ℕ) → b < 48 → false ≡ digit b
+digit-below b h = sym (ap (λ (t : Bool). t && leb b 57) (lt-leb 48 b h))
+
+pub digit-above : (b : ℕ) → 48 ≤ b → leb b 57 ≡ digit b
+digit-above b h = sym (ap (λ (t : Bool). t && leb b 57) (le-leb 48 b h))
+
+pub digit-low : (b : ℕ) → digit b ≡ true → 48 ≤ b
+digit-low b h = leb-true 48 b (and-left (leb 48 b) (leb b 57) h)
+
+pub digit-high : (b : ℕ) → digit b ≡ true → b - 48 < 10
+digit-high b h = let u : b ≤ 57 = leb-true b 57 (and-right (leb 48 b) (leb b 57) h) in omega arith
 
 -- ---- cells
 
@@ -172,3 +194,21 @@ module _ (mode : ℕ) (w v : World) where
   unfolding word
   word-other a b c d k =
       k ∙ sym (skip-eq {A = World} mode 10 _ _ a ∙ skip-eq {A = World} mode 14 _ _ b ∙ skip-eq {A = World} mode 20 _ _ c ∙ skip-eq {A = World} mode 21 _ _ d)
+
+-- ---- parentheses, numbers, strings and the end
+
+pub close-last : (w v : World) (p r : Machine) (d : List ℕ) (e k : ℕ) → world p d ≡ disjoin w → r ≡ reopened e k p → v ≡ fill (world r d) → v ≡ closes e k w
+close-last w v p r d e k h g f = f ∙ ap (λ (z : Machine). fill (world z d)) g ∙ ap (λ (u : World). fill (world (reopened e k (u .0)) (u .1))) h
+
+pub end-last : (w : World) (p r : Machine) (d : List ℕ) → world p d ≡ disjoin w → r ≡ to-mode 0 p → world r d ≡ ended (disjoin w)
+end-last w p r d h g = ap (λ (z : Machine). world z d) g ∙ ap ended h
+
+pub number-last : (m p : Machine) (out : List ℕ) (bits s : ℕ) (v : World) → p ≡ to-mode 1 m → bits ≡ s
+    → v ≡ operand 3 (bits % 4294967296) (bits / 4294967296) (world p out) → v ≡ operand 3 (s % 4294967296) (s / 4294967296) (world (to-mode 1 m) out)
+number-last m p out bits s v h g f =
+    f ∙ ap (λ (b : ℕ). operand 3 (b % 4294967296) (b / 4294967296) (world p out)) g
+    ∙ ap (λ (z : Machine). operand 3 (s % 4294967296) (s / 4294967296) (world z out)) h
+
+pub string-last : (m p : Machine) (out : List ℕ) (a s : ℕ) (v : World) → p ≡ to-mode 0 m → a ≡ s → v ≡ operand 5 a 0 (world p out)
+    → v ≡ operand 5 s 0 (world (to-mode 0 m) out)
+string-last m p out a s v h g f = f ∙ ap (λ (b : ℕ). operand 5 b 0 (world p out)) g ∙ ap (λ (z : Machine). operand 5 s 0 (world z out)) h

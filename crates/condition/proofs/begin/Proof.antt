@@ -1,3 +1,12 @@
+use Prim.Native.Nat.{ℕ, _+_, _-_, _*_, _≤_, _<_}
+use native.Mathlib.Omega.{arith}
+use mathlib.Core.Path.{_≡_, refl, sym, ap, _∙_, subst}
+use mathlib.Core.List.{List, [], _∷_, _++_}
+use lib.ListN.{length, take, drop, length-set}
+use Rattle.condition.proofs.Laws.{pick-eq, skip-eq}
+use Rattle.condition.specs.Lean.{World, all, All}
+use Rattle.condition.specs.Lean
+use Rattle.condition.specs.declared.Machine.{Machine}
 use borrow.Author.Needs.{needs}
 use Rattle.condition.proofs.begin.Statement.{statement}
 use Rattle.condition.proofs.begin.Tie as tie
@@ -15,7 +24,8 @@ to-mode-requires c κs = search needs
 
 -- src/lib.rt:515:9
 returns : tie.Need-returns
-returns c = ?
+unfolding Lean.begin
+returns c = ap (λ (z : Machine). all z (c .before .before .before .before .args .stack .now) (c .before .before .before .before .args .out .now)) (c .to-mode .ensures) ∙ sym (pick-eq {A = All} _ _ _ _ (c .before .if1 .taken))
 
 -- src/lib.rt:518:29
 add-wanted : tie.Need-add-wanted
@@ -27,7 +37,8 @@ wanted-requires c κs = search needs
 
 -- src/lib.rt:518:9
 returns-2 : tie.Need-returns-2
-returns-2 c = ?
+unfolding Lean.begin
+returns-2 c = ap (λ (z : Machine). all z (c .before .before .before .before .before .args .stack .now) (c .before .before .before .before .before .args .out .now)) (c .wanted .ensures) ∙ sym (skip-eq {A = All} _ _ _ _ (c .before .before .if1 .left) ∙ pick-eq {A = All} _ _ _ _ (c .before .if2 .taken))
 
 -- src/lib.rt:521:9
 open-one-requires : tie.Need-open-one-requires
@@ -39,7 +50,8 @@ same-length c = search needs
 
 -- src/lib.rt:521:9
 returns-3 : tie.Need-returns-3
-returns-3 c = ?
+unfolding Lean.begin
+returns-3 c = ap (λ (u : World). all (u .0) (u .1) (c .before .before .before .before .before .before .before .before .before .args .out .now)) (c .before .before .open-one .ensures) ∙ sym (skip-eq {A = All} _ _ _ _ (c .before .before .before .before .before .before .if1 .left) ∙ skip-eq {A = All} _ _ _ _ (c .before .before .before .before .before .if2 .left) ∙ pick-eq {A = All} _ _ _ _ (c .before .before .before .before .if3 .taken))
 
 -- src/lib.rt:524:9
 close-one-requires : tie.Need-close-one-requires
@@ -55,7 +67,8 @@ same-length-3 c = search needs
 
 -- src/lib.rt:524:9
 returns-4 : tie.Need-returns-4
-returns-4 c = ?
+unfolding Lean.begin
+returns-4 c = ap (λ (u : World). all (u .0) (c .before .before .before .before .before .before .before .before .before .before .before .args .stack .now) (u .1)) (c .before .before .close-one .ensures) ∙ sym (skip-eq {A = All} _ _ _ _ (c .before .before .before .before .before .before .before .before .if1 .left) ∙ skip-eq {A = All} _ _ _ _ (c .before .before .before .before .before .before .before .if2 .left) ∙ skip-eq {A = All} _ _ _ _ (c .before .before .before .before .before .before .if3 .left) ∙ pick-eq {A = All} _ _ _ _ (c .before .before .before .before .before .if4 .taken))
 
 -- src/lib.rt:526:5
 begin-sign-requires : tie.Need-begin-sign-requires
@@ -63,7 +76,8 @@ begin-sign-requires c κs = search needs
 
 -- src/lib.rt:510:1
 returns-5 : tie.Need-returns-5
-returns-5 c = ?
+unfolding Lean.begin
+returns-5 c = ap (λ (z : Machine). all z (c .before .before .before .before .before .before .before .args .stack .now) (c .before .before .before .before .before .before .before .args .out .now)) (c .begin-sign .ensures) ∙ sym (skip-eq {A = All} _ _ _ _ (c .before .before .before .before .if1 .left) ∙ skip-eq {A = All} _ _ _ _ (c .before .before .before .if2 .left) ∙ skip-eq {A = All} _ _ _ _ (c .before .before .if3 .left) ∙ skip-eq {A = All} _ _ _ _ (c .before .if4 .left))
 
 pub begin-spec : {M : Type 1} → statement M
 begin-spec =

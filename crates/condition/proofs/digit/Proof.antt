@@ -1,3 +1,9 @@
+use Prim.Native.Nat.{ℕ, _+_, _-_, _*_, _≤_, _<_}
+use native.Mathlib.Omega.{arith}
+use mathlib.Core.Path.{_≡_, refl, sym, ap, _∙_, subst}
+use mathlib.Core.List.{List, [], _∷_, _++_}
+use lib.ListN.{length, take, drop, length-set}
+use Rattle.condition.proofs.Laws.{digit-above, digit-below}
 use Rattle.condition.proofs.digit.Statement.{statement}
 use Rattle.condition.proofs.digit.Tie as tie
 use Rattle.condition.proofs.digit.Reads as reads
@@ -5,11 +11,11 @@ use Rattle.condition.proofs.digit.Lts as lts
 
 -- src/lib.rt:386:9
 returns : tie.Need-returns
-returns c = ?
+returns c = digit-below (c .before .args .b) (c .if1 .taken)
 
 -- src/lib.rt:382:1
 returns-2 : tie.Need-returns-2
-returns-2 c = ?
+returns-2 c = digit-above (c .before .args .b) (omega arith)
 
 pub digit-spec : {M : Type 1} → statement M
 digit-spec = tie.close (tie.spec returns returns-2)

@@ -1,3 +1,11 @@
+use Prim.Native.Nat.{ℕ, _+_, _-_, _*_, _≤_, _<_}
+use native.Mathlib.Omega.{arith}
+use mathlib.Core.Path.{_≡_, refl, sym, ap, _∙_, subst}
+use mathlib.Core.List.{List, [], _∷_, _++_}
+use lib.ListN.{length, take, drop, length-set}
+use Rattle.condition.proofs.Laws.{pick-lt, skip-lt}
+use Rattle.condition.specs.Lean
+use Rattle.condition.specs.declared.Machine.{Machine}
 use borrow.Author.Needs.{needs}
 use Rattle.condition.proofs.more_digit.Statement.{statement}
 use Rattle.condition.proofs.more_digit.Tie as tie
@@ -12,7 +20,8 @@ stuck-requires c κs = search needs
 
 -- src/lib.rt:572:9
 returns : tie.Need-returns
-returns c = ?
+unfolding Lean.more-digit
+returns c = c .stuck .ensures ∙ sym (pick-lt {A = Machine} _ _ _ _ (c .before .if1 .taken))
 
 -- src/lib.rt:574:13
 mul-v : tie.Need-mul-v
@@ -32,11 +41,13 @@ stuck-requires-2 c κs = search needs
 
 -- src/lib.rt:577:9
 returns-2 : tie.Need-returns-2
-returns-2 c = ?
+unfolding Lean.more-digit
+returns-2 c = c .stuck2 .ensures ∙ sym (skip-lt {A = Machine} _ _ _ _ (c .before .before .before .before .if1 .left) ∙ pick-lt {A = Machine} _ _ _ _ (subst (λ (z : ℕ). z < c .before .before .before .before .before .before .args .m .value * 10 + c .before .before .before .before .before .before .args .d) (c .before .before .greatest .ensures) (c .before .if2 .taken)))
 
 -- src/lib.rt:567:1
 returns-3 : tie.Need-returns-3
-returns-3 c = ?
+unfolding Lean.more-digit
+returns-3 c = sym (skip-lt {A = Machine} _ _ _ _ (c .before .before .before .if1 .left) ∙ skip-lt {A = Machine} _ _ _ _ (subst (λ (z : ℕ). c .before .before .before .before .before .args .m .value * 10 + c .before .before .before .before .before .args .d ≤ z) (c .before .greatest .ensures) (c .if2 .left)))
 
 pub more-digit-spec : {M : Type 1} → statement M
 more-digit-spec =

@@ -1,3 +1,12 @@
+use Prim.Native.Nat.{ℕ, _+_, _-_, _*_, _≤_, _<_}
+use native.Mathlib.Omega.{arith}
+use mathlib.Core.Path.{_≡_, refl, sym, ap, _∙_, subst}
+use mathlib.Core.List.{List, [], _∷_, _++_}
+use lib.ListN.{length, take, drop, length-set}
+use Rattle.condition.proofs.Laws.{digit-high, digit-low, pick-b, skip-b}
+use Rattle.condition.specs.Lean.{World, all, All, begin}
+use Rattle.condition.specs.Lean
+use Rattle.condition.specs.declared.Machine.{Machine}
 use borrow.Author.Needs.{needs}
 use Rattle.condition.proofs.number.Statement.{statement}
 use Rattle.condition.proofs.number.Tie as tie
@@ -14,15 +23,16 @@ digit-requires c κs = search needs
 
 -- src/lib.rt:602:30
 sub-more-digit : tie.Need-sub-more-digit
-sub-more-digit c = ?
+sub-more-digit c = digit-low _ (sym (c .before .digit .ensures) ∙ c .if1 .taken)
 
 -- src/lib.rt:602:9
 more-digit-requires : tie.Need-more-digit-requires
-more-digit-requires c κs = ?
+more-digit-requires c κs = digit-high _ (sym (c .before .digit .ensures) ∙ c .if1 .taken)
 
 -- src/lib.rt:602:9
 returns : tie.Need-returns
-returns c = ?
+unfolding Lean.number
+returns c = ap (λ (z : Machine). all z (c .before .before .before .before .before .args .stack .now) (c .before .before .before .before .before .args .out .now)) (c .more-digit .ensures) ∙ sym (pick-b {A = All} _ _ _ (sym (c .before .before .digit .ensures) ∙ c .before .if1 .taken))
 
 -- src/lib.rt:604:9
 number-ends-requires : tie.Need-number-ends-requires
@@ -42,7 +52,8 @@ same-length-2 c = search needs
 
 -- src/lib.rt:597:1
 returns-2 : tie.Need-returns-2
-returns-2 c = ?
+unfolding Lean.number
+returns-2 c = c .before .before .before .before .begin .ensures ∙ ap (λ (u : World). begin (c .before .before .before .before .before .before .before .before .before .before .before .before .before .before .before .args .at) (c .before .before .before .before .before .before .before .before .before .before .before .before .before .before .before .args .b) (all (u .0) (c .before .before .before .before .before .before .before .before .before .before .before .before .before .before .before .args .stack .now) (u .1))) (c .before .before .before .before .before .before .before .before .before .number-ends .ensures) ∙ sym (skip-b {A = All} _ _ _ (sym (c .before .before .before .before .before .before .before .before .before .before .before .before .digit .ensures) ∙ c .before .before .before .before .before .before .before .before .before .before .before .if1 .left))
 
 pub number-spec : {M : Type 1} → statement M
 number-spec =

@@ -1,3 +1,12 @@
+use Prim.Native.Nat.{ℕ, _+_, _-_, _*_, _≤_, _<_}
+use native.Mathlib.Omega.{arith}
+use mathlib.Core.Path.{_≡_, refl, sym, ap, _∙_, subst}
+use mathlib.Core.List.{List, [], _∷_, _++_}
+use lib.ListN.{length, take, drop, length-set}
+use Rattle.condition.proofs.Laws.{number-last, pick-eq, skip-eq}
+use Rattle.condition.specs.Lean.{World, world, operand}
+use Rattle.condition.specs.Lean
+use Rattle.condition.specs.declared.Machine.{Machine}
 use borrow.Author.Needs.{needs}
 use Rattle.condition.proofs.number_ends.Statement.{statement}
 use Rattle.condition.proofs.number_ends.Tie as tie
@@ -21,7 +30,8 @@ same-length c = search needs
 
 -- src/lib.rt:549:9
 returns : tie.Need-returns
-returns c = ?
+unfolding Lean.number-ends
+returns c = c .before .before .operand .ensures ∙ ap (λ (z : Machine). operand 6 (c .before .before .before .before .before .before .before .before .args .m .value) 0 (world z (c .before .before .before .before .before .before .before .before .args .out .now))) (c .before .before .before .before .before .before .to-mode .ensures) ∙ sym (pick-eq {A = World} _ _ _ _ (c .before .before .before .before .if1 .taken))
 
 -- src/lib.rt:551:9
 signed-requires : tie.Need-signed-requires
@@ -37,7 +47,8 @@ same-length-2 c = search needs
 
 -- src/lib.rt:544:1
 returns-2 : tie.Need-returns-2
-returns-2 c = ?
+unfolding Lean.number-ends
+returns-2 c = number-last (c .before .before .before .before .before .before .before .before .before .args .m) _ _ _ _ _ (c .before .before .before .before .before .before .before .to-mode .ensures) (c .before .before .before .before .signed .ensures) (c .before .before .operand2 .ensures) ∙ sym (skip-eq {A = World} _ _ _ _ (c .before .before .before .before .before .if1 .left))
 
 pub number-ends-spec : {M : Type 1} → statement M
 number-ends-spec =

@@ -1,3 +1,12 @@
+use Prim.Native.Nat.{ℕ, _+_, _-_, _*_, _≤_, _<_}
+use native.Mathlib.Omega.{arith}
+use mathlib.Core.Path.{_≡_, refl, sym, ap, _∙_, subst}
+use mathlib.Core.List.{List, [], _∷_, _++_}
+use lib.ListN.{length, take, drop, length-set}
+use Rattle.condition.proofs.Laws.{pick-eq, pick-le, skip-eq, skip-le}
+use Rattle.condition.specs.Lean.{World, world}
+use Rattle.condition.specs.Lean
+use Rattle.condition.specs.declared.Machine.{Machine}
 use borrow.Author.Needs.{needs}
 use Rattle.condition.proofs.open_one.Statement.{statement}
 use Rattle.condition.proofs.open_one.Tie as tie
@@ -11,7 +20,8 @@ stuck-requires c κs = search needs
 
 -- src/lib.rt:444:9
 returns : tie.Need-returns
-returns c = ?
+unfolding Lean.open-one
+returns c = ap (λ (z : Machine). world z (c .before .before .before .before .args .stack .now)) (c .stuck .ensures) ∙ sym (skip-eq {A = World} _ _ _ _ (c .before .if1 .taken))
 
 -- src/lib.rt:447:9
 stuck-requires-2 : tie.Need-stuck-requires-2
@@ -19,7 +29,8 @@ stuck-requires-2 c κs = search needs
 
 -- src/lib.rt:447:9
 returns-2 : tie.Need-returns-2
-returns-2 c = ?
+unfolding Lean.open-one
+returns-2 c = ap (λ (z : Machine). world z (c .before .before .before .before .before .args .stack .now)) (c .stuck2 .ensures) ∙ sym (pick-eq {A = World} _ _ _ _ (c .before .before .if1 .left) ∙ pick-le {A = World} _ _ _ _ (c .before .if2 .taken))
 
 -- src/lib.rt:449:16
 cast-stack : tie.Need-cast-stack
@@ -79,7 +90,8 @@ same-length c = search needs
 
 -- src/lib.rt:439:1
 returns-3 : tie.Need-returns-3
-returns-3 c = ?
+unfolding Lean.open-one
+returns-3 c = sym (pick-eq {A = World} _ _ _ _ (c .before .before .before .before .before .if1 .left) ∙ skip-le {A = World} _ _ _ _ (c .before .before .before .before .if2 .left))
 
 pub open-one-spec : {M : Type 1} → statement M
 open-one-spec =

@@ -1,3 +1,10 @@
+use Prim.Native.Nat.{ℕ, _+_, _-_, _*_, _≤_, _<_}
+use native.Mathlib.Omega.{arith}
+use mathlib.Core.Path.{_≡_, refl, sym, ap, _∙_, subst}
+use mathlib.Core.List.{List, [], _∷_, _++_}
+use lib.ListN.{length, take, drop, length-set}
+use Rattle.condition.proofs.Laws.{pick-lt, skip-lt}
+use Rattle.condition.specs.Lean
 use borrow.Author.Needs.{needs}
 use Rattle.condition.proofs.reference.Statement.{statement}
 use Rattle.condition.proofs.reference.Tie as tie
@@ -6,7 +13,8 @@ use Rattle.condition.proofs.reference.Lts as lts
 
 -- src/lib.rt:614:9
 returns : tie.Need-returns
-returns c = ?
+unfolding Lean.reference
+returns c = sym (pick-lt {A = ℕ} _ _ _ _ (c .if1 .taken))
 
 -- src/lib.rt:616:12
 mul-result : tie.Need-mul-result
@@ -18,7 +26,8 @@ add-result c = search needs
 
 -- src/lib.rt:609:1
 returns-2 : tie.Need-returns-2
-returns-2 c = ?
+unfolding Lean.reference
+returns-2 c = sym (skip-lt {A = ℕ} _ _ _ _ (c .if1 .left))
 
 pub reference-spec : {M : Type 1} → statement M
 reference-spec = tie.close (tie.spec returns mul-result add-result returns-2)

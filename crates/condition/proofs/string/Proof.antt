@@ -1,3 +1,11 @@
+use Prim.Native.Nat.{ℕ, _+_, _-_, _*_, _≤_, _<_}
+use native.Mathlib.Omega.{arith}
+use mathlib.Core.Path.{_≡_, refl, sym, ap, _∙_, subst}
+use mathlib.Core.List.{List, [], _∷_, _++_}
+use lib.ListN.{length, take, drop, length-set}
+use Rattle.condition.proofs.Laws.{pick-eq, skip-eq, string-last}
+use Rattle.condition.specs.Lean.{World}
+use Rattle.condition.specs.Lean
 use borrow.Author.Needs.{needs}
 use Rattle.condition.proofs.string.Statement.{statement}
 use Rattle.condition.proofs.string.Tie as tie
@@ -9,7 +17,8 @@ use Rattle.condition.proofs.to_mode.Reads as to-mode-reads
 
 -- src/lib.rt:624:9
 returns : tie.Need-returns
-returns c = ?
+unfolding Lean.string
+returns c = sym (skip-eq {A = World} _ _ _ _ (c .if1 .taken))
 
 -- src/lib.rt:626:9
 to-mode-requires : tie.Need-to-mode-requires
@@ -29,7 +38,8 @@ same-length c = search needs
 
 -- src/lib.rt:619:1
 returns-2 : tie.Need-returns-2
-returns-2 c = ?
+unfolding Lean.string
+returns-2 c = string-last (c .before .before .before .before .before .before .before .before .args .m) _ _ _ _ _ (c .before .before .before .before .before .to-mode .ensures) (c .before .before .before .before .reference .ensures) (c .before .before .operand .ensures) ∙ sym (pick-eq {A = World} _ _ _ _ (c .before .before .before .before .before .before .if1 .left))
 
 pub string-spec : {M : Type 1} → statement M
 string-spec =

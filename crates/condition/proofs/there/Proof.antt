@@ -1,3 +1,10 @@
+use Prim.Native.Nat.{ℕ, _+_, _-_, _*_, _≤_, _<_}
+use native.Mathlib.Omega.{arith}
+use mathlib.Core.Path.{_≡_, refl, sym, ap, _∙_, subst}
+use mathlib.Core.List.{List, [], _∷_, _++_}
+use lib.ListN.{length, take, drop, length-set}
+use Rattle.condition.proofs.Laws.{pick-eq, skip-eq}
+use mathlib.Core.Bool.{Bool}
 use Rattle.condition.proofs.there.Statement.{statement}
 use Rattle.condition.proofs.there.Tie as tie
 use Rattle.condition.proofs.there.Reads as reads
@@ -5,11 +12,11 @@ use Rattle.condition.proofs.there.Lts as lts
 
 -- src/lib.rt:485:9
 returns : tie.Need-returns
-returns c = ?
+returns c = sym (pick-eq {A = Bool} _ _ _ _ (c .if1 .taken))
 
 -- src/lib.rt:481:1
 returns-2 : tie.Need-returns-2
-returns-2 c = ?
+returns-2 c = sym (skip-eq {A = Bool} _ _ _ _ (c .before .if1 .left))
 
 pub there-spec : {M : Type 1} → statement M
 there-spec = tie.close (tie.spec returns returns-2)
