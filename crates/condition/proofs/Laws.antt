@@ -6,14 +6,16 @@ use mathlib.Core.Path.{_≡_, refl, sym, ap, _∙_}
 use mathlib.Core.Bool.{Bool, true, false, _&&_, cond}
 use mathlib.Core.List.{List, [], _∷_, _++_, append-assoc}
 use lib.Dec.{leb, ltb, eqb}
-use lib.ListN.{length, length-append, getD}
+use native.Mathlib.Numerals.{add-one}
+use lib.ListN.{length, length-append, getD, drop}
+use lib.Seq.{drop-cons, drop-nil}
 use borrow.Author.Tests.{lt-ltb, le-ltb, le-leb, lt-leb, leb-true, eq-eqb, ne-eqb}
 use Rattle.sheet.specs.Bytes.{bytes}
 use Rattle.sheet_laws.specs.Content.{and-left, and-right}
 use Rattle.grammar.specs.Parts.{digit}
 use Rattle.encode.specs.Encode.{written}
 use Rattle.encode.proofs.Written.{chain, length-bytes}
-use Rattle.condition.specs.Lean.{World, world, to-mode, stuck, to-stage, counted, four-words, if-room, put-in, put-times, put-nots, put-and, put-or, conjoin, disjoin, compared, fill, operand, and-before, or-before, closed, behind-and, behind-or, behind-is, with-nots, one-more-not, null-word, other-word, word, next-letters, last-letters, reopened, closes, ended, signed, reference}
+use Rattle.condition.specs.Lean.{World, world, to-mode, stuck, to-stage, counted, four-words, if-room, put-in, put-times, put-nots, put-and, put-or, conjoin, disjoin, compared, fill, operand, and-before, or-before, closed, behind-and, behind-or, behind-is, with-nots, one-more-not, null-word, other-word, word, next-letters, last-letters, reopened, closes, ended, signed, reference, All, all, placed, step, finish, at-end, run}
 use Rattle.condition.specs.declared.Machine.{Machine}
 
 -- ---- which side of a test
@@ -212,3 +214,52 @@ number-last m p out bits s v h g f =
 pub string-last : (m p : Machine) (out : List ℕ) (a s : ℕ) (v : World) → p ≡ to-mode 0 m → a ≡ s → v ≡ operand 5 a 0 (world p out)
     → v ≡ operand 5 s 0 (world (to-mode 0 m) out)
 string-last m p out a s v h g f = f ∙ ap (λ (b : ℕ). operand 5 b 0 (world p out)) g ∙ ap (λ (z : Machine). operand 5 s 0 (world z out)) h
+
+-- ---- the text, byte by byte
+
+-- What is left to read leads to the same end.
+pub record Running (text : List ℕ) (i : ℕ) (s : All) (end : World) : Type 0 where
+  pub inside : i ≤ length text
+  pub leads : run i (drop i text) s ≡ end
+
+pub running-start : (text : List ℕ) (s : All) → Running text 0 s (run 0 text s)
+running-start text s = record { inside = omega arith; leads = refl }
+
+-- the run at a byte
+at-byte : (text : List ℕ) (i : ℕ) (s t : All) (end : World) → i < length text → t ≡ step i (getD text i 0) s → Running text i s end
+    → cond (eqb (t .0 .mode) 24) (placed i (t .0), t .2) (run (i + 1) (drop (suc i) text) t) ≡ end
+unfolding run
+at-byte text i s t end h e r =
+    ap (λ (z : All). cond (eqb (z .0 .mode) 24) (placed i (z .0), z .2) (run (i + 1) (drop (suc i) text) z)) e
+    ∙ ap (λ (l : List ℕ). run i l s) (sym (drop-cons text i 0 h)) ∙ r .leads
+
+pub running-stuck : (text : List ℕ) (i : ℕ) (s t : All) (end : World) (p : Machine) → i < length text → t ≡ step i (getD text i 0) s → t .0 .mode ≡ 24
+    → p ≡ placed i (t .0) → Running text i s end → world p (t .2) ≡ end
+running-stuck text i s t end p h e k g r =
+    ap (λ (z : Machine). world z (t .2)) g ∙ sym (pick-eq {A = World} (t .0 .mode) 24 _ _ k) ∙ at-byte text i s t end h e r
+
+pub running-next : (text : List ℕ) (i : ℕ) (s t : All) (end : World) → i < length text → t ≡ step i (getD text i 0) s → (t .0 .mode ≡ 24 → ⊥)
+    → Running text i s end → Running text (i + 1) t end
+running-next text i s t end h e k r =
+    record {
+      inside = omega arith;
+      leads = ap (λ (j : ℕ). run (i + 1) (drop j text) t) (add-one i) ∙ sym (skip-eq {A = World} (t .0 .mode) 24 _ _ k) ∙ at-byte text i s t end h e r;
+    }
+
+drop-all : (l : List ℕ) (i : ℕ) → length l ≤ i → drop i l ≡ []
+drop-all [] i h = drop-nil i
+drop-all (x ∷ l) zero h = absurd (omega arith)
+drop-all (x ∷ l) (suc i) h = let k : length l ≤ i = omega arith in drop-all l i k
+
+pub running-end : (text : List ℕ) (i : ℕ) (s : All) (end v : World) → length text ≤ i → v ≡ finish (s .0, s .2) → Running text i s end → at-end i v ≡ end
+unfolding run
+running-end text i s end v h e r =
+    ap (at-end i) e ∙ ap (λ (l : List ℕ). run i l s) (sym (drop-all text i h)) ∙ r .leads
+
+pub end-stuck : (i : ℕ) (v : World) (p : Machine) → v .0 .mode ≡ 24 → p ≡ placed i (v .0) → world p (v .1) ≡ at-end i v
+unfolding at-end
+end-stuck i v p k g = ap (λ (z : Machine). world z (v .1)) g ∙ sym (pick-eq {A = World} (v .0 .mode) 24 _ _ k)
+
+pub end-well : (i : ℕ) (v : World) → (v .0 .mode ≡ 24 → ⊥) → v ≡ at-end i v
+unfolding at-end
+end-well i v k = sym (skip-eq {A = World} (v .0 .mode) 24 _ _ k)

@@ -335,3 +335,18 @@ unfolding ends number-ends
 finish w =
     cond (ltb (w .0 .mode) 2) (ends w)
     (cond (ltb (w .0 .mode) 4) (stuck (w .0), w .1) (cond (ltb (w .0 .mode) 7) (ends (number-ends w)) (stuck (w .0), w .1)))
+
+abbrev pub start : Machine
+start = record { mode = 0; value = 0; stage = 0; ors = 0; ands = 0; nots = 0; left = 0; depth = 0; cells = 0 }
+
+abbrev pub placed : ℕ → Machine → Machine
+placed place m = valued (m .mode) place m
+
+-- The machine after the whole text, or stuck, with the place.
+unfoldable pub at-end : ℕ → World → World
+at-end at w = cond (eqb (w .0 .mode) 24) (placed at (w .0), w .1) w
+
+unfoldable pub run : ℕ → List ℕ → All → World
+unfolding step finish at-end
+run at [] s = at-end at (finish (s .0, s .2))
+run at (b ∷ text) s = cond (eqb (step at b s .0 .mode) 24) (placed at (step at b s .0), step at b s .2) (run (at + 1) text (step at b s))

@@ -1,6 +1,6 @@
 // Conditions typed as text: the machine of the definitions (crate grammar, Machine), with numbers in the trees' place. The cells are written as they are
 // read.
-use checker::Answer;
+
 ghost use mathlib.Core.Path.{_≡_};
 ghost use Prim.Native.Nat.{_+_, _*_, _≤_, _<_};
 ghost use lib.ListN.{length};
@@ -630,6 +630,12 @@ fn string(m: Machine, at: usize, b: usize, out: &mut [u8]) -> Machine
 
 // ---- the whole text
 
+fn wide(b: u8) -> usize
+    ensures { λ r. ⌜ r ≡ b ⌝ }
+{
+    b as usize
+}
+
 // The state after byte number `at` of the text, b.
 fn step(m: Machine, at: usize, b: usize, stack: &mut [u64], out: &mut [u8]) -> Machine
     requires { ⌜ at < 8192 ⌝ }
@@ -678,4 +684,45 @@ fn finish(m: Machine, out: &mut [u8]) -> Machine
         return ends(p, out);
     }
     stuck(m)
+}
+
+// The machine with a place in its value.
+fn placed(m: Machine, place: usize) -> Machine
+    ensures { λ r. ⌜ r ≡ Lean.placed place m ⌝ }
+{
+    let mut r = m;
+    r.value = place;
+    r
+}
+
+// The machine after the whole text, with its cells written where there is room; or stuck, with the place.
+pub fn run(text: &[u8], stack: &mut [u64], out: &mut [u8]) -> Machine
+    requires { ⌜ length (now text) ≤ 8192 ⌝ }
+    ensures { λ r. ⌜ world r (now (out .exit)) ≡ Lean.run 0 (now (text .entry)) (all Lean.start (now (stack .entry)) (now (out .entry))) ⌝ }
+{
+    let mut m = Machine {
+        mode: 0,
+        value: 0,
+        stage: 0,
+        ors: 0,
+        ands: 0,
+        nots: 0,
+        left: 0,
+        depth: 0,
+        cells: 0,
+    };
+    let mut i: usize = 0;
+    while i < text.len() {
+        let b = wide(text[i]);
+        m = step(m, i, b, stack, out);
+        if m.mode == 24 {
+            return placed(m, i);
+        }
+        i += 1;
+    }
+    let p = finish(m, out);
+    if p.mode == 24 {
+        return placed(p, i);
+    }
+    p
 }
