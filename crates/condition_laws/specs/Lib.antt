@@ -1,2 +1,5 @@
 pub mod Drawn
 pub mod Settled
+pub mod Bytes
+pub mod Follows
+pub mod Begin
