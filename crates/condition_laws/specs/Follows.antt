@@ -144,7 +144,11 @@ module _ (out₀ : List ℕ) where
       → Lean.word 17 (at-position out₀ 1 v (want (record { before = b; left = left }) st)) ≡ at-position out₀ 1 v q
   unfolding Lean.word
   not-word b none st q v h e =
-      same-some _ (ap (λ (t : Bool). world (cond t (lean 1 v _ (want (record { before = b; left = none }) st)) (Lean.with-nots (b .nots + 1) (lean 1 v _ (want (record { before = b; left = none }) st)))) _) (lt-leb 8192 (b .nots) h) ∙ ap (λ (n : ℕ). at-position out₀ 1 v (want (record { before = record { ors = b .ors; ands = b .ands; nots = n }; left = none }) st)) (add-one (b .nots))) e
+      let m : Machine = at-position out₀ 1 v (want (record { before = b; left = none }) st) .0 in
+      let out : List ℕ = at-position out₀ 1 v (want (record { before = b; left = none }) st) .1 in
+      same-some _
+        (ap (λ (t : Bool). world (cond t m (Lean.with-nots (b .nots + 1) m)) out) (lt-leb 8192 (b .nots) h)
+        ∙ ap (λ (n : ℕ). at-position out₀ 1 v (want (record { before = record { ors = b .ors; ands = b .ands; nots = n }; left = none }) st)) (add-one (b .nots))) e
   not-word b (some l) st q v h e = nowhere q e
 
   pub word-follows : (w : Word) (p q : Position) (v : ℕ) → before-of p .nots < 8192 → feed p (word w) ≡ some q
