@@ -31,7 +31,7 @@ module _ (out₀ : List ℕ) (at v : ℕ) (stack : List ℕ) (behind : Bool) whe
   abbrev pub Begins : ℕ → Position → Type 0
   Begins b p = Steps out₀ (begin (class b) at b behind p) (suc at) (Lean.begin at b (stands out₀ stack (behind-mode behind) v p))
 
-  quote-follows : (p : Position) → Holds at p stack → Begins 39 p
+  pub quote-follows : (p : Position) → Holds at p stack → Begins 39 p
   unfolding class Lean.begin
   quote-follows (want slot st) h =
       subst (λ (n : ℕ). Sim out₀ (in-string (suc at) [] slot st) (suc at) (stands out₀ stack 7 n (want slot st))) (sym (add-one at))
@@ -46,21 +46,21 @@ module _ (out₀ : List ℕ) (at v : ℕ) (stack : List ℕ) (behind : Bool) whe
       sim-between false (want (record { before = b; left = some (o, e) }) st) v stack
         (let n : b .nots ≤ at = h .nots in next-holds at (have b true e st) (want (record { before = b; left = some (o, e) }) st) stack refl (omega arith) h)
 
-  equal-follows : (p : Position) → Holds at p stack → Begins 61 p
+  pub equal-follows : (p : Position) → Holds at p stack → Begins 61 p
   unfolding class Lean.begin
   equal-follows (want slot st) h = refl
   equal-follows (have b true e st) h = sign-follows equal b e st h
   equal-follows (have b false e st) h = refl
   equal-follows (is b e st) h = refl
 
-  less-follows : (p : Position) → Holds at p stack → Begins 60 p
+  pub less-follows : (p : Position) → Holds at p stack → Begins 60 p
   unfolding class Lean.begin
   less-follows (want slot st) h = refl
   less-follows (have b true e st) h = sign-follows less b e st h
   less-follows (have b false e st) h = refl
   less-follows (is b e st) h = refl
 
-  greater-follows : (p : Position) → Holds at p stack → Begins 62 p
+  pub greater-follows : (p : Position) → Holds at p stack → Begins 62 p
   unfolding class Lean.begin
   greater-follows (want slot st) h = refl
   greater-follows (have b true e st) h = sign-follows greater b e st h
@@ -69,7 +69,7 @@ module _ (out₀ : List ℕ) (at v : ℕ) (stack : List ℕ) (behind : Bool) whe
 
   -- ---- parentheses
 
-  open-follows : (p : Position) → at < 8192 → Holds at p stack → Begins 40 p
+  pub open-follows : (p : Position) → at < 8192 → Holds at p stack → Begins 40 p
   unfolding class Lean.begin
   open-follows (want slot st) l h =
       let deep : length st ≤ at = h .deep in
@@ -176,7 +176,7 @@ module _ (out₀ : List ℕ) (at v : ℕ) (stack : List ℕ) (behind : Bool) whe
           } in
       subst (λ (w : World). Sim out₀ (between false q) (suc at) (beside stack w)) (sym (close-passes b more e slot st l h t)) (sim-between false q 0 stack holds)
 
-  close-follows : (p : Position) → at < 8192 → Holds at p stack → Begins 41 p
+  pub close-follows : (p : Position) → at < 8192 → Holds at p stack → Begins 41 p
   unfolding class Lean.begin
   close-follows (want slot st) l h = refl
   close-follows (have b true e []) l h = refl

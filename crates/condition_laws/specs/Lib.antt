@@ -3,3 +3,4 @@ pub mod Settled
 pub mod Bytes
 pub mod Follows
 pub mod Begin
+pub mod Letters
