@@ -149,7 +149,7 @@ module _ (out₀ : List ℕ) (at v : ℕ) (stack : List ℕ) (behind : Bool) whe
       pick-b {A = World} _ _ _ t ∙ skip-b {A = World} _ _ _ (ne-eqb (suc (length st)) 0 (λ z. omega arith))
       ∙ skip-b {A = World} _ _ _ (le-ltb (length stack) (suc (length st)) (omega arith)) ∙ closes-follows b more e slot st l h
 
-  fill-stack : (slot : Slot) (e : Expression) (st : Stack) → (stack-of (fill slot e st) ≡ st) × (before-of (fill slot e st) .nots ≡ slot .before .nots)
+  pub fill-stack : (slot : Slot) (e : Expression) (st : Stack) → (stack-of (fill slot e st) ≡ st) × (before-of (fill slot e st) .nots ≡ slot .before .nots)
   fill-stack slot e st = go (slot .left)
     where
       go : (left : Option (Sign × Expression)) → (stack-of (fill-beside (slot .before) left e st) ≡ st) × (before-of (fill-beside (slot .before) left e st) .nots ≡ slot .before .nots)

@@ -73,14 +73,78 @@ number-mode plain = 4
 number-mode minus = 5
 number-mode hash = 6
 
--- the letters to come in the modes from 8 to 22, and the word
-abbrev pub letters-left : ℕ → List ℕ
-letters-left k = getD (
-    (82 ∷ 85 ∷ 69 ∷ []) ∷ (85 ∷ 69 ∷ []) ∷ (69 ∷ []) ∷ (65 ∷ 76 ∷ 83 ∷ 69 ∷ []) ∷ (76 ∷ 83 ∷ 69 ∷ []) ∷ (83 ∷ 69 ∷ []) ∷ (69 ∷ []) ∷ (76 ∷ 76 ∷ []) ∷ (76 ∷ []) ∷ (84 ∷ [])
-    ∷ (78 ∷ []) ∷ (78 ∷ 68 ∷ []) ∷ (68 ∷ []) ∷ (82 ∷ []) ∷ (83 ∷ []) ∷ []) (k - 8) []
+-- Where a word is read: behind these letters.
+pub data Node : Type 0 where
+  after-t after-tr after-tru after-f after-fa after-fal after-fals after-nu after-nul after-no after-na after-a after-an after-o after-i : Node
 
-abbrev pub word-at : ℕ → Word
-word-at k = getD (TRUE ∷ TRUE ∷ TRUE ∷ FALSE ∷ FALSE ∷ FALSE ∷ FALSE ∷ NULL ∷ NULL ∷ NOT ∷ NAN ∷ AND ∷ AND ∷ OR ∷ IS ∷ []) (k - 8) IS
+abbrev pub node-mode : Node → ℕ
+node-mode after-t = 8
+node-mode after-tr = 9
+node-mode after-tru = 10
+node-mode after-f = 11
+node-mode after-fa = 12
+node-mode after-fal = 13
+node-mode after-fals = 14
+node-mode after-nu = 15
+node-mode after-nul = 16
+node-mode after-no = 17
+node-mode after-na = 18
+node-mode after-a = 19
+node-mode after-an = 20
+node-mode after-o = 21
+node-mode after-i = 22
+
+-- the letter that comes next, those behind it, and the word
+abbrev pub first-of : Node → ℕ
+first-of after-t = 82
+first-of after-tr = 85
+first-of after-tru = 69
+first-of after-f = 65
+first-of after-fa = 76
+first-of after-fal = 83
+first-of after-fals = 69
+first-of after-nu = 76
+first-of after-nul = 76
+first-of after-no = 84
+first-of after-na = 78
+first-of after-a = 78
+first-of after-an = 68
+first-of after-o = 82
+first-of after-i = 83
+
+abbrev pub rest-of : Node → List ℕ
+rest-of after-t = 85 ∷ 69 ∷ []
+rest-of after-tr = 69 ∷ []
+rest-of after-tru = []
+rest-of after-f = 76 ∷ 83 ∷ 69 ∷ []
+rest-of after-fa = 83 ∷ 69 ∷ []
+rest-of after-fal = 69 ∷ []
+rest-of after-fals = []
+rest-of after-nu = 76 ∷ []
+rest-of after-nul = []
+rest-of after-no = []
+rest-of after-na = []
+rest-of after-a = 68 ∷ []
+rest-of after-an = []
+rest-of after-o = []
+rest-of after-i = []
+
+abbrev pub word-at : Node → Word
+word-at after-t = TRUE
+word-at after-tr = TRUE
+word-at after-tru = TRUE
+word-at after-f = FALSE
+word-at after-fa = FALSE
+word-at after-fal = FALSE
+word-at after-fals = FALSE
+word-at after-nu = NULL
+word-at after-nul = NULL
+word-at after-no = NOT
+word-at after-na = NAN
+word-at after-a = AND
+word-at after-an = AND
+word-at after-o = OR
+word-at after-i = IS
 
 abbrev pub behind-mode : Bool → ℕ
 behind-mode true = 1
@@ -93,8 +157,8 @@ module _ (out₀ : List ℕ) where
   pub data Sim : State → ℕ → All → Type 0 where
     sim-between : {at : ℕ} (behind : Bool) (p : Position) (v : ℕ) (stack : List ℕ) → Holds at p stack
         → Sim (between behind p) at (stands stack (behind-mode behind) v p)
-    sim-word : {at : ℕ} (k c : ℕ) (l : List ℕ) (p q : Position) (v : ℕ) (stack : List ℕ) → Holds at p stack → 8 ≤ k → k ≤ 22 → letters-left k ≡ c ∷ l
-        → feed p (word (word-at k)) ≡ some q → Sim (in-word c l q []) at (stands stack k v p)
+    sim-word : {at : ℕ} (k : Node) (p q : Position) (v : ℕ) (stack : List ℕ) → Holds at p stack → feed p (word (word-at k)) ≡ some q
+        → Sim (in-word (first-of k) (rest-of k) q []) at (stands stack (node-mode k) v p)
     sim-n : {at : ℕ} (p : Position) (s : State) (v : ℕ) (stack : List ℕ) → Holds at p stack → after-letter (narrow 78 (candidates p)) ≡ some s → Sim s at (stands stack 23 v p)
     sim-minus : {at : ℕ} (slot : Slot) (st : Stack) (v : ℕ) (stack : List ℕ) → Holds at (want slot st) stack → Sim (begun minus slot st) at (stands stack 2 v (want slot st))
     sim-hash : {at : ℕ} (slot : Slot) (st : Stack) (v : ℕ) (stack : List ℕ) → Holds at (want slot st) stack → Sim (begun hash slot st) at (stands stack 3 v (want slot st))

@@ -17,7 +17,7 @@ use Rattle.condition.specs.Lean.{World, world, All, all, beside}
 use Rattle.condition.specs.declared.Machine.{Machine}
 use Rattle.condition_laws.specs.Drawn.{has, sign-tag, left-tag, before-of, left-of, stack-of, stage-of, lean, at-position}
 use Rattle.condition_laws.specs.Bytes.{pick-b, skip-b, Other, Seen, seen-space, seen-quote, seen-opening, seen-closing, seen-equal, seen-less, seen-greater, seen-minus, seen-hash, seen-t, seen-f, seen-n, seen-a, seen-o, seen-i, seen-digit, seen-other, class-digit, class-other, begins-digit, begins-other}
-use Rattle.condition_laws.specs.Follows.{Holds, behind-mode, stands, Sim, sim-between, sim-word, sim-n, sim-minus, sim-hash, sim-number, sim-string, Steps}
+use Rattle.condition_laws.specs.Follows.{after-t, after-f, after-a, after-o, after-i, Holds, behind-mode, stands, Sim, sim-between, sim-word, sim-n, sim-minus, sim-hash, sim-number, sim-string, Steps}
 use Rattle.condition_laws.specs.Begin.{hold, Begins, quote-follows, equal-follows, less-follows, greater-follows, open-follows, close-follows}
 
 module _ (out₀ : List ℕ) (at v : ℕ) (stack : List ℕ) where
@@ -47,8 +47,8 @@ module _ (out₀ : List ℕ) (at v : ℕ) (stack : List ℕ) where
   t-follows-wanted : (b : Before) (left : Option (Sign × Expression)) (st : Stack) → Holds at (want (record { before = b; left = left }) st) stack
       → Begins out₀ at v stack false 84 (want (record { before = b; left = left }) st)
   unfolding class Lean.begin
-  t-follows-wanted b none st h = sim-word 8 82 (85 ∷ 69 ∷ []) (want (record { before = b; left = none }) st) _ 0 stack (hold h) (omega arith) (omega arith) refl refl
-  t-follows-wanted b (some l) st h = sim-word 8 82 (85 ∷ 69 ∷ []) (want (record { before = b; left = (some l) }) st) _ 0 stack (hold h) (omega arith) (omega arith) refl refl
+  t-follows-wanted b none st h = sim-word after-t (want (record { before = b; left = none }) st) _ 0 stack (hold h) refl
+  t-follows-wanted b (some l) st h = sim-word after-t (want (record { before = b; left = (some l) }) st) _ 0 stack (hold h) refl
 
   t-follows : (behind : Bool) (p : Position) → Holds at p stack → Begins out₀ at v stack behind 84 p
   unfolding class Lean.begin
@@ -64,8 +64,8 @@ module _ (out₀ : List ℕ) (at v : ℕ) (stack : List ℕ) where
   f-follows-wanted : (b : Before) (left : Option (Sign × Expression)) (st : Stack) → Holds at (want (record { before = b; left = left }) st) stack
       → Begins out₀ at v stack false 70 (want (record { before = b; left = left }) st)
   unfolding class Lean.begin
-  f-follows-wanted b none st h = sim-word 11 65 (76 ∷ 83 ∷ 69 ∷ []) (want (record { before = b; left = none }) st) _ 0 stack (hold h) (omega arith) (omega arith) refl refl
-  f-follows-wanted b (some l) st h = sim-word 11 65 (76 ∷ 83 ∷ 69 ∷ []) (want (record { before = b; left = (some l) }) st) _ 0 stack (hold h) (omega arith) (omega arith) refl refl
+  f-follows-wanted b none st h = sim-word after-f (want (record { before = b; left = none }) st) _ 0 stack (hold h) refl
+  f-follows-wanted b (some l) st h = sim-word after-f (want (record { before = b; left = (some l) }) st) _ 0 stack (hold h) refl
 
   f-follows : (behind : Bool) (p : Position) → Holds at p stack → Begins out₀ at v stack behind 70 p
   unfolding class Lean.begin
@@ -91,8 +91,8 @@ module _ (out₀ : List ℕ) (at v : ℕ) (stack : List ℕ) where
   a-follows true (have b false e st) h = refl
   a-follows true (is b e st) h = refl
   a-follows false (want slot st) h = a-follows-wanted (slot .before) (slot .left) st h
-  a-follows false (have b true e st) h = sim-word 19 78 (68 ∷ []) (have b true e st) _ v stack (hold h) (omega arith) (omega arith) refl refl
-  a-follows false (have b false e st) h = sim-word 19 78 (68 ∷ []) (have b false e st) _ v stack (hold h) (omega arith) (omega arith) refl refl
+  a-follows false (have b true e st) h = sim-word after-a (have b true e st) _ v stack (hold h) refl
+  a-follows false (have b false e st) h = sim-word after-a (have b false e st) _ v stack (hold h) refl
   a-follows false (is b e st) h = refl
 
   o-follows-wanted : (b : Before) (left : Option (Sign × Expression)) (st : Stack) → Holds at (want (record { before = b; left = left }) st) stack
@@ -108,8 +108,8 @@ module _ (out₀ : List ℕ) (at v : ℕ) (stack : List ℕ) where
   o-follows true (have b false e st) h = refl
   o-follows true (is b e st) h = refl
   o-follows false (want slot st) h = o-follows-wanted (slot .before) (slot .left) st h
-  o-follows false (have b true e st) h = sim-word 21 82 ([]) (have b true e st) _ v stack (hold h) (omega arith) (omega arith) refl refl
-  o-follows false (have b false e st) h = sim-word 21 82 ([]) (have b false e st) _ v stack (hold h) (omega arith) (omega arith) refl refl
+  o-follows false (have b true e st) h = sim-word after-o (have b true e st) _ v stack (hold h) refl
+  o-follows false (have b false e st) h = sim-word after-o (have b false e st) _ v stack (hold h) refl
   o-follows false (is b e st) h = refl
 
   i-follows-wanted : (b : Before) (left : Option (Sign × Expression)) (st : Stack) → Holds at (want (record { before = b; left = left }) st) stack
@@ -125,7 +125,7 @@ module _ (out₀ : List ℕ) (at v : ℕ) (stack : List ℕ) where
   i-follows true (have b false e st) h = refl
   i-follows true (is b e st) h = refl
   i-follows false (want slot st) h = i-follows-wanted (slot .before) (slot .left) st h
-  i-follows false (have b true e st) h = sim-word 22 83 ([]) (have b true e st) _ v stack (hold h) (omega arith) (omega arith) refl refl
+  i-follows false (have b true e st) h = sim-word after-i (have b true e st) _ v stack (hold h) refl
   i-follows false (have b false e st) h = refl
   i-follows false (is b e st) h = refl
 

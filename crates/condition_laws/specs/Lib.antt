@@ -4,3 +4,5 @@ pub mod Bytes
 pub mod Follows
 pub mod Begin
 pub mod Letters
+pub mod Step
+pub mod Runs
