@@ -6,3 +6,4 @@ pub mod Begin
 pub mod Letters
 pub mod Step
 pub mod Runs
+pub mod Written
