@@ -7,3 +7,4 @@ pub mod Letters
 pub mod Step
 pub mod Runs
 pub mod Written
+pub mod Answers
