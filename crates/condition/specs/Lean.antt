@@ -75,18 +75,20 @@ disjoin w = put-or (conjoin w)
 
 -- The operand whose cells are there stands in its place.
 abbrev pub compared : World → World
-compared w =
-    (record {
-      mode = w .0 .mode;
-      value = w .0 .value;
-      stage = 2;
-      ors = w .0 .ors;
-      ands = w .0 .ands;
-      nots = w .0 .nots;
-      left = 0;
-      depth = w .0 .depth;
-      cells = w .0 .cells;
-    }, w .1)
+compared w = (
+  record {
+    mode = w .0 .mode;
+    value = w .0 .value;
+    stage = 2;
+    ors = w .0 .ors;
+    ands = w .0 .ands;
+    nots = w .0 .nots;
+    left = 0;
+    depth = w .0 .depth;
+    cells = w .0 .cells;
+  },
+  w .1,
+)
 
 unfoldable pub fill : World → World
 unfolding put-in
@@ -162,7 +164,7 @@ unfoldable pub letter-in : (mode b : ℕ) → World → World
 unfolding word
 letter-in mode b w =
     cond (eqb (getD next-letters (mode - 8) 0) b)
-      (cond (eqb (getD last-letters (mode - 8) 0) 1) (word mode (to-mode 1 (w .0), w .1)) (to-mode (mode + 1) (w .0), w .1)) (stuck (w .0), w .1)
+    (cond (eqb (getD last-letters (mode - 8) 0) 1) (word mode (to-mode 1 (w .0), w .1)) (to-mode (mode + 1) (w .0), w .1)) (stuck (w .0), w .1)
 
 unfoldable pub letter : ℕ → World → World
 unfolding letter-in letter-of-n
@@ -225,7 +227,7 @@ inner d m = record { mode = 0; value = 0; stage = 0; ors = 0; ands = 0; nots = 0
 unfoldable pub open-one : World → World
 open-one w =
     cond (eqb (w .0 .stage) 0)
-      (cond (leb (length (w .1)) (w .0 .depth)) (stuck (w .0), w .1) (inner (w .0 .depth) (w .0), set (w .1) (w .0 .depth) (entry (w .0)))) (stuck (w .0), w .1)
+    (cond (leb (length (w .1)) (w .0 .depth)) (stuck (w .0), w .1) (inner (w .0 .depth) (w .0), set (w .1) (w .0 .depth) (entry (w .0)))) (stuck (w .0), w .1)
 
 abbrev pub reopened : (e d : ℕ) → Machine → Machine
 reopened e d m =
@@ -252,8 +254,8 @@ unfoldable pub close-one : List ℕ → World → World
 unfolding fill put-or put-and put-times
 close-one stack w =
     cond (there (w .0))
-      (cond (eqb (w .0 .depth) 0) (stuck (w .0), w .1)
-      (cond (ltb (length stack) (w .0 .depth)) (stuck (w .0), w .1) (closes (getD stack (w .0 .depth - 1) 0) (w .0 .depth - 1) w))) (stuck (w .0), w .1)
+    (cond (eqb (w .0 .depth) 0) (stuck (w .0), w .1)
+    (cond (ltb (length stack) (w .0 .depth)) (stuck (w .0), w .1) (closes (getD stack (w .0 .depth - 1) 0) (w .0 .depth - 1) w))) (stuck (w .0), w .1)
 
 -- The machine, its stack and the output.
 abbrev pub All : Type 0
@@ -281,7 +283,7 @@ unfoldable pub number-ends : World → World
 unfolding signed fill put-in
 number-ends w =
     cond (eqb (w .0 .mode) 6) (operand 6 (w .0 .value) 0 (to-mode 1 (w .0), w .1))
-      (operand 3 (signed (w .0 .mode) (w .0 .value) % 4294967296) (signed (w .0 .mode) (w .0 .value) / 4294967296) (to-mode 1 (w .0), w .1))
+    (operand 3 (signed (w .0 .mode) (w .0 .value) % 4294967296) (signed (w .0 .mode) (w .0 .value) / 4294967296) (to-mode 1 (w .0), w .1))
 
 unfoldable pub greatest : ℕ → ℕ
 greatest mode = cond (eqb mode 4) 9223372036854775807 (cond (eqb mode 5) 9223372036854775808 4294967295)

@@ -446,7 +446,10 @@ fn open_one(m: Machine, stack: &mut [u64]) -> Machine
     if stack.len() <= d {
         return stuck(m);
     }
-    stack[d] = m.ors as u64 + 256 * (m.ands as u64) + 65536 * (m.left as u64) + 16777216 * (m.nots as u64);
+    stack[d] = m.ors as u64
+        + 256 * (m.ands as u64)
+        + 65536 * (m.left as u64)
+        + 16777216 * (m.nots as u64);
     Machine {
         mode: 0,
         value: 0,

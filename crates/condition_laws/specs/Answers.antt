@@ -38,6 +38,7 @@ count-of e n o d h m = go (decLt 2048 (length (expression-cells e)))
   where
     is : n ≡ drawn (expression-cells e) (0, d) .0
     is = ap (λ (c : Count). c .0) h
+
     go : Dec (2048 < length (expression-cells e)) → (length (expression-cells e) ≤ 2048) × (n ≡ length (expression-cells e))
     go (yes l) = let over : 2048 < drawn (expression-cells e) (0, d) .0 = counted-over (expression-cells e) 0 d (omega arith) in absurd (omega (arith, is))
     go (no l) =
@@ -64,6 +65,7 @@ module _ (text stack small : List ℕ) (l : length text ≤ 8192) (k : length st
         where
           is : w .0 .cells ≡ drawn (expression-cells e) (0, small) .0
           is = ap (λ (c : Count). c .0) (h .1)
+
           over : Dec (2048 < length (expression-cells e)) → 2048 < length (expression-cells e)
           over (yes x) = x
           over (no x) =
@@ -84,8 +86,8 @@ module _ (text stack small : List ℕ) (l : length text ≤ 8192) (k : length st
           let long : length (tree-bytes e) ≡ 16 * length (expression-cells e) = bytes-long e f in
           let same : 16 * w .0 .cells ≡ length (tree-bytes e) = omega arith in
           sym
-            (pick-b {A = Outcome} _ _ _ (le-leb (length (expression-cells e)) 2048 few)
-            ∙ ap (written out (tree-bytes e) (length (expression-cells e))) (lt-leb (length (tree-bytes e)) (length out) (omega arith)) ∙ ap (refuse out 15) (sym same))
+          (pick-b {A = Outcome} _ _ _ (le-leb (length (expression-cells e)) 2048 few)
+          ∙ ap (written out (tree-bytes e) (length (expression-cells e))) (lt-leb (length (tree-bytes e)) (length out) (omega arith)) ∙ ap (refuse out 15) (sym same))
 
   -- The second run writes into the output itself.
   pub handed : (out other : List ℕ) (v : World) → length other ≡ 8192 → v ≡ Lean.run 0 text (all Lean.start other out) → (w .0 .mode ≡ 24 → ⊥) → w .0 .cells ≤ 2048
@@ -104,9 +106,9 @@ module _ (text stack small : List ℕ) (l : length text ≤ 8192) (k : length st
           let plain = condition-plain text e (proved .exactly text e .0 f) in
           let zero : 0 + length (cells-bytes (expression-cells e)) ≡ length (cells-bytes (expression-cells e)) = omega arith in
           let wrote : v .1 ≡ tree-bytes e ++ drop (length (tree-bytes e)) out =
-              ap (λ (c : Count). c .1) (g .1) ∙ written-all (expression-cells e) 0 out plain (omega arith) (omega arith) ∙ ap (λ (i : ℕ). cells-bytes (expression-cells e) ++ drop i out) zero in
+          ap (λ (c : Count). c .1) (g .1) ∙ written-all (expression-cells e) 0 out plain (omega arith) (omega arith) ∙ ap (λ (i : ℕ). cells-bytes (expression-cells e) ++ drop i out) zero in
           ap₂ (λ (b : ℕ) (d : List ℕ). record { numbers = record { number = 0; place = 0; length = b; cells = w .0 .cells; columns = 0 }; output = d }) same wrote
           ∙ ap (λ (c : ℕ). record { numbers = record { number = 0; place = 0; length = length (tree-bytes e); cells = c; columns = 0 }; output = tree-bytes e ++ drop (length (tree-bytes e)) out }) is
           ∙ sym
-            (pick-b {A = Outcome} _ _ _ (le-leb (length (expression-cells e)) 2048 few)
-            ∙ ap (written out (tree-bytes e) (length (expression-cells e))) (le-leb (length (tree-bytes e)) (length out) (omega arith)))
+          (pick-b {A = Outcome} _ _ _ (le-leb (length (expression-cells e)) 2048 few)
+          ∙ ap (written out (tree-bytes e) (length (expression-cells e))) (le-leb (length (tree-bytes e)) (length out) (omega arith)))

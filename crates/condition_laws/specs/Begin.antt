@@ -35,7 +35,7 @@ module _ (out₀ : List ℕ) (at v : ℕ) (stack : List ℕ) (behind : Bool) whe
   unfolding class Lean.begin
   quote-follows (want slot st) h =
       subst (λ (n : ℕ). Sim out₀ (in-string (suc at) [] slot st) (suc at) (stands out₀ stack 7 n (want slot st))) (sym (add-one at))
-        (sim-string (suc at) [] slot st stack (hold h) (omega arith))
+      (sim-string (suc at) [] slot st stack (hold h) (omega arith))
   quote-follows (have b true e st) h = refl
   quote-follows (have b false e st) h = refl
   quote-follows (is b e st) h = refl
@@ -44,7 +44,7 @@ module _ (out₀ : List ℕ) (at v : ℕ) (stack : List ℕ) (behind : Bool) whe
       → Sim out₀ (between false (want (record { before = b; left = some (o, e) }) st)) (suc at) (stands out₀ stack 0 v (want (record { before = b; left = some (o, e) }) st))
   sign-follows o b e st h =
       sim-between false (want (record { before = b; left = some (o, e) }) st) v stack
-        (let n : b .nots ≤ at = h .nots in next-holds at (have b true e st) (want (record { before = b; left = some (o, e) }) st) stack refl (omega arith) h)
+      (let n : b .nots ≤ at = h .nots in next-holds at (have b true e st) (want (record { before = b; left = some (o, e) }) st) stack refl (omega arith) h)
 
   pub equal-follows : (p : Position) → Holds at p stack → Begins 61 p
   unfolding class Lean.begin
@@ -78,20 +78,20 @@ module _ (out₀ : List ℕ) (at v : ℕ) (stack : List ℕ) (behind : Bool) whe
       let inner : Position = want (record { before = nothing-before; left = none }) (slot ∷ st) in
       let grown : List ℕ = set stack (length st) (slot-entry slot) in
       let holds : Holds (suc at) inner grown =
-          record {
-            room = length-set stack (length st) (slot-entry slot) ∙ room;
-            kept = (getD-set-same stack (length st) (slot-entry slot) 0 (omega arith), kept-set stack (length st) (slot-entry slot) st (omega arith) (h .kept));
-            deep = omega arith;
-            nots = omega arith;
-            light = (omega arith, lighter at st (h .light));
-          } in
+      record {
+        room = length-set stack (length st) (slot-entry slot) ∙ room;
+        kept = (getD-set-same stack (length st) (slot-entry slot) 0 (omega arith), kept-set stack (length st) (slot-entry slot) st (omega arith) (h .kept));
+        deep = omega arith;
+        nots = omega arith;
+        light = (omega arith, lighter at st (h .light));
+      } in
       let m : Machine = at-position out₀ (behind-mode behind) v (want slot st) .0 in
       let out : List ℕ = at-position out₀ (behind-mode behind) v (want slot st) .1 in
       let enters : Lean.begin at 40 (stands out₀ stack (behind-mode behind) v (want slot st)) ≡ stands out₀ grown 0 0 inner =
-          ap (λ (t : Bool). all (cond t (world (Lean.stuck m) stack) (world (Lean.inner (length st) m) grown) .0) (cond t (world (Lean.stuck m) stack) (world (Lean.inner (length st) m) grown) .1) out)
-            (lt-leb (length stack) (length st) (omega arith))
-          ∙ ap (λ (d : ℕ). all (record { mode = 0; value = 0; stage = 0; ors = 0; ands = 0; nots = 0; left = 0; depth = d; cells = m .cells }) grown out) (add-one (length st))
-          ∙ ap (λ (ks : List Cell). beside grown (at-cells out₀ ks 0 0 inner)) (sym (append-nil (position-cells (want slot st)))) in
+      ap (λ (t : Bool). all (cond t (world (Lean.stuck m) stack) (world (Lean.inner (length st) m) grown) .0) (cond t (world (Lean.stuck m) stack) (world (Lean.inner (length st) m) grown) .1) out)
+      (lt-leb (length stack) (length st) (omega arith))
+      ∙ ap (λ (d : ℕ). all (record { mode = 0; value = 0; stage = 0; ors = 0; ands = 0; nots = 0; left = 0; depth = d; cells = m .cells }) grown out) (add-one (length st))
+      ∙ ap (λ (ks : List Cell). beside grown (at-cells out₀ ks 0 0 inner)) (sym (append-nil (position-cells (want slot st)))) in
       subst (Sim out₀ (between false inner) (suc at)) (sym enters) (sim-between false inner 0 grown holds)
   open-follows (have b true e st) l h = refl
   open-follows (have b false e st) l h = refl
@@ -109,10 +109,12 @@ module _ (out₀ : List ℕ) (at v : ℕ) (stack : List ℕ) (behind : Bool) whe
       at-most-one : (x : Option Expression) → has x ≤ 1
       at-most-one none = omega arith
       at-most-one (some x) = omega arith
+
       small-sign : (x : Sign) → sign-tag x ≤ 14
       small-sign equal = omega arith
       small-sign less = omega arith
       small-sign greater = omega arith
+
       small-tag : (x : Option (Sign × Expression)) → left-tag x ≤ 14
       small-tag none = omega arith
       small-tag (some x) = small-sign (x .0)
@@ -130,8 +132,8 @@ module _ (out₀ : List ℕ) (at v : ℕ) (stack : List ℕ) (behind : Bool) whe
       let ks : List Cell = stack-cells (slot ∷ st) ++ expression-cells (whole b e) in
       ap (λ (w : World). Lean.fill (world (Lean.reopened x (suc (length st) - 1) (w .0)) (w .1))) (disjoin-drawn out₀ k v b more e (slot ∷ st))
       ∙ ap Lean.fill
-        (λ i.
-          at-slot (at-cells out₀ ks k v (have b more e (slot ∷ st))) (says .0 i) (says .1 i) (says .2 i) (says .3 i) (d i))
+      (λ i.
+      at-slot (at-cells out₀ ks k v (have b more e (slot ∷ st))) (says .0 i) (says .1 i) (says .2 i) (says .3 i) (d i))
       ∙ ap (λ (js : List Cell). Lean.fill (at-cells out₀ js 0 0 (want slot st))) (append-assoc (stack-cells st) (beside-cells (slot .before) (slot .left)) (expression-cells (whole b e)))
       ∙ fill-follows out₀ 0 0 (slot .before) (slot .left) (whole b e) st
     where
@@ -167,13 +169,13 @@ module _ (out₀ : List ℕ) (at v : ℕ) (stack : List ℕ) (behind : Bool) whe
       let n : before-of q .nots ≡ slot .before .nots = fill-stack slot (whole b e) st .1 in
       let shallow : length st ≤ suc at = omega arith in
       let holds : Holds (suc at) q stack =
-          record {
-            room = h .room;
-            kept = subst (Kept stack) (sym s) (h .kept .1);
-            deep = subst (λ (x : Stack). length x ≤ suc at) (sym s) shallow;
-            nots = omega arith;
-            light = subst (Light (suc at)) (sym s) (lighter at st (h .light .1));
-          } in
+      record {
+        room = h .room;
+        kept = subst (Kept stack) (sym s) (h .kept .1);
+        deep = subst (λ (x : Stack). length x ≤ suc at) (sym s) shallow;
+        nots = omega arith;
+        light = subst (Light (suc at)) (sym s) (lighter at st (h .light .1));
+      } in
       subst (λ (w : World). Sim out₀ (between false q) (suc at) (beside stack w)) (sym (close-passes b more e slot st l h t)) (sim-between false q 0 stack holds)
 
   pub close-follows : (p : Position) → at < 8192 → Holds at p stack → Begins 41 p

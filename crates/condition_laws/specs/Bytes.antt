@@ -114,7 +114,7 @@ digit-not-above b c h l = let m : b ≤ 57 = leb-true b 57 (and-right (leb 48 b)
 pub begins-digit : (at b : ℕ) (s : All) → digit b ≡ true → Lean.begin at b s ≡ all (Lean.begin-solid b (s .0)) (s .1) (s .2)
 begins-digit at b s h =
     begins-solid at b s (digit-not b 32 h (omega arith)) (digit-not b 39 h (omega arith)) (digit-not b 40 h (omega arith)) (digit-not b 41 h (omega arith))
-      (digit-not-above b 61 h (omega arith)) (digit-not-above b 60 h (omega arith)) (digit-not-above b 62 h (omega arith))
+    (digit-not-above b 61 h (omega arith)) (digit-not-above b 60 h (omega arith)) (digit-not-above b 62 h (omega arith))
 
 pub begins-other : (at b : ℕ) (s : All) → Other b → Lean.begin at b s ≡ all (Lean.begin-solid b (s .0)) (s .1) (s .2)
 begins-other at b s o = begins-solid at b s (o .no-32) (o .no-39) (o .no-40) (o .no-41) (o .no-61) (o .no-60) (o .no-62)

@@ -211,8 +211,8 @@ module _ (out₀ : List ℕ) where
       let m : Machine = at-position out₀ 1 v (want (record { before = b; left = none }) st) .0 in
       let out : List ℕ = at-position out₀ 1 v (want (record { before = b; left = none }) st) .1 in
       same-some _
-        (ap (λ (t : Bool). world (cond t m (Lean.with-nots (b .nots + 1) m)) out) (lt-leb 8192 (b .nots) h)
-        ∙ ap (λ (n : ℕ). at-position out₀ 1 v (want (record { before = record { ors = b .ors; ands = b .ands; nots = n }; left = none }) st)) (add-one (b .nots))) e
+      (ap (λ (t : Bool). world (cond t m (Lean.with-nots (b .nots + 1) m)) out) (lt-leb 8192 (b .nots) h)
+      ∙ ap (λ (n : ℕ). at-position out₀ 1 v (want (record { before = record { ors = b .ors; ands = b .ands; nots = n }; left = none }) st)) (add-one (b .nots))) e
   not-word b (some l) st q v h e = nowhere q e
 
   pub word-follows : (w : Word) (p q : Position) (v : ℕ) → before-of p .nots < 8192 → feed p (word w) ≡ some q

@@ -21,7 +21,6 @@ use Rattle.condition_laws.specs.Follows.{after-t, after-f, after-a, afte
 use Rattle.condition_laws.specs.Begin.{hold, Begins, quote-follows, equal-follows, less-follows, greater-follows, open-follows, close-follows}
 
 module _ (out₀ : List ℕ) (at v : ℕ) (stack : List ℕ) where
-
   minus-follows : (behind : Bool) (p : Position) → Holds at p stack → Begins out₀ at v stack behind 45 p
   unfolding class Lean.begin
   minus-follows true (want slot st) h = refl
@@ -169,9 +168,9 @@ module _ (out₀ : List ℕ) (at v : ℕ) (stack : List ℕ) where
   digit-follows b d behind p h =
       let s : All = stands out₀ stack (behind-mode behind) v p in
       known _ _ _ _ (ap (λ (c : Class). begin c at b behind p) (class-digit b d))
-        (begins-digit at b s d
-        ∙ ap (λ (t : Bool). all (cond (eqb (behind-mode behind) 1) (Lean.stuck (s .0)) (cond t (Lean.wanted 4 (b - 48) (s .0)) (cond (eqb b 45) (Lean.wanted 2 0 (s .0)) (cond (eqb b 35) (Lean.wanted 3 0 (s .0)) (Lean.first-letter b (s .0)))))) stack (s .2)) d)
-        (digit-begins b d behind p h)
+      (begins-digit at b s d
+      ∙ ap (λ (t : Bool). all (cond (eqb (behind-mode behind) 1) (Lean.stuck (s .0)) (cond t (Lean.wanted 4 (b - 48) (s .0)) (cond (eqb b 45) (Lean.wanted 2 0 (s .0)) (cond (eqb b 35) (Lean.wanted 3 0 (s .0)) (Lean.first-letter b (s .0)))))) stack (s .2)) d)
+      (digit-begins b d behind p h)
 
   -- ---- any other byte
 
@@ -201,7 +200,7 @@ module _ (out₀ : List ℕ) (at v : ℕ) (stack : List ℕ) where
   other-follows b o behind p =
       let s : All = stands out₀ stack (behind-mode behind) v p in
       known _ none _ (all (Lean.stuck (s .0)) stack (s .2)) (ap (λ (c : Class). begin c at b behind p) (class-other b o) ∙ another-none b o behind p)
-        (begins-other at b s o ∙ ap (λ (m : Machine). all m stack (s .2)) (other-stuck b o behind (s .0) refl)) refl
+      (begins-other at b s o ∙ ap (λ (m : Machine). all m stack (s .2)) (other-stuck b o behind (s .0) refl)) refl
 
   -- ---- all bytes
 

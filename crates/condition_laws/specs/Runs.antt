@@ -143,13 +143,13 @@ module _ (out₀ : List ℕ) where
       go : (o : Option State) → Steps out₀ o (suc at) (Lean.step at b r)
           → ((next : State) → Sim out₀ next (suc at) (Lean.step at b r) → Leaves (run (suc at) text next) (Lean.run (suc at) text (Lean.step at b r)))
           → Leaves (elim o as (λ z. Reading) [ none ↦ refused at | some next ↦ run (suc at) text next ])
-            (cond (eqb (Lean.step at b r .0 .mode) 24) (world (Lean.placed at (Lean.step at b r .0)) (Lean.step at b r .2)) (Lean.run (at + 1) text (Lean.step at b r)))
+          (cond (eqb (Lean.step at b r .0 .mode) 24) (world (Lean.placed at (Lean.step at b r .0)) (Lean.step at b r .2)) (Lean.run (at + 1) text (Lean.step at b r)))
       go none d later = subst (Leaves (refused at)) (sym (pick-b {A = World} _ _ _ (eq-eqb (Lean.step at b r .0 .mode) 24 d))) (d, refl)
       go (some next) d later =
           subst (Leaves (run (suc at) text next))
-            (sym (skip-b {A = World} _ _ _ (ne-eqb (Lean.step at b r .0 .mode) 24 (not-stuck (suc at) next (Lean.step at b r) d))
-            ∙ ap (λ (i : ℕ). Lean.run i text (Lean.step at b r)) (add-one at)))
-            (later next d)
+          (sym (skip-b {A = World} _ _ _ (ne-eqb (Lean.step at b r .0 .mode) 24 (not-stuck (suc at) next (Lean.step at b r) d))
+          ∙ ap (λ (i : ℕ). Lean.run i text (Lean.step at b r)) (add-one at)))
+          (later next d)
 
   start-holds : (stack : List ℕ) → length stack ≡ 8192 → Holds 0 (want (record { before = nothing-before; left = none }) []) stack
   start-holds stack h = record { room = h; kept = tt; deep = omega arith; nots = omega arith; light = tt }

@@ -111,6 +111,7 @@ module _ (out₀ : List ℕ) where
     where
       regroup : (s o y x f : List Cell) → (s ++ ((o ++ y) ++ x)) ++ f ≡ s ++ (o ++ (y ++ (x ++ f)))
       regroup s o y x f = simp append-assoc
+
       go : (s : Sign) (y : Expression)
           → Lean.fill (at-cells out₀ (stack-cells st ++ ((before-cells b ++ expression-cells y) ++ expression-cells e)) k v (want (record { before = b; left = some (s, y) }) st))
           ≡ at-position out₀ k v (have b false (binary 0 (operator s) y e) st)
@@ -132,8 +133,8 @@ module _ (out₀ : List ℕ) where
       → Lean.operand tag a c (at-position out₀ k v (want slot st)) ≡ at-position out₀ k v (fill slot e st)
   operand-follows k v tag a c slot e st h =
       ap Lean.fill
-        (put-drawn out₀ (position-cells (want slot st)) k v (want slot st) tag a c
-        ∙ ap (λ (js : List Cell). at-cells out₀ js k v (want slot st))
-        (append-assoc (stack-cells st) (beside-cells (slot .before) (slot .left)) (cell-with tag a c ∷ [])
-        ∙ ap (λ (js : List Cell). stack-cells st ++ (beside-cells (slot .before) (slot .left) ++ js)) (sym h)))
+      (put-drawn out₀ (position-cells (want slot st)) k v (want slot st) tag a c
+      ∙ ap (λ (js : List Cell). at-cells out₀ js k v (want slot st))
+      (append-assoc (stack-cells st) (beside-cells (slot .before) (slot .left)) (cell-with tag a c ∷ [])
+      ∙ ap (λ (js : List Cell). stack-cells st ++ (beside-cells (slot .before) (slot .left) ++ js)) (sym h)))
       ∙ fill-follows k v (slot .before) (slot .left) e st

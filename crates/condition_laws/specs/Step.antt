@@ -144,7 +144,7 @@ module _ (out₀ : List ℕ) (at v : ℕ) (stack : List ℕ) where
       let same = word-same w p q e in
       let m : before-of q .nots ≤ suc (before-of p .nots) = same .one-more in
       subst (λ (z : World). Sim out₀ (between true q) (suc at) (beside stack z)) (sym (f ∙ word-follows out₀ w p q v (omega arith) e))
-        (sim-between true q v stack (next-holds at p q stack (same .stack-kept) (omega arith) h))
+      (sim-between true q v stack (next-holds at p q stack (same .stack-kept) (omega arith) h))
 
   letter-brings : (k : Node) (p q : Position) → at < 8192 → Holds at p stack → feed p (word (word-at k)) ≡ some q
       → Sim out₀ (after-letters (rest-of k) q []) (suc at) (beside stack (on-letter k (at-position out₀ (node-mode k) v p)))
@@ -173,12 +173,12 @@ module _ (out₀ : List ℕ) (at v : ℕ) (stack : List ℕ) where
           → Steps out₀ (after-letter (cond (eqb b (first-of k)) ((rest-of k, q) ∷ []) [])) (suc at) (Lean.step at b (stands out₀ stack (node-mode k) v p))
       go true g =
           known out₀ at v stack _ (some (after-letters (rest-of k) q [])) _ (beside stack (on-letter k (at-position out₀ (node-mode k) v p)))
-            (ap (λ (t : Bool). after-letter (cond t ((rest-of k, q) ∷ []) [])) g)
-            (node-step k b p ∙ ap (beside stack) (pick-b {A = World} _ _ _ (ap (eqb (first-of k)) (eqb-true b (first-of k) g) ∙ eqb-same (first-of k)))) (letter-brings k p q l h e)
+          (ap (λ (t : Bool). after-letter (cond t ((rest-of k, q) ∷ []) [])) g)
+          (node-step k b p ∙ ap (beside stack) (pick-b {A = World} _ _ _ (ap (eqb (first-of k)) (eqb-true b (first-of k) g) ∙ eqb-same (first-of k)))) (letter-brings k p q l h e)
       go false g =
           known out₀ at v stack _ none _ (beside stack (world (Lean.stuck (at-position out₀ (node-mode k) v p .0)) (at-position out₀ (node-mode k) v p .1)))
-            (ap (λ (t : Bool). after-letter (cond t ((rest-of k, q) ∷ []) [])) g)
-            (node-step k b p ∙ ap (beside stack) (skip-b {A = World} _ _ _ (ne-eqb (first-of k) b (λ z. eqb-false b (first-of k) g (sym z))))) refl
+          (ap (λ (t : Bool). after-letter (cond t ((rest-of k, q) ∷ []) [])) g)
+          (node-step k b p ∙ ap (beside stack) (skip-b {A = World} _ _ _ (ne-eqb (first-of k) b (λ z. eqb-false b (first-of k) g (sym z))))) refl
 
   -- ---- behind N
 
@@ -195,7 +195,7 @@ module _ (out₀ : List ℕ) (at v : ℕ) (stack : List ℕ) where
       → Steps out₀ s (suc at) (Lean.step at b (stands out₀ stack 23 v p))
   n-neither b p s f g h e =
       known out₀ at v stack s none _ (all (Lean.stuck (at-position out₀ 23 v p .0)) stack (at-position out₀ 23 v p .1)) e
-        (n-step-is b p ∙ ap (λ (m : Machine). all m stack (at-position out₀ 23 v p .1)) (n-stuck b (at-position out₀ 23 v p .0) f g h)) refl
+      (n-step-is b p ∙ ap (λ (m : Machine). all m stack (at-position out₀ 23 v p .1)) (n-stuck b (at-position out₀ 23 v p .0) f g h)) refl
 
   n-none : (b : ℕ) → N-byte b → (x : Before) (st : Stack) (q r : Position) → Holds at (want (record { before = x; left = none }) st) stack
       → feed (want (record { before = x; left = none }) st) (word NULL) ≡ some q → feed (want (record { before = x; left = none }) st) (word NOT) ≡ some r
@@ -259,14 +259,14 @@ module _ (out₀ : List ℕ) (at v : ℕ) (stack : List ℕ) where
     where
       go : (t : Bool) → digit b ≡ t
           → Steps out₀ (cond (digit b) (some (in-number minus (b - 48) slot st)) none) (suc at)
-            (all (cond (digit b) (Lean.valued 5 (b - 48) (at-position out₀ 2 v (want slot st) .0)) (Lean.stuck (at-position out₀ 2 v (want slot st) .0))) stack (at-position out₀ 2 v (want slot st) .1))
+          (all (cond (digit b) (Lean.valued 5 (b - 48) (at-position out₀ 2 v (want slot st) .0)) (Lean.stuck (at-position out₀ 2 v (want slot st) .0))) stack (at-position out₀ 2 v (want slot st) .1))
       go true d =
           let u : b - 48 ≤ 9 = digit-small b d in
           known out₀ at v stack _ (some (in-number minus (b - 48) slot st)) _ (stands out₀ stack 5 (b - 48) (want slot st)) (pick-b {A = Option State} _ _ _ d)
-            (ap (λ (m : Machine). all m stack (at-position out₀ 2 v (want slot st) .1)) (pick-b {A = Machine} _ _ _ d)) (sim-number minus (b - 48) slot st stack (hold h) (omega arith))
+          (ap (λ (m : Machine). all m stack (at-position out₀ 2 v (want slot st) .1)) (pick-b {A = Machine} _ _ _ d)) (sim-number minus (b - 48) slot st stack (hold h) (omega arith))
       go false d =
           known out₀ at v stack _ none _ (all (Lean.stuck (at-position out₀ 2 v (want slot st) .0)) stack (at-position out₀ 2 v (want slot st) .1)) (skip-b {A = Option State} _ _ _ d)
-            (ap (λ (m : Machine). all m stack (at-position out₀ 2 v (want slot st) .1)) (skip-b {A = Machine} _ _ _ d)) refl
+          (ap (λ (m : Machine). all m stack (at-position out₀ 2 v (want slot st) .1)) (skip-b {A = Machine} _ _ _ d)) refl
 
   hash-step : (b : ℕ) (slot : Slot) (st : Stack) → Holds at (want slot st) stack
       → Steps out₀ (step at b (begun hash slot st)) (suc at) (Lean.step at b (stands out₀ stack 3 v (want slot st)))
@@ -275,14 +275,14 @@ module _ (out₀ : List ℕ) (at v : ℕ) (stack : List ℕ) where
     where
       go : (t : Bool) → digit b ≡ t
           → Steps out₀ (cond (digit b) (some (in-number hash (b - 48) slot st)) none) (suc at)
-            (all (cond (digit b) (Lean.valued 6 (b - 48) (at-position out₀ 3 v (want slot st) .0)) (Lean.stuck (at-position out₀ 3 v (want slot st) .0))) stack (at-position out₀ 3 v (want slot st) .1))
+          (all (cond (digit b) (Lean.valued 6 (b - 48) (at-position out₀ 3 v (want slot st) .0)) (Lean.stuck (at-position out₀ 3 v (want slot st) .0))) stack (at-position out₀ 3 v (want slot st) .1))
       go true d =
           let u : b - 48 ≤ 9 = digit-small b d in
           known out₀ at v stack _ (some (in-number hash (b - 48) slot st)) _ (stands out₀ stack 6 (b - 48) (want slot st)) (pick-b {A = Option State} _ _ _ d)
-            (ap (λ (m : Machine). all m stack (at-position out₀ 3 v (want slot st) .1)) (pick-b {A = Machine} _ _ _ d)) (sim-number hash (b - 48) slot st stack (hold h) (omega arith))
+          (ap (λ (m : Machine). all m stack (at-position out₀ 3 v (want slot st) .1)) (pick-b {A = Machine} _ _ _ d)) (sim-number hash (b - 48) slot st stack (hold h) (omega arith))
       go false d =
           known out₀ at v stack _ none _ (all (Lean.stuck (at-position out₀ 3 v (want slot st) .0)) stack (at-position out₀ 3 v (want slot st) .1)) (skip-b {A = Option State} _ _ _ d)
-            (ap (λ (m : Machine). all m stack (at-position out₀ 3 v (want slot st) .1)) (skip-b {A = Machine} _ _ _ d)) refl
+          (ap (λ (m : Machine). all m stack (at-position out₀ 3 v (want slot st) .1)) (skip-b {A = Machine} _ _ _ d)) refl
 
 -- the number of a sort as one cell
 module _ (out₀ : List ℕ) (slot : Slot) (st : Stack) where
@@ -292,7 +292,7 @@ module _ (out₀ : List ℕ) (slot : Slot) (st : Stack) where
   minus-cells (suc m) =
       let e : suc m - 1 ≡ m = omega arith in
       ap (λ (i : ℕ). cell-with 3 (i % 4294967296) (i / 4294967296) ∷ [])
-        (sym (skip-b {A = ℕ} _ _ _ (ne-eqb (suc m) 0 (λ z. omega arith)) ∙ ap (λ (i : ℕ). 18446744073709551615 - i) e))
+      (sym (skip-b {A = ℕ} _ _ _ (ne-eqb (suc m) 0 (λ z. omega arith)) ∙ ap (λ (i : ℕ). 18446744073709551615 - i) e))
 
   plain-cells : (n : ℕ) → expression-cells (number plain n) ≡ cell-with 3 (Lean.signed 4 n % 4294967296) (Lean.signed 4 n / 4294967296) ∷ []
   unfolding expression-cells integer-bits Lean.signed
@@ -351,10 +351,10 @@ module _ (out₀ : List ℕ) (at n : ℕ) (stack : List ℕ) (k : Sort) (slot : 
       go true f =
           let l : 10 * n + d ≤ greatest k = leb-true (10 * n + d) (greatest k) f in
           known out₀ at n stack _ (some (in-number k (10 * n + d) slot st)) _ (stands out₀ stack (number-mode k) (10 * n + d) (want slot st)) (pick-b {A = Option State} _ _ _ f)
-            (ap (λ (m : Machine). all m stack (at-position out₀ (number-mode k) n (want slot st) .1)) (more-in d l)) (sim-number k (10 * n + d) slot st stack (hold h) l)
+          (ap (λ (m : Machine). all m stack (at-position out₀ (number-mode k) n (want slot st) .1)) (more-in d l)) (sim-number k (10 * n + d) slot st stack (hold h) l)
       go false f =
           known out₀ at n stack _ none _ (all (Lean.stuck here) stack (at-position out₀ (number-mode k) n (want slot st) .1)) (skip-b {A = Option State} _ _ _ f)
-            (ap (λ (m : Machine). all m stack (at-position out₀ (number-mode k) n (want slot st) .1)) (more-out d (leb-false (10 * n + d) (greatest k) f))) refl
+          (ap (λ (m : Machine). all m stack (at-position out₀ (number-mode k) n (want slot st) .1)) (more-out d (leb-false (10 * n + d) (greatest k) f))) refl
 
   number-is : (b : ℕ) → Lean.step at b (stands out₀ stack (number-mode k) n (want slot st)) ≡ Lean.number at b (stands out₀ stack (number-mode k) n (want slot st))
   unfolding Lean.step
@@ -381,12 +381,12 @@ module _ (out₀ : List ℕ) (at n : ℕ) (stack : List ℕ) (k : Sort) (slot : 
           → Steps out₀ (cond (digit b) (one-more-digit k (10 * n + (b - 48)) slot st) (begin (class b) at b true (numbered k n slot st))) (suc at) (Lean.step at b (stands out₀ stack (number-mode k) n (want slot st)))
       go true d =
           known out₀ at n stack _ (one-more-digit k (10 * n + (b - 48)) slot st) _ (all (Lean.more-digit (b - 48) here) stack (at-position out₀ (number-mode k) n (want slot st) .1))
-            (pick-b {A = Option State} _ _ _ d) (number-is b ∙ pick-b {A = All} _ _ _ d) (digit-brings (b - 48) h)
+          (pick-b {A = Option State} _ _ _ d) (number-is b ∙ pick-b {A = All} _ _ _ d) (digit-brings (b - 48) h)
       go false d =
           known out₀ at n stack _ (begin (class b) at b true (numbered k n slot st)) _ (Lean.begin at b (stands out₀ stack 1 n (numbered k n slot st)))
-            (skip-b {A = Option State} _ _ _ d)
-            (number-is b ∙ skip-b {A = All} _ _ _ d ∙ ap (λ (u : World). Lean.begin at b (beside stack u)) (number-ends out₀ slot st k n))
-            (begin-follows out₀ at n stack b (seen b) true (numbered k n slot st) l (fill-holds (number k n) h))
+          (skip-b {A = Option State} _ _ _ d)
+          (number-is b ∙ skip-b {A = All} _ _ _ d ∙ ap (λ (u : World). Lean.begin at b (beside stack u)) (number-ends out₀ slot st k n))
+          (begin-follows out₀ at n stack b (seen b) true (numbered k n slot st) l (fill-holds (number k n) h))
 
 -- ---- strings
 
@@ -413,15 +413,15 @@ module _ (out₀ : List ℕ) (at from : ℕ) (stack : List ℕ) (s : List ℕ) (
           → Steps out₀ (cond (eqb b 39) (some (between false (string-ends from s slot st))) (some (in-string from (s ++ (b ∷ [])) slot st))) (suc at) (Lean.step at b (stands out₀ stack 7 from (want slot st)))
       go true d =
           known out₀ at from stack _ (some (between false (string-ends from s slot st))) _ (stands out₀ stack 0 from (string-ends from s slot st)) (pick-b {A = Option State} _ _ _ d)
-            (string-is b
-            ∙ ap (beside stack)
-              (pick-b {A = World} _ _ _ d ∙ ap (λ (r : ℕ). Lean.operand 5 r 0 (at-position out₀ 0 from (want slot st))) (reference-is e)
-              ∙ operand-follows out₀ 0 from 5 (from + 65536 * length s) 0 slot _ st string-cells))
-            (sim-between false (string-ends from s slot st) from stack (hold (fill-holds out₀ at from stack plain slot st _ h)))
+          (string-is b
+          ∙ ap (beside stack)
+          (pick-b {A = World} _ _ _ d ∙ ap (λ (r : ℕ). Lean.operand 5 r 0 (at-position out₀ 0 from (want slot st))) (reference-is e)
+          ∙ operand-follows out₀ 0 from 5 (from + 65536 * length s) 0 slot _ st string-cells))
+          (sim-between false (string-ends from s slot st) from stack (hold (fill-holds out₀ at from stack plain slot st _ h)))
       go false d =
           let u : length (s ++ (b ∷ [])) ≡ length s + 1 = length-append s (b ∷ []) in
           known out₀ at from stack _ (some (in-string from (s ++ (b ∷ [])) slot st)) _ (stands out₀ stack 7 from (want slot st)) (skip-b {A = Option State} _ _ _ d)
-            (string-is b ∙ ap (beside stack) (skip-b {A = World} _ _ _ d)) (sim-string from (s ++ (b ∷ [])) slot st stack (hold h) (omega arith))
+          (string-is b ∙ ap (beside stack) (skip-b {A = World} _ _ _ d)) (sim-string from (s ++ (b ∷ [])) slot st stack (hold h) (omega arith))
 
 -- ---- any state
 

@@ -121,8 +121,10 @@ counted-over (k ∷ ks) n out h = go (leb 2048 n) refl (counted-over ks)
   where
     full : Count
     full = (2049, out)
+
     more : Count
     more = (n + 1, if-room out n (four-words (k .tag) (k .a) (k .b)))
+
     go : (t : Bool) → leb 2048 n ≡ t → ((m : ℕ) (o : List ℕ) → 2048 < m + length ks → 2048 < drawn ks (m, o) .0) → 2048 < drawn ks (put-cell k (n, out)) .0
     go true e later = subst (λ (c : Count). 2048 < drawn ks c .0) (sym (pick-b {A = Count} (leb 2048 n) full more e)) (later 2049 out (omega arith))
     go false e later = subst (λ (c : Count). 2048 < drawn ks c .0) (sym (skip-b {A = Count} (leb 2048 n) full more e)) (later (n + 1) _ (omega arith))
@@ -152,7 +154,7 @@ written-all (k ∷ ks) n out p h g =
     let next : List ℕ = written out (16 * n) w in
     let ln : length next ≡ length out = length-written out (16 * n) w (omega arith) in
     let here : put-cell k (n, out) ≡ (n + 1, next) =
-        skip-b {A = Count} _ _ _ (lt-leb 2048 n (omega arith)) ∙ ap (λ (o : List ℕ). (n + 1, o)) (skip-b {A = List ℕ} _ _ _ (le-ltb (length out) (16 * n + 16) fits)) in
+    skip-b {A = Count} _ _ _ (lt-leb 2048 n (omega arith)) ∙ ap (λ (o : List ℕ). (n + 1, o)) (skip-b {A = List ℕ} _ _ _ (le-ltb (length out) (16 * n + 16) fits)) in
     let rest : drawn ks (n + 1, next) .1 ≡ written next (16 * (n + 1)) (cells-bytes ks) = written-all ks (n + 1) next (p .1) (omega arith) (omega arith) in
     let at : 16 * (n + 1) ≡ 16 * n + length w = omega arith in
     ap (λ (c : Count). drawn ks c .1) here
