@@ -1,23 +1,20 @@
 -- What a run leaves decides the operation's answer: refusals 22, 14 and 15, or the cells handed out.
-use Prim.Native.Nat.{ℕ, zero, suc, _+_, _-_, _*_, _≤_, _<_}
+use Prim.Native.Nat.{ℕ, zero, _+_, _*_, _≤_, _<_}
 use native.Mathlib.Omega.{arith}
 use native.Mathlib.Decide.{decLt}
 use borrow.Author.Tests.{le-leb, lt-leb}
 use mathlib.Core.Path.{_≡_, refl, sym, ap, ap₂, _∙_, subst}
-use mathlib.Core.Bool.{Bool, true, false, cond}
-use mathlib.Core.List.{List, [], _∷_, _++_}
-use lib.Dec.{leb}
-use lib.ListN.{length, take, drop}
+use mathlib.Core.List.{List, _++_}
+use lib.ListN.{length, drop}
 use Rattle.sql.specs.Expression.{Expression}
-use Rattle.sheet.specs.Cell.{Cell}
 use Rattle.sheet.specs.Cells.{expression-cells}
 use Rattle.sheet.specs.Write.{cells-bytes}
 use Rattle.sheet.specs.Operations.{Outcome, refuse}
 use Rattle.grammar.specs.Machine.{Reading, taken, refused, reading}
-use Rattle.grammar.specs.Operation.{tree-bytes, written, handed-out, answered, condition}
+use Rattle.grammar.specs.Operation.{tree-bytes, written, answered, condition}
 use Rattle.grammar.specs.Proof.{proved}
 use Rattle.condition.specs.Lean as Lean
-use Rattle.condition.specs.Lean.{World, world, all}
+use Rattle.condition.specs.Lean.{World, all}
 use Rattle.condition_laws.specs.Drawn.{Count, drawn}
 use Rattle.condition_laws.specs.Bytes.{pick-b, skip-b}
 use Rattle.condition_laws.specs.Runs.{Leaves, lean-reads}

@@ -1,28 +1,26 @@
 -- Between parts: each byte brings both machines on, or leaves both stuck.
-use Prim.Native.Nat.{ℕ, zero, suc, _+_, _-_, _*_, _/_, _%_, _≤_, _<_}
+use Prim.Native.Nat.{ℕ, suc, _-_, _/_, _%_, _≤_, _<_}
 use native.Mathlib.Omega.{arith}
 use native.Mathlib.Numerals.{add-one}
-use borrow.Author.Tests.{ne-eqb, lt-leb, le-ltb, leb-true}
-use mathlib.Core.Path.{_≡_, refl, sym, ap, ap₂, _∙_, subst}
-use mathlib.Core.Bool.{Bool, true, false, cond, _&&_}
+use borrow.Author.Tests.{ne-eqb, lt-leb, le-ltb}
+use mathlib.Core.Path.{_≡_, refl, sym, ap, _∙_, subst}
+use mathlib.Core.Bool.{Bool, true, false, cond}
 use mathlib.Core.List.{List, [], _∷_, _++_, append-assoc, append-nil}
 use mathlib.Core.Option.{Option, none, some}
-use lib.Dec.{leb, ltb, eqb}
 use lib.ListN.{length, getD, set, length-set}
 use lib.Seq.{getD-set-same}
 use Rattle.sql.specs.Expression.{Expression}
 use Rattle.sheet.specs.Cell.{Cell}
 use Rattle.sheet.specs.Cells.{expression-cells}
-use Rattle.sheet_laws.specs.Content.{and-right}
-use Rattle.grammar.specs.Parts.{digit, Sign, equal, less, greater, Part, sign, opening, closing}
-use Rattle.grammar.specs.Machine.{Before, nothing-before, Slot, Stack, Position, want, have, is, whole, fill-beside, fill, Sort, plain, minus, hash, greatest, State, between, in-word, begun, in-number, in-string, Class, a-digit, another, class, candidates, narrow, after-letter, begin}
+use Rattle.grammar.specs.Parts.{Sign, equal, less, greater}
+use Rattle.grammar.specs.Machine.{Before, nothing-before, Slot, Stack, Position, want, have, is, whole, fill-beside, fill, between, in-string, class, begin}
 use Rattle.condition.specs.Lean as Lean
-use Rattle.condition.specs.Lean.{World, world, All, all, beside}
+use Rattle.condition.specs.Lean.{World, world, all, beside}
 use Rattle.condition.specs.declared.Machine.{Machine}
-use Rattle.condition_laws.specs.Drawn.{has, sign-tag, left-tag, before-of, left-of, stack-of, stage-of, lean, beside-cells, stack-cells, position-cells, at-cells, at-position}
+use Rattle.condition_laws.specs.Drawn.{has, sign-tag, left-tag, before-of, stack-of, beside-cells, stack-cells, position-cells, at-cells, at-position}
 use Rattle.condition_laws.specs.Settled.{disjoin-drawn, fill-follows}
-use Rattle.condition_laws.specs.Bytes.{pick-b, skip-b, Other, Seen, seen-space, seen-quote, seen-opening, seen-closing, seen-equal, seen-less, seen-greater, seen-minus, seen-hash, seen-t, seen-f, seen-n, seen-a, seen-o, seen-i, seen-digit, seen-other, class-digit, class-other, begins-digit, begins-other}
-use Rattle.condition_laws.specs.Follows.{slot-entry, Kept, Light, Holds, lighter, kept-set, next-holds, behind-mode, stands, Sim, sim-between, sim-word, sim-n, sim-minus, sim-hash, sim-number, sim-string, Steps}
+use Rattle.condition_laws.specs.Bytes.{pick-b, skip-b}
+use Rattle.condition_laws.specs.Follows.{slot-entry, Kept, Light, Holds, lighter, kept-set, next-holds, behind-mode, stands, Sim, sim-between, sim-string, Steps}
 
 pub hold : {at : ℕ} {p : Position} {stack : List ℕ} → Holds at p stack → Holds (suc at) p stack
 hold {at} {p} {stack} h = let n : before-of p .nots ≤ at = h .nots in next-holds at p p stack refl (omega arith) h

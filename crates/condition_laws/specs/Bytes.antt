@@ -3,10 +3,10 @@ use Prim.Native.Nat.{ℕ, _≤_, _<_}
 use native.Mathlib.Omega.{arith}
 use borrow.Author.Tests.{eqb-true, ne-eqb, leb-true}
 use mathlib.Core.Path.{_≡_, refl, sym, ap, _∙_, subst}
-use mathlib.Core.Bool.{Bool, true, false, cond, _&&_}
+use mathlib.Core.Bool.{Bool, true, false, cond}
 use lib.Dec.{leb, eqb}
 use Rattle.sheet_laws.specs.Content.{and-left, and-right}
-use Rattle.grammar.specs.Parts.{digit, equal, less, greater}
+use Rattle.grammar.specs.Parts.{digit}
 use Rattle.grammar.specs.Machine.{Class, a-digit, another, class}
 use Rattle.condition.specs.Lean as Lean
 use Rattle.condition.specs.Lean.{All, all}

@@ -1,20 +1,16 @@
 -- The machine with numbers stands for a position of the machine with trees: the cells of all that is read are written, up to what is still open.
-use Prim.Native.Nat.{ℕ, zero, suc, _+_, _-_, _*_, _≤_, _<_}
-use native.Mathlib.Omega.{arith}
-use mathlib.Core.Path.{_≡_, refl, sym, ap, ap₂, _∙_, subst}
+use Prim.Native.Nat.{ℕ, zero, suc, _+_}
+use mathlib.Core.Path.{_≡_, refl, sym, ap, _∙_}
 use mathlib.Core.Bool.{Bool, true, false, cond}
 use mathlib.Core.List.{List, [], _∷_, _++_, append-assoc, append-nil}
 use mathlib.Core.Option.{Option, none, some}
 use lib.Dec.{leb, eqb}
 use lib.ListN.{length, replicate}
-use Rattle.sql.specs.Expression.{Expression, and, or, not, binary, constant, column}
+use Rattle.sql.specs.Expression.{Expression}
 use Rattle.sheet.specs.Cell.{Cell}
-use Rattle.sheet.specs.Content.{cell-of, binary-cell, unary-cell, constant-cell, column-cell}
 use Rattle.sheet.specs.Cells.{expression-cells}
 use Rattle.grammar.specs.Parts.{Sign, equal, less, greater}
-use Rattle.grammar.specs.Grammar.{operator}
-use Rattle.grammar.specs.Machine.{Before, Slot, Stack, Position, want, have, is, joined, negations, conjoined, whole, fill-beside, fill}
-use Rattle.condition.specs.Lean as Lean
+use Rattle.grammar.specs.Machine.{Before, Stack, Position, want, have, is}
 use Rattle.condition.specs.Lean.{World, world, counted, put-in, put-times, put-and, put-or, if-room, four-words}
 use Rattle.condition.specs.declared.Machine.{Machine}
 

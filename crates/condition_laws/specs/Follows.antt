@@ -1,27 +1,24 @@
 -- The machine with numbers follows the machine with trees, step by step.
-use Prim.Native.Nat.{ℕ, zero, suc, _+_, _-_, _*_, _/_, _%_, _≤_, _<_}
+use Prim.Native.Nat.{ℕ, suc, _+_, _*_, _≤_, _<_}
 use native.Mathlib.Omega.{arith}
 use native.Mathlib.Numerals.{add-one}
-use borrow.Author.Tests.{eqb-true, eqb-false, ne-eqb, lt-leb, le-leb, ltb-true, leb-true, leb-false, lt-ltb, le-ltb, eq-eqb}
-use mathlib.Core.Path.{_≡_, refl, sym, ap, ap₂, _∙_, subst}
-use mathlib.Core.Bool.{Bool, true, false, cond, _&&_}
-use mathlib.Core.List.{List, [], _∷_, _++_}
+use borrow.Author.Tests.{lt-leb}
+use mathlib.Core.Path.{_≡_, refl, sym, ap, _∙_, subst}
+use mathlib.Core.Bool.{Bool, true, false, cond}
+use mathlib.Core.List.{List, [], _∷_}
 use mathlib.Core.Option.{Option, none, some, Option·some-injective, Option·none-ne-some}
-use lib.Dec.{leb, ltb, eqb}
-use lib.IntN.{pos, negℤ}
 use lib.ListN.{length, getD, set}
-use lib.Seq.{getD-set-same, getD-set-other}
-use Rattle.value.specs.Value.{datum, null, boolean, integer, string}
-use Rattle.value.specs.Meaning.{integer-bits}
-use Rattle.sql.specs.Expression.{Expression, constant, column, unary, Unary, IsNull, IsNaN}
+use lib.Seq.{getD-set-other}
+use Rattle.value.specs.Value.{null, boolean}
+use Rattle.sql.specs.Expression.{Expression, constant}
 use Rattle.sheet.specs.Cells.{expression-cells}
-use Rattle.grammar.specs.Parts.{Word, TRUE, FALSE, NULL, AND, OR, NOT, IS, NAN, digit, Sign, equal, less, greater, Part, word, sign, opening, closing}
-use Rattle.grammar.specs.Machine.{Before, nothing-before, Slot, Stack, Position, want, have, is, whole, fill-beside, fill, one-more-not, feed, tree-of, Sort, plain, minus, hash, greatest, number, numbered, Candidate, State, between, in-word, begun, in-number, in-string, Class, class, candidates, narrow, after-letter, begin, string-ends, step, finish}
+use Rattle.grammar.specs.Parts.{Word, TRUE, FALSE, NULL, AND, OR, NOT, IS, NAN, Sign, word}
+use Rattle.grammar.specs.Machine.{Before, Slot, Stack, Position, want, have, is, feed, Sort, plain, minus, hash, greatest, State, between, in-word, begun, in-number, in-string, candidates, narrow, after-letter}
 use Rattle.condition.specs.Lean as Lean
-use Rattle.condition.specs.Lean.{World, world, All, all, beside}
+use Rattle.condition.specs.Lean.{World, world, All, beside}
 use Rattle.condition.specs.declared.Machine.{Machine}
-use Rattle.condition_laws.specs.Drawn.{has, sign-tag, left-tag, before-of, left-of, stack-of, stage-of, lean, stack-cells, position-cells, cell-with, at-cells, at-position}
-use Rattle.condition_laws.specs.Settled.{conjoin-drawn, disjoin-drawn, and-follows, or-follows, null-follows, nan-follows, fill-follows, operand-follows}
+use Rattle.condition_laws.specs.Drawn.{has, left-tag, before-of, stack-of, cell-with, at-position}
+use Rattle.condition_laws.specs.Settled.{and-follows, or-follows, null-follows, nan-follows, operand-follows}
 
 -- ---- the stack, and what bounds it
 

@@ -1,23 +1,21 @@
 -- Between parts, where a word, number or column begins.
-use Prim.Native.Nat.{ℕ, zero, suc, _+_, _-_, _*_, _≤_, _<_}
+use Prim.Native.Nat.{ℕ, suc, _-_, _≤_, _<_}
 use native.Mathlib.Omega.{arith}
 use borrow.Author.Tests.{leb-true}
-use mathlib.Core.Path.{_≡_, refl, sym, ap, ap₂, _∙_, subst}
-use mathlib.Core.Bool.{Bool, true, false, cond, _&&_}
-use mathlib.Core.List.{List, [], _∷_, _++_}
+use mathlib.Core.Path.{_≡_, refl, sym, ap, _∙_, subst}
+use mathlib.Core.Bool.{Bool, true, false, cond}
+use mathlib.Core.List.{List, []}
 use mathlib.Core.Option.{Option, none, some}
-use lib.Dec.{leb, ltb, eqb}
-use lib.ListN.{length}
+use lib.Dec.{leb, eqb}
 use Rattle.sql.specs.Expression.{Expression}
 use Rattle.sheet_laws.specs.Content.{and-right}
-use Rattle.grammar.specs.Parts.{digit, Sign, equal, less, greater}
-use Rattle.grammar.specs.Machine.{Before, Slot, Stack, Position, want, have, is, Sort, plain, minus, hash, greatest, Candidate, State, between, in-word, begun, in-number, in-string, Class, a-digit, another, class, candidates, narrow, after-letter, begin}
+use Rattle.grammar.specs.Parts.{digit, Sign}
+use Rattle.grammar.specs.Machine.{Before, Stack, Position, want, have, is, plain, Candidate, State, Class, a-digit, another, class, candidates, narrow, after-letter, begin}
 use Rattle.condition.specs.Lean as Lean
-use Rattle.condition.specs.Lean.{World, world, All, all, beside}
+use Rattle.condition.specs.Lean.{All, all}
 use Rattle.condition.specs.declared.Machine.{Machine}
-use Rattle.condition_laws.specs.Drawn.{has, sign-tag, left-tag, before-of, left-of, stack-of, stage-of, lean, at-position}
 use Rattle.condition_laws.specs.Bytes.{pick-b, skip-b, Other, Seen, seen-space, seen-quote, seen-opening, seen-closing, seen-equal, seen-less, seen-greater, seen-minus, seen-hash, seen-t, seen-f, seen-n, seen-a, seen-o, seen-i, seen-digit, seen-other, class-digit, class-other, begins-digit, begins-other}
-use Rattle.condition_laws.specs.Follows.{after-t, after-f, after-a, after-o, after-i, Holds, behind-mode, stands, Sim, sim-between, sim-word, sim-n, sim-minus, sim-hash, sim-number, sim-string, Steps}
+use Rattle.condition_laws.specs.Follows.{after-t, after-f, after-a, after-o, after-i, Holds, behind-mode, stands, sim-between, sim-word, sim-n, sim-minus, sim-hash, sim-number, Steps}
 use Rattle.condition_laws.specs.Begin.{hold, Begins, quote-follows, equal-follows, less-follows, greater-follows, open-follows, close-follows}
 
 module _ (out₀ : List ℕ) (at v : ℕ) (stack : List ℕ) where

@@ -1,26 +1,24 @@
 -- The machine with numbers, over a whole text, reads what the machine with trees reads, and writes the cells of the tree.
-use Prim.Native.Nat.{ℕ, zero, suc, _+_, _-_, _*_, _≤_, _<_}
+use Prim.Native.Nat.{ℕ, suc, _+_, _≤_, _<_}
 use native.Mathlib.Omega.{arith}
 use native.Mathlib.Numerals.{add-one}
 use borrow.Author.Tests.{ne-eqb, eq-eqb}
-use mathlib.Core.Path.{_≡_, refl, sym, ap, ap₂, _∙_, subst}
-use mathlib.Core.Bool.{Bool, true, false, cond}
-use mathlib.Core.List.{List, [], _∷_, _++_}
+use mathlib.Core.Path.{_≡_, refl, sym, ap, _∙_, subst}
+use mathlib.Core.Bool.{true, false, cond}
+use mathlib.Core.List.{List, [], _∷_}
 use mathlib.Core.Option.{Option, none, some, Option·some-injective, Option·none-ne-some}
 use lib.Dec.{eqb}
 use lib.ListN.{length}
 use Rattle.sql.specs.Expression.{Expression}
-use Rattle.sheet.specs.Cell.{Cell}
 use Rattle.sheet.specs.Cells.{expression-cells}
 use Rattle.grammar.specs.Parts.{Sign}
-use Rattle.grammar.specs.Machine.{Before, nothing-before, Slot, Stack, Position, want, have, is, whole, fill-beside, fill, tree-of, Sort, plain, minus, hash, number, numbered, State, between, in-word, begun, in-number, in-string, start, candidates, narrow, after-letter, step, finish, Reading, taken, refused, run, reading}
+use Rattle.grammar.specs.Machine.{nothing-before, Position, want, have, is, tree-of, plain, minus, hash, numbered, State, start, candidates, narrow, after-letter, step, finish, Reading, taken, refused, run, reading}
 use Rattle.condition.specs.Lean as Lean
-use Rattle.condition.specs.Lean.{World, world, All, all, beside}
-use Rattle.condition.specs.declared.Machine.{Machine}
-use Rattle.condition_laws.specs.Drawn.{Count, drawn, stack-of, lean, position-cells, at-cells, at-position}
+use Rattle.condition.specs.Lean.{World, world, All, all}
+use Rattle.condition_laws.specs.Drawn.{Count, drawn, at-position}
 use Rattle.condition_laws.specs.Settled.{disjoin-drawn}
 use Rattle.condition_laws.specs.Bytes.{pick-b, skip-b}
-use Rattle.condition_laws.specs.Follows.{Holds, number-mode, node-mode, Node, after-t, after-tr, after-tru, after-f, after-fa, after-fal, after-fals, after-nu, after-nul, after-no, after-na, after-a, after-an, after-o, after-i, behind-mode, stands, Sim, sim-between, sim-word, sim-n, sim-minus, sim-hash, sim-number, sim-string, Steps}
+use Rattle.condition_laws.specs.Follows.{Holds, node-mode, Node, after-t, after-tr, after-tru, after-f, after-fa, after-fal, after-fals, after-nu, after-nul, after-no, after-na, after-a, after-an, after-o, after-i, Sim, sim-between, sim-word, sim-n, sim-minus, sim-hash, sim-number, sim-string, Steps}
 use Rattle.condition_laws.specs.Step.{number-ends, step-follows}
 
 -- What a run leaves: stuck, or the cells of a tree written and counted.

@@ -1,19 +1,19 @@
 -- NOTs, And and Or are written where a condition is done, and a comparison's cell where its right side is.
-use Prim.Native.Nat.{ℕ, zero, suc, _+_, _-_, _*_}
-use mathlib.Core.Path.{_≡_, refl, sym, ap, ap₂, _∙_, subst}
-use mathlib.Core.Bool.{Bool, true, false, cond}
+use Prim.Native.Nat.{ℕ, zero, suc}
+use mathlib.Core.Path.{_≡_, refl, sym, ap, _∙_}
+use mathlib.Core.Bool.{Bool, false}
 use mathlib.Core.List.{List, [], _∷_, _++_, append-assoc, append-nil}
 use mathlib.Core.Option.{Option, none, some}
-use lib.ListN.{length, replicate}
+use lib.ListN.{replicate}
 use Rattle.sql.specs.Expression.{Expression, and, or, not, binary, unary, Unary, IsNull, IsNaN}
 use Rattle.sheet.specs.Cell.{Cell}
 use Rattle.sheet.specs.Cells.{expression-cells}
 use Rattle.grammar.specs.Parts.{Sign, equal, less, greater}
 use Rattle.grammar.specs.Grammar.{operator}
-use Rattle.grammar.specs.Machine.{Before, Slot, Stack, Position, want, have, is, joined, negations, conjoined, whole, fill-beside, fill, behind-and, behind-or}
+use Rattle.grammar.specs.Machine.{Before, Slot, Stack, want, have, is, joined, negations, conjoined, whole, fill-beside, fill, behind-and, behind-or}
 use Rattle.condition.specs.Lean as Lean
-use Rattle.condition.specs.Lean.{World, world, put-in, put-times, put-and, put-or, conjoin, disjoin}
-use Rattle.condition_laws.specs.Drawn.{drawn, option-cells, before-cells, beside-cells, stack-cells, position-cells, cell-with, at-cells, at-position, put-drawn, not-cell, times-drawn, after, and-drawn, or-drawn, sign-tag, left-tag}
+use Rattle.condition.specs.Lean.{put-and, put-or, conjoin, disjoin}
+use Rattle.condition_laws.specs.Drawn.{option-cells, before-cells, beside-cells, stack-cells, position-cells, cell-with, at-cells, at-position, put-drawn, not-cell, times-drawn, after, and-drawn, or-drawn}
 
 -- ---- the cells of a condition
 

@@ -3,16 +3,15 @@ use Prim.Native.Nat.{ℕ, zero, suc, _+_, _-_, _*_, _/_, _%_, _≤_, _<_}
 use native.Mathlib.Omega.{arith}
 use native.Mathlib.Decide.{decLt}
 use borrow.Author.Tests.{eqb-true, eqb-false, eq-eqb, ne-eqb, lt-ltb, le-ltb, leb-true, leb-false}
-use mathlib.Core.Path.{_≡_, refl, sym, ap, ap₂, _∙_, subst}
-use mathlib.Core.Bool.{Bool, true, false, cond, _&&_}
+use mathlib.Core.Path.{_≡_, refl, sym, ap, _∙_, subst}
+use mathlib.Core.Bool.{Bool, true, false, cond}
 use mathlib.Core.List.{List, [], _∷_, _++_}
 use mathlib.Core.Option.{Option, none, some, Option·some-injective, Option·none-ne-some}
-use lib.Dec.{leb, ltb, eqb}
-use lib.IntN.{pos, negℤ}
+use lib.Dec.{leb, eqb}
 use lib.ListN.{length, length-append}
-use Rattle.value.specs.Value.{datum, integer, string}
+use Rattle.value.specs.Value.{datum, string}
 use Rattle.value.specs.Meaning.{integer-bits}
-use Rattle.sql.specs.Expression.{Expression, constant, column}
+use Rattle.sql.specs.Expression.{Expression, constant}
 use Rattle.sheet.specs.Cells.{expression-cells}
 use Rattle.sheet_laws.specs.Content.{and-right}
 use Rattle.grammar.specs.Parts.{Word, TRUE, FALSE, NULL, AND, OR, NOT, IS, NAN, digit, Sign, equal, less, greater, word}
@@ -20,11 +19,11 @@ use Rattle.grammar.specs.Machine.{Before, Slot, Stack, Position, want, have, is
 use Rattle.condition.specs.Lean as Lean
 use Rattle.condition.specs.Lean.{World, world, All, all, beside}
 use Rattle.condition.specs.declared.Machine.{Machine}
-use Rattle.condition_laws.specs.Drawn.{has, sign-tag, left-tag, before-of, left-of, stack-of, stage-of, lean, cell-with, at-position}
+use Rattle.condition_laws.specs.Drawn.{before-of, stack-of, cell-with, at-position}
 use Rattle.condition_laws.specs.Settled.{operand-follows}
 use Rattle.condition_laws.specs.Bytes.{pick-b, skip-b, seen}
-use Rattle.condition_laws.specs.Follows.{Holds, next-holds, number-mode, Node, after-t, after-tr, after-tru, after-f, after-fa, after-fal, after-fals, after-nu, after-nul, after-no, after-na, after-a, after-an, after-o, after-i, node-mode, first-of, rest-of, word-at, behind-mode, stands, Sim, sim-between, sim-word, sim-n, sim-minus, sim-hash, sim-number, sim-string, Steps, last-mode, word-follows}
-use Rattle.condition_laws.specs.Begin.{hold, Begins, fill-stack}
+use Rattle.condition_laws.specs.Follows.{Holds, next-holds, number-mode, Node, after-t, after-tr, after-tru, after-f, after-fa, after-fal, after-fals, after-nu, after-nul, after-no, after-na, after-a, after-an, after-o, after-i, node-mode, first-of, rest-of, word-at, stands, Sim, sim-between, sim-word, sim-n, sim-minus, sim-hash, sim-number, sim-string, Steps, last-mode, word-follows}
+use Rattle.condition_laws.specs.Begin.{hold}
 use Rattle.condition_laws.specs.Letters.{known, begin-follows}
 
 -- what may follow N

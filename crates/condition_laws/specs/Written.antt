@@ -1,18 +1,16 @@
 -- The cells of a condition's tree, counted and written, are the bytes that the definition hands out.
-use Prim.Native.Nat.{ℕ, zero, suc, _+_, _-_, _*_, _≤_, _<_}
+use Prim.Native.Nat.{ℕ, suc, _+_, _-_, _*_, _≤_, _<_}
 use native.Mathlib.Omega.{arith}
-use native.Mathlib.Decide.{decLt}
-use borrow.Author.Tests.{le-leb, lt-leb, le-ltb}
-use mathlib.Core.Path.{_≡_, refl, sym, ap, ap₂, _∙_, subst}
-use mathlib.Core.Bool.{Bool, true, false, cond}
-use mathlib.Core.List.{List, [], _∷_, _++_, append-assoc}
-use mathlib.Core.Option.{Option, none, some, Option·some-injective, Option·none-ne-some}
-use lib.Dec.{leb, ltb}
+use borrow.Author.Tests.{lt-leb, le-ltb}
+use mathlib.Core.Path.{_≡_, refl, sym, ap, _∙_, subst}
+use mathlib.Core.Bool.{Bool, true, false}
+use mathlib.Core.List.{List, [], _∷_, _++_}
+use mathlib.Core.Option.{some, Option·some-injective, Option·none-ne-some}
+use lib.Dec.{leb}
 use lib.ListN.{length, take, drop, length-append, length-drop}
 use lib.Seq.{length-take-le}
 use Rattle.value.specs.Value.{truth, datum, False, Unknown, True, integer, float, string}
 use Rattle.sql.specs.Expression.{Expression, constant, column, unary, binary, Unary, Binary, Not, IsNull, IsNaN, Identity, Negate, And, Or, Equal, GreaterThan, LessThan, Add, Divide, logical}
-use Rattle.sheet.specs.Bytes.{bytes}
 use Rattle.sheet.specs.Cell.{Cell}
 use Rattle.sheet.specs.Cells.{expression-cells}
 use Rattle.sheet.specs.Content.{Content, cell-of, marked, constant-cell, column-cell, unary-cell, binary-cell}
@@ -22,7 +20,7 @@ use Rattle.encode.proofs.Written.{chain, written-none}
 use Rattle.grammar.specs.Parts.{Word, TRUE, FALSE, NULL, AND, OR, NOT, IS, NAN, Part, word, sign, opening, closing}
 use Rattle.grammar.specs.Grammar.{part-tree, Rank, Reads, simple, in-parentheses, alone, compared, is-null, is-nan, affirmed, negated, one, both, single, either, Condition}
 use Rattle.condition.specs.Lean.{if-room, four-words}
-use Rattle.condition_laws.specs.Drawn.{Count, chosen, put-cell, drawn}
+use Rattle.condition_laws.specs.Drawn.{Count, put-cell, drawn}
 use Rattle.condition_laws.specs.Bytes.{pick-b, skip-b}
 
 -- ---- cells without flag and origin

@@ -1,11 +1,10 @@
 -- From every state that the machine reaches a text of the grammar goes on.
-use Prim.Native.Nat.{ℕ, zero, suc, _+_, _-_}
+use Prim.Native.Nat.{ℕ, suc, _+_}
 use borrow.Author.Tests.{eq-eqb}
-use mathlib.Core.Path.{_≡_, refl, sym, ap, _∙_}
+use mathlib.Core.Path.{_≡_, refl, ap, _∙_}
 use mathlib.Core.Bool.{Bool, true, false, cond}
 use mathlib.Core.List.{List, [], _∷_, _++_}
 use mathlib.Core.Option.{Option, none, some}
-use lib.Dec.{eqb}
 use Rattle.sql.specs.Expression.{IsNull, Unary, Expression, unary}
 use Rattle.grammar.specs.Parts.{Sign, NULL, letters}
 use Rattle.grammar.specs.Machine.{Before, Slot, Stack, Position, want, have, is, whole, fill-beside, fill, Sort, plain, numbered, Candidate, State, between, in-word, begun, in-number, in-string, after-letters, after-letter, string-ends, narrow, step, taken, run}

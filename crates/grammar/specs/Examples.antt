@@ -3,12 +3,12 @@ use Prim.Native.Nat.{ℕ}
 use native.Mathlib.Omega.{arith}
 use mathlib.Core.Path.{_≡_, refl}
 use mathlib.Core.Bool.{true, false}
-use mathlib.Core.List.{List, [], _∷_}
+use mathlib.Core.List.{[], _∷_}
 use lib.IntN.{pos, negsuc}
 use lib.ListN.{replicate}
 use Rattle.value.specs.Value.{datum, null, boolean, integer, string}
 use Rattle.sql.specs.Expression.{Equal, LessThan, IsNull, IsNaN, Binary, Unary, Expression, constant, column, unary, binary, and, or, not}
-use Rattle.grammar.specs.Parts.{ascii, decimal-from, TRUE, NOT, OR, IS, NAN, equal, word, sign, opening, closing, Part, Parts, none-left, space, part, a-word, an-integer, a-column, a-string, a-sign, a-parenthesis, its-end}
+use Rattle.grammar.specs.Parts.{ascii, decimal-from, TRUE, NOT, OR, IS, NAN, equal, word, sign, opening, closing, Part, none-left, space, part, a-word, an-integer, a-column, a-string, a-sign, a-parenthesis, its-end}
 use Rattle.grammar.specs.Grammar.{Condition, simple, in-parentheses, alone, compared, is-nan, affirmed, negated, one, single, either}
 use Rattle.grammar.specs.Machine.{reading, refused, taken}
 

@@ -1,12 +1,12 @@
 -- The machine, part by part, reads what the grammar derives: a condition's parts, and no others, with its tree.
-use Prim.Native.Nat.{ℕ, zero, suc}
-use mathlib.Core.Path.{_≡_, refl, sym, ap, _∙_, subst}
+use Prim.Native.Nat.{ℕ, suc}
+use mathlib.Core.Path.{_≡_, refl, ap, _∙_, subst}
 use mathlib.Core.Bool.{Bool, true, false}
 use mathlib.Core.List.{List, [], _∷_}
 use mathlib.Core.Option.{Option, none, some, Option·some-injective, Option·none-ne-some}
-use Rattle.sql.specs.Expression.{Expression, binary, and, or, not}
-use Rattle.grammar.specs.Parts.{Word, TRUE, FALSE, NULL, AND, OR, NOT, IS, NAN, Sign, Part, word, sign, opening, closing}
-use Rattle.grammar.specs.Grammar.{operator, part-tree, Rank, disjunction, conjunction, negation, comparison, operand, Reads, simple, in-parentheses, alone, compared, is-null, is-nan, affirmed, negated, one, both, single, either}
+use Rattle.sql.specs.Expression.{Expression, and, or, not}
+use Rattle.grammar.specs.Parts.{TRUE, FALSE, NULL, AND, OR, NOT, IS, NAN, Sign, Part, word, sign, opening, closing}
+use Rattle.grammar.specs.Grammar.{part-tree, Rank, disjunction, conjunction, negation, comparison, operand, Reads, simple, in-parentheses, alone, compared, is-null, is-nan, affirmed, negated, one, both, single, either}
 use Rattle.grammar.specs.Machine.{Before, nothing-before, Slot, Stack, Position, want, have, is, joined, negations, conjoined, whole, fill-beside, fill, other-wanted, operand-or, feed, tree-of}
 
 -- The tree of the condition that parts make from a position on.

@@ -1,7 +1,7 @@
 -- Document 02, W-211: the grammar of conditions, over the parts that they are typed with. It is apart from the machine that reads (Machine.antt).
 use Prim.Native.Nat.{ℕ}
 use mathlib.Core.Path.{_≡_}
-use mathlib.Core.Bool.{Bool, true, false}
+use mathlib.Core.Bool.{true, false}
 use mathlib.Core.List.{List, [], _∷_}
 use mathlib.Core.Option.{Option, none, some}
 use Rattle.value.specs.Value.{datum, null, boolean, integer, string}

@@ -1,15 +1,14 @@
 -- The strings of a condition refer into the typed text: "the typed text serving as text section".
 use Prim.Native.Nat.{ℕ, suc, _+_, _*_, _/_, _%_, _≤_, _<_}
 use native.Mathlib.Omega.{arith}
-use native.Mathlib.Nat.{mod-eq-of-lt, div-eq-of-lt, add-mul-mod-self-left, add-mul-div-left}
 use mathlib.Core.Path.{_≡_, refl, sym, ap, ap₂, _∙_, subst}
-use mathlib.Core.Option.{Option, none, some, Option·some-injective, Option·none-ne-some}
+use mathlib.Core.Option.{some, Option·some-injective, Option·none-ne-some}
 use mathlib.Core.List.{List, [], _∷_, _++_, append-assoc}
-use mathlib.Core.Bool.{Bool, true, false}
+use mathlib.Core.Bool.{Bool}
 use lib.ListN.{length, take, drop, length-append}
 use lib.Seq.{take-append-seam, drop-append-add}
 use Rattle.value.specs.Value.{Datum, integer, float, string, Value, truth, datum}
-use Rattle.value.specs.Meaning.{offset, text-length, bytes-at}
+use Rattle.value.specs.Meaning.{bytes-at}
 use Rattle.sql.specs.Expression.{Expression, constant, column, unary, binary}
 use Rattle.sheet_laws.specs.Content.{low-part, high-part}
 use Rattle.grammar.specs.Parts.{Word, TRUE, FALSE, NULL, AND, OR, NOT, IS, NAN, Part, word, sign, opening, closing, Parts, none-left, space, part, Spells, a-word, an-integer, a-negative, a-column, a-string, a-sign, a-parenthesis, its-end}

@@ -7,7 +7,7 @@ use lib.ListN.{length, take}
 use Rattle.sql.specs.Expression.{Expression}
 use Rattle.grammar.specs.Grammar.{Condition}
 use Rattle.grammar.specs.Refers.{Refers}
-use Rattle.grammar.specs.Machine.{Reading, taken, refused, reading}
+use Rattle.grammar.specs.Machine.{taken, refused, reading}
 
 -- "place the first byte no text of the grammar, of any length, can continue with, or the length": some text of the grammar continues what stands before the
 -- place, and none continues what includes the byte there.

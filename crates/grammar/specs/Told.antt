@@ -1,5 +1,5 @@
 -- A text that the machine takes is made of parts that it reads to that tree.
-use Prim.Native.Nat.{ℕ, zero, suc, _+_, _-_, _*_, _≤_, _<_}
+use Prim.Native.Nat.{ℕ, suc, _+_, _-_, _*_, _≤_}
 use native.Mathlib.Omega.{arith}
 use borrow.Author.Tests.{eqb-true, leb-true}
 use mathlib.Core.Path.{_≡_, refl, sym, ap, _∙_, subst}
@@ -12,7 +12,7 @@ use lib.ListN.{length}
 use Rattle.sql.specs.Expression.{Expression}
 use Rattle.sheet_laws.specs.Content.{and-right, and-true}
 use Rattle.grammar.specs.Parts.{Word, TRUE, FALSE, NULL, AND, OR, NOT, IS, NAN, letters, all, digit, decimal-from, decimal, digits, Sign, equal, less, greater, sign-byte, Part, word, sign, opening, closing, Spells, a-word, an-integer, a-negative, a-column, a-string, a-sign, a-parenthesis, its-end, solid, Parts, none-left, space, part}
-use Rattle.grammar.specs.Machine.{Before, Slot, Stack, Position, want, have, is, feed, Sort, plain, minus, hash, greatest, numbered, Candidate, State, between, in-word, begun, in-number, in-string, Class, a-digit, a-space, a-quote, a-minus, a-hash, an-opening, a-closing, another, class, apart, if-fed, candidates-of, candidates, narrow-one, narrow, after-letters, after-letter, if-apart, in-slot, begin, one-more-digit, string-ends, step, finish, Reading, taken, refused, run}
+use Rattle.grammar.specs.Machine.{Slot, Stack, Position, want, have, is, feed, Sort, plain, minus, hash, greatest, numbered, Candidate, State, between, in-word, begun, in-number, in-string, Class, a-digit, a-space, a-quote, a-minus, a-hash, an-opening, a-closing, another, class, apart, if-fed, candidates-of, candidates, narrow-one, narrow, after-letters, after-letter, begin, one-more-digit, string-ends, step, finish, Reading, taken, refused, run}
 use Rattle.grammar.specs.Fed.{feeds, feeds-step}
 
 -- ---- what a byte of each class is

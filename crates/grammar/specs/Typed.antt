@@ -1,18 +1,17 @@
 -- The machine, byte by byte, reads the parts that a text is made of.
-use Prim.Native.Nat.{ℕ, zero, suc, _+_, _-_, _*_, _≤_, _<_}
+use Prim.Native.Nat.{ℕ, suc, _+_, _-_, _*_, _≤_}
 use native.Mathlib.Omega.{arith}
-use borrow.Author.Tests.{eqb-true, le-leb, leb-true, not-true}
+use borrow.Author.Tests.{le-leb, not-true}
 use mathlib.Core.Path.{_≡_, refl, sym, ap, ap₂, _∙_, subst}
 use mathlib.Core.Bool.{Bool, true, false, not, _&&_, cond}
 use mathlib.Core.List.{List, [], _∷_, _++_, append-assoc, append-nil}
 use mathlib.Core.Option.{Option, none, some, Option·some-injective, Option·none-ne-some}
-use lib.Dec.{leb, eqb}
+use lib.Dec.{eqb}
 use lib.ListN.{length}
-use Rattle.value.specs.Value.{datum, integer, string}
-use Rattle.sql.specs.Expression.{Expression, constant, column}
-use Rattle.sheet_laws.specs.Content.{and-left, and-right, and-true}
-use Rattle.grammar.specs.Parts.{Word, TRUE, FALSE, NULL, AND, OR, NOT, IS, NAN, letters, all, digit, decimal-from, decimal, digits, Sign, equal, less, greater, sign-byte, Part, word, sign, opening, closing, Spells, a-word, an-integer, a-negative, a-column, a-string, a-sign, a-parenthesis, its-end, solid, Parts, none-left, space, part}
-use Rattle.grammar.specs.Machine.{Before, Slot, Stack, Position, want, have, is, fill, feed, tree-of, Sort, plain, minus, hash, greatest, number, numbered, Candidate, State, between, in-word, begun, in-number, in-string, Class, a-digit, a-space, a-quote, a-minus, a-hash, an-opening, a-closing, another, class, apart, if-fed, candidates-of, candidates, narrow-one, narrow, after-letters, after-letter, if-apart, in-slot, begin, one-more-digit, string-ends, step, finish, Reading, taken, refused, run}
+use Rattle.sql.specs.Expression.{Expression}
+use Rattle.sheet_laws.specs.Content.{and-left, and-right}
+use Rattle.grammar.specs.Parts.{Word, TRUE, FALSE, NULL, AND, OR, NOT, IS, NAN, letters, all, digit, decimal-from, decimal, digits, Sign, equal, less, greater, Part, word, sign, opening, closing, Spells, a-word, an-integer, a-negative, a-column, a-string, a-sign, a-parenthesis, its-end, solid, Parts, none-left, space, part}
+use Rattle.grammar.specs.Machine.{Before, Slot, Stack, Position, want, have, is, feed, Sort, plain, minus, hash, greatest, numbered, State, between, begun, in-number, in-string, Class, a-digit, a-space, a-quote, a-minus, a-hash, an-opening, a-closing, another, class, apart, begin, one-more-digit, string-ends, step, finish, Reading, taken, refused, run}
 use Rattle.grammar.specs.Fed.{feeds, feeds-step}
 
 -- ---- steps

@@ -1,17 +1,9 @@
-use Prim.Native.Nat.{ℕ, _*_, _≤_, _<_}
-use native.Mathlib.Omega.{arith}
-use mathlib.Core.Path.{_≡_, refl, sym, ap, _∙_}
-use mathlib.Core.List.{List}
-use lib.ListN.{length, replicate}
+use mathlib.Core.Path.{refl, ap, _∙_}
 use Rattle.sheet.specs.Check.{Numbers}
 use Rattle.condition_laws.specs.Answers.{too-long, not-taken, too-many, no-room, handed}
 use borrow.Author.Needs.{needs}
 use Rattle.read_condition.proofs.read_condition.Statement.{statement}
 use Rattle.read_condition.proofs.read_condition.Tie as tie
-use Rattle.read_condition.proofs.read_condition.Reads as reads
-use Rattle.read_condition.proofs.read_condition.Lts as lts
-use Rattle.checker.proofs.refusal.Reads as refusal-reads
-use Rattle.condition.proofs.run.Reads as run-reads
 
 -- src/lib.rt:13:9
 refusal-requires : tie.Need-refusal-requires
