@@ -15,7 +15,7 @@ use Rattle.sheet_laws.specs.Content.{and-left, and-right}
 use Rattle.grammar.specs.Parts.{digit}
 use Rattle.encode.specs.Encode.{written}
 use Rattle.encode.proofs.Written.{chain, length-bytes}
-use Rattle.condition.specs.Lean.{World, world, to-mode, stuck, to-stage, counted, four-words, if-room, put-in, put-times, put-nots, put-and, put-or, conjoin, disjoin, compared, fill, operand, and-before, or-before, closed, behind-and, behind-or, behind-is, with-nots, one-more-not, null-word, other-word, word, next-letters, last-letters, reopened, closes, ended, signed, reference, All, all, placed, step, finish, at-end, run}
+use Rattle.condition.specs.Lean.{World, world, to-mode, to-stage, counted, four-words, if-room, put-in, put-times, put-and, put-or, disjoin, compared, fill, operand, behind-and, behind-or, behind-is, with-nots, one-more-not, null-word, other-word, word, reopened, closes, ended, All, placed, step, finish, at-end, run}
 use Rattle.condition.specs.declared.Machine.{Machine}
 
 -- ---- which side of a test

@@ -1,8 +1,4 @@
-use Prim.Native.Nat.{ℕ, _+_, _-_, _*_, _≤_, _<_}
-use native.Mathlib.Omega.{arith}
-use mathlib.Core.Path.{_≡_, refl, sym, ap, _∙_, subst}
-use mathlib.Core.List.{List, [], _∷_, _++_}
-use lib.ListN.{length, take, drop, length-set}
+use mathlib.Core.Path.{sym, ap, _∙_}
 use Rattle.condition.proofs.Laws.{pick-eq, skip-eq}
 use Rattle.condition.specs.Lean.{World, all, All}
 use Rattle.condition.specs.Lean
@@ -10,13 +6,6 @@ use Rattle.condition.specs.declared.Machine.{Machine}
 use borrow.Author.Needs.{needs}
 use Rattle.condition.proofs.begin.Statement.{statement}
 use Rattle.condition.proofs.begin.Tie as tie
-use Rattle.condition.proofs.begin.Reads as reads
-use Rattle.condition.proofs.begin.Lts as lts
-use Rattle.condition.proofs.begin_sign.Reads as begin-sign-reads
-use Rattle.condition.proofs.close_one.Reads as close-one-reads
-use Rattle.condition.proofs.open_one.Reads as open-one-reads
-use Rattle.condition.proofs.to_mode.Reads as to-mode-reads
-use Rattle.condition.proofs.wanted.Reads as wanted-reads
 
 -- src/lib.rt:515:9
 to-mode-requires : tie.Need-to-mode-requires

@@ -1,20 +1,10 @@
-use Prim.Native.Nat.{ℕ, _+_, _-_, _*_, _≤_, _<_}
-use native.Mathlib.Omega.{arith}
-use mathlib.Core.Path.{_≡_, refl, sym, ap, _∙_, subst}
-use mathlib.Core.List.{List, [], _∷_, _++_}
-use lib.ListN.{length, take, drop, length-set}
+use mathlib.Core.Path.{sym, _∙_}
 use Rattle.condition.proofs.Laws.{digit-low, pick-b, pick-eq, skip-b, skip-eq}
 use Rattle.condition.specs.Lean
 use Rattle.condition.specs.declared.Machine.{Machine}
 use borrow.Author.Needs.{needs}
 use Rattle.condition.proofs.begin_solid.Statement.{statement}
 use Rattle.condition.proofs.begin_solid.Tie as tie
-use Rattle.condition.proofs.begin_solid.Reads as reads
-use Rattle.condition.proofs.begin_solid.Lts as lts
-use Rattle.condition.proofs.digit.Reads as digit-reads
-use Rattle.condition.proofs.first_letter.Reads as first-letter-reads
-use Rattle.condition.proofs.stuck.Reads as stuck-reads
-use Rattle.condition.proofs.wanted.Reads as wanted-reads
 
 -- src/lib.rt:396:9
 stuck-requires : tie.Need-stuck-requires

@@ -1,8 +1,4 @@
-use Prim.Native.Nat.{ℕ, _+_, _-_, _*_, _≤_, _<_}
-use native.Mathlib.Omega.{arith}
-use mathlib.Core.Path.{_≡_, refl, sym, ap, _∙_, subst}
-use mathlib.Core.List.{List, [], _∷_, _++_}
-use lib.ListN.{length, take, drop, length-set}
+use mathlib.Core.Path.{sym, _∙_}
 use Rattle.condition.proofs.Laws.{digit-low, pick-b, skip-b}
 use Rattle.condition.specs.Lean
 use Rattle.condition.specs.declared.Machine.{Machine}
@@ -10,10 +6,6 @@ use borrow.Author.Tests.{not-true, not-false}
 use borrow.Author.Needs.{needs}
 use Rattle.condition.proofs.begun.Statement.{statement}
 use Rattle.condition.proofs.begun.Tie as tie
-use Rattle.condition.proofs.begun.Reads as reads
-use Rattle.condition.proofs.begun.Lts as lts
-use Rattle.condition.proofs.digit.Reads as digit-reads
-use Rattle.condition.proofs.stuck.Reads as stuck-reads
 
 -- src/lib.rt:588:9
 digit-requires : tie.Need-digit-requires

@@ -1,15 +1,8 @@
-use Prim.Native.Nat.{ℕ, _+_, _-_, _*_, _≤_, _<_}
-use native.Mathlib.Omega.{arith}
-use mathlib.Core.Path.{_≡_, refl, sym, ap, _∙_, subst}
-use mathlib.Core.List.{List, [], _∷_, _++_}
-use lib.ListN.{length, take, drop, length-set}
+use mathlib.Core.Path.{ap}
 use Rattle.condition.specs.Lean.{and-before}
 use borrow.Author.Needs.{needs}
 use Rattle.condition.proofs.behind_and.Statement.{statement}
 use Rattle.condition.proofs.behind_and.Tie as tie
-use Rattle.condition.proofs.behind_and.Reads as reads
-use Rattle.condition.proofs.behind_and.Lts as lts
-use Rattle.condition.proofs.conjoin.Reads as conjoin-reads
 
 -- src/lib.rt:149:9
 conjoin-requires : tie.Need-conjoin-requires

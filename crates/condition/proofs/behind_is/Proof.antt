@@ -1,15 +1,8 @@
-use Prim.Native.Nat.{ℕ, _+_, _-_, _*_, _≤_, _<_}
-use native.Mathlib.Omega.{arith}
-use mathlib.Core.Path.{_≡_, refl, sym, ap, _∙_, subst}
-use mathlib.Core.List.{List, [], _∷_, _++_}
-use lib.ListN.{length, take, drop, length-set}
+use mathlib.Core.Path.{ap}
 use Rattle.condition.specs.Lean.{closed}
 use borrow.Author.Needs.{needs}
 use Rattle.condition.proofs.behind_is.Statement.{statement}
 use Rattle.condition.proofs.behind_is.Tie as tie
-use Rattle.condition.proofs.behind_is.Reads as reads
-use Rattle.condition.proofs.behind_is.Lts as lts
-use Rattle.condition.proofs.put.Reads as put-reads
 
 -- src/lib.rt:171:9
 put-requires : tie.Need-put-requires

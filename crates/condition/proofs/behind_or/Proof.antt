@@ -1,15 +1,8 @@
-use Prim.Native.Nat.{ℕ, _+_, _-_, _*_, _≤_, _<_}
-use native.Mathlib.Omega.{arith}
-use mathlib.Core.Path.{_≡_, refl, sym, ap, _∙_, subst}
-use mathlib.Core.List.{List, [], _∷_, _++_}
-use lib.ListN.{length, take, drop, length-set}
+use mathlib.Core.Path.{ap}
 use Rattle.condition.specs.Lean.{or-before}
 use borrow.Author.Needs.{needs}
 use Rattle.condition.proofs.behind_or.Statement.{statement}
 use Rattle.condition.proofs.behind_or.Tie as tie
-use Rattle.condition.proofs.behind_or.Reads as reads
-use Rattle.condition.proofs.behind_or.Lts as lts
-use Rattle.condition.proofs.disjoin.Reads as disjoin-reads
 
 -- src/lib.rt:159:9
 disjoin-requires : tie.Need-disjoin-requires

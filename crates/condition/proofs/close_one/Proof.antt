@@ -1,8 +1,4 @@
-use Prim.Native.Nat.{ℕ, _+_, _-_, _*_, _≤_, _<_}
-use native.Mathlib.Omega.{arith}
-use mathlib.Core.Path.{_≡_, refl, sym, ap, _∙_, subst}
-use mathlib.Core.List.{List, [], _∷_, _++_}
-use lib.ListN.{length, take, drop, length-set}
+use mathlib.Core.Path.{sym, ap, _∙_}
 use Rattle.condition.proofs.Laws.{close-last, pick-b, pick-eq, pick-lt, skip-b, skip-eq, skip-lt}
 use Rattle.condition.specs.Lean.{World, world}
 use Rattle.condition.specs.Lean
@@ -11,13 +7,6 @@ use borrow.Author.Tests.{not-true, not-false}
 use borrow.Author.Needs.{needs}
 use Rattle.condition.proofs.close_one.Statement.{statement}
 use Rattle.condition.proofs.close_one.Tie as tie
-use Rattle.condition.proofs.close_one.Reads as reads
-use Rattle.condition.proofs.close_one.Lts as lts
-use Rattle.condition.proofs.disjoin.Reads as disjoin-reads
-use Rattle.condition.proofs.fill.Reads as fill-reads
-use Rattle.condition.proofs.reopened.Reads as reopened-reads
-use Rattle.condition.proofs.stuck.Reads as stuck-reads
-use Rattle.condition.proofs.there.Reads as there-reads
 
 -- src/lib.rt:493:9
 there-requires : tie.Need-there-requires

@@ -1,16 +1,7 @@
-use Prim.Native.Nat.{ℕ, _+_, _-_, _*_, _≤_, _<_}
-use native.Mathlib.Omega.{arith}
-use mathlib.Core.Path.{_≡_, refl, sym, ap, _∙_, subst}
-use mathlib.Core.List.{List, [], _∷_, _++_}
-use lib.ListN.{length, take, drop, length-set}
 use Rattle.condition.proofs.Laws.{and-none, and-some}
 use borrow.Author.Needs.{needs}
 use Rattle.condition.proofs.conjoin.Statement.{statement}
 use Rattle.condition.proofs.conjoin.Tie as tie
-use Rattle.condition.proofs.conjoin.Reads as reads
-use Rattle.condition.proofs.conjoin.Lts as lts
-use Rattle.condition.proofs.put.Reads as put-reads
-use Rattle.condition.proofs.put_nots.Reads as put-nots-reads
 
 -- src/lib.rt:88:9
 put-nots-requires : tie.Need-put-nots-requires

@@ -1,13 +1,7 @@
-use Prim.Native.Nat.{ℕ, _+_, _-_, _*_, _≤_, _<_}
 use native.Mathlib.Omega.{arith}
-use mathlib.Core.Path.{_≡_, refl, sym, ap, _∙_, subst}
-use mathlib.Core.List.{List, [], _∷_, _++_}
-use lib.ListN.{length, take, drop, length-set}
 use Rattle.condition.proofs.Laws.{digit-above, digit-below}
 use Rattle.condition.proofs.digit.Statement.{statement}
 use Rattle.condition.proofs.digit.Tie as tie
-use Rattle.condition.proofs.digit.Reads as reads
-use Rattle.condition.proofs.digit.Lts as lts
 
 -- src/lib.rt:386:9
 returns : tie.Need-returns

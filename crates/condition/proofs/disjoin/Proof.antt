@@ -1,16 +1,7 @@
-use Prim.Native.Nat.{ℕ, _+_, _-_, _*_, _≤_, _<_}
-use native.Mathlib.Omega.{arith}
-use mathlib.Core.Path.{_≡_, refl, sym, ap, _∙_, subst}
-use mathlib.Core.List.{List, [], _∷_, _++_}
-use lib.ListN.{length, take, drop, length-set}
 use Rattle.condition.proofs.Laws.{or-none, or-some}
 use borrow.Author.Needs.{needs}
 use Rattle.condition.proofs.disjoin.Statement.{statement}
 use Rattle.condition.proofs.disjoin.Tie as tie
-use Rattle.condition.proofs.disjoin.Reads as reads
-use Rattle.condition.proofs.disjoin.Lts as lts
-use Rattle.condition.proofs.conjoin.Reads as conjoin-reads
-use Rattle.condition.proofs.put.Reads as put-reads
 
 -- src/lib.rt:98:9
 conjoin-requires : tie.Need-conjoin-requires

@@ -1,8 +1,4 @@
-use Prim.Native.Nat.{ℕ, _+_, _-_, _*_, _≤_, _<_}
-use native.Mathlib.Omega.{arith}
-use mathlib.Core.Path.{_≡_, refl, sym, ap, _∙_, subst}
-use mathlib.Core.List.{List, [], _∷_, _++_}
-use lib.ListN.{length, take, drop, length-set}
+use mathlib.Core.Path.{sym, ap, _∙_}
 use Rattle.condition.proofs.Laws.{end-last, pick-b, pick-eq, skip-b, skip-eq}
 use Rattle.condition.specs.Lean.{World, world}
 use Rattle.condition.specs.Lean
@@ -11,12 +7,6 @@ use borrow.Author.Tests.{not-true, not-false}
 use borrow.Author.Needs.{needs}
 use Rattle.condition.proofs.ends.Statement.{statement}
 use Rattle.condition.proofs.ends.Tie as tie
-use Rattle.condition.proofs.ends.Reads as reads
-use Rattle.condition.proofs.ends.Lts as lts
-use Rattle.condition.proofs.disjoin.Reads as disjoin-reads
-use Rattle.condition.proofs.stuck.Reads as stuck-reads
-use Rattle.condition.proofs.there.Reads as there-reads
-use Rattle.condition.proofs.to_mode.Reads as to-mode-reads
 
 -- src/lib.rt:657:9
 there-requires : tie.Need-there-requires

@@ -1,15 +1,7 @@
-use Prim.Native.Nat.{ℕ, _+_, _-_, _*_, _≤_, _<_}
-use native.Mathlib.Omega.{arith}
-use mathlib.Core.Path.{_≡_, refl, sym, ap, _∙_, subst}
-use mathlib.Core.List.{List, [], _∷_, _++_}
-use lib.ListN.{length, take, drop, length-set}
 use Rattle.condition.proofs.Laws.{fill-alone, fill-beside}
 use borrow.Author.Needs.{needs}
 use Rattle.condition.proofs.fill.Statement.{statement}
 use Rattle.condition.proofs.fill.Tie as tie
-use Rattle.condition.proofs.fill.Reads as reads
-use Rattle.condition.proofs.fill.Lts as lts
-use Rattle.condition.proofs.put.Reads as put-reads
 
 -- src/lib.rt:112:9
 returns : tie.Need-returns

@@ -1,8 +1,4 @@
-use Prim.Native.Nat.{ℕ, _+_, _-_, _*_, _≤_, _<_}
-use native.Mathlib.Omega.{arith}
-use mathlib.Core.Path.{_≡_, refl, sym, ap, _∙_, subst}
-use mathlib.Core.List.{List, [], _∷_, _++_}
-use lib.ListN.{length, take, drop, length-set}
+use mathlib.Core.Path.{sym, ap, _∙_}
 use Rattle.condition.proofs.Laws.{pick-lt, skip-lt}
 use Rattle.condition.specs.Lean.{World, world, ends}
 use Rattle.condition.specs.Lean
@@ -10,11 +6,6 @@ use Rattle.condition.specs.declared.Machine.{Machine}
 use borrow.Author.Needs.{needs}
 use Rattle.condition.proofs.finish.Statement.{statement}
 use Rattle.condition.proofs.finish.Tie as tie
-use Rattle.condition.proofs.finish.Reads as reads
-use Rattle.condition.proofs.finish.Lts as lts
-use Rattle.condition.proofs.ends.Reads as ends-reads
-use Rattle.condition.proofs.number_ends.Reads as number-ends-reads
-use Rattle.condition.proofs.stuck.Reads as stuck-reads
 
 -- src/lib.rt:671:9
 ends-requires : tie.Need-ends-requires

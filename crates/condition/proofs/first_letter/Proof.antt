@@ -1,19 +1,10 @@
-use Prim.Native.Nat.{ℕ, _+_, _-_, _*_, _≤_, _<_}
-use native.Mathlib.Omega.{arith}
-use mathlib.Core.Path.{_≡_, refl, sym, ap, _∙_, subst}
-use mathlib.Core.List.{List, [], _∷_, _++_}
-use lib.ListN.{length, take, drop, length-set}
+use mathlib.Core.Path.{sym, _∙_}
 use Rattle.condition.proofs.Laws.{pick-eq, skip-eq}
 use Rattle.condition.specs.Lean
 use Rattle.condition.specs.declared.Machine.{Machine}
 use borrow.Author.Needs.{needs}
 use Rattle.condition.proofs.first_letter.Statement.{statement}
 use Rattle.condition.proofs.first_letter.Tie as tie
-use Rattle.condition.proofs.first_letter.Reads as reads
-use Rattle.condition.proofs.first_letter.Lts as lts
-use Rattle.condition.proofs.letter_n.Reads as letter-n-reads
-use Rattle.condition.proofs.operator_letter.Reads as operator-letter-reads
-use Rattle.condition.proofs.wanted.Reads as wanted-reads
 
 -- src/lib.rt:371:9
 wanted-requires : tie.Need-wanted-requires

@@ -1,14 +1,9 @@
-use Prim.Native.Nat.{ℕ, _+_, _-_, _*_, _≤_, _<_}
-use native.Mathlib.Omega.{arith}
-use mathlib.Core.Path.{_≡_, refl, sym, ap, _∙_, subst}
-use mathlib.Core.List.{List, [], _∷_, _++_}
-use lib.ListN.{length, take, drop, length-set}
+use Prim.Native.Nat.{ℕ}
+use mathlib.Core.Path.{sym, _∙_}
 use Rattle.condition.proofs.Laws.{pick-eq, skip-eq}
 use Rattle.condition.specs.Lean
 use Rattle.condition.proofs.greatest.Statement.{statement}
 use Rattle.condition.proofs.greatest.Tie as tie
-use Rattle.condition.proofs.greatest.Reads as reads
-use Rattle.condition.proofs.greatest.Lts as lts
 
 -- src/lib.rt:559:9
 returns : tie.Need-returns

@@ -1,8 +1,4 @@
-use Prim.Native.Nat.{ℕ, _+_, _-_, _*_, _≤_, _<_}
-use native.Mathlib.Omega.{arith}
-use mathlib.Core.Path.{_≡_, refl, sym, ap, _∙_, subst}
-use mathlib.Core.List.{List, [], _∷_, _++_}
-use lib.ListN.{length, take, drop, length-set}
+use mathlib.Core.Path.{sym, ap, _∙_}
 use Rattle.condition.proofs.Laws.{pick-lt, skip-lt}
 use Rattle.condition.specs.Lean.{World, world}
 use Rattle.condition.specs.Lean
@@ -10,10 +6,6 @@ use Rattle.condition.specs.declared.Machine.{Machine}
 use borrow.Author.Needs.{needs}
 use Rattle.condition.proofs.letter.Statement.{statement}
 use Rattle.condition.proofs.letter.Tie as tie
-use Rattle.condition.proofs.letter.Reads as reads
-use Rattle.condition.proofs.letter.Lts as lts
-use Rattle.condition.proofs.letter_in.Reads as letter-in-reads
-use Rattle.condition.proofs.letter_of_n.Reads as letter-of-n-reads
 
 -- src/lib.rt:298:9
 letter-of-n-requires : tie.Need-letter-of-n-requires

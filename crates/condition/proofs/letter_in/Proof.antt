@@ -1,8 +1,4 @@
-use Prim.Native.Nat.{ℕ, _+_, _-_, _*_, _≤_, _<_}
-use native.Mathlib.Omega.{arith}
-use mathlib.Core.Path.{_≡_, refl, sym, ap, _∙_, subst}
-use mathlib.Core.List.{List, [], _∷_, _++_}
-use lib.ListN.{length, take, drop, length-set}
+use mathlib.Core.Path.{sym, ap, _∙_}
 use Rattle.condition.proofs.Laws.{pick-eq, skip-eq}
 use Rattle.condition.specs.Lean.{World, world, word}
 use Rattle.condition.specs.Lean
@@ -10,11 +6,6 @@ use Rattle.condition.specs.declared.Machine.{Machine}
 use borrow.Author.Needs.{needs}
 use Rattle.condition.proofs.letter_in.Statement.{statement}
 use Rattle.condition.proofs.letter_in.Tie as tie
-use Rattle.condition.proofs.letter_in.Reads as reads
-use Rattle.condition.proofs.letter_in.Lts as lts
-use Rattle.condition.proofs.stuck.Reads as stuck-reads
-use Rattle.condition.proofs.to_mode.Reads as to-mode-reads
-use Rattle.condition.proofs.word.Reads as word-reads
 
 -- src/lib.rt:280:21
 sub-next : tie.Need-sub-next

@@ -1,18 +1,11 @@
-use Prim.Native.Nat.{ℕ, _+_, _-_, _*_, _≤_, _<_}
-use native.Mathlib.Omega.{arith}
-use mathlib.Core.Path.{_≡_, refl, sym, ap, _∙_, subst}
-use mathlib.Core.List.{List, [], _∷_, _++_}
-use lib.ListN.{length, take, drop, length-set}
+use Prim.Native.Nat.{ℕ, _+_, _*_, _≤_, _<_}
+use mathlib.Core.Path.{sym, _∙_, subst}
 use Rattle.condition.proofs.Laws.{pick-lt, skip-lt}
 use Rattle.condition.specs.Lean
 use Rattle.condition.specs.declared.Machine.{Machine}
 use borrow.Author.Needs.{needs}
 use Rattle.condition.proofs.more_digit.Statement.{statement}
 use Rattle.condition.proofs.more_digit.Tie as tie
-use Rattle.condition.proofs.more_digit.Reads as reads
-use Rattle.condition.proofs.more_digit.Lts as lts
-use Rattle.condition.proofs.greatest.Reads as greatest-reads
-use Rattle.condition.proofs.stuck.Reads as stuck-reads
 
 -- src/lib.rt:572:9
 stuck-requires : tie.Need-stuck-requires

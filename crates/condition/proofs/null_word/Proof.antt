@@ -1,16 +1,7 @@
-use Prim.Native.Nat.{ℕ, _+_, _-_, _*_, _≤_, _<_}
-use native.Mathlib.Omega.{arith}
-use mathlib.Core.Path.{_≡_, refl, sym, ap, _∙_, subst}
-use mathlib.Core.List.{List, [], _∷_, _++_}
-use lib.ListN.{length, take, drop, length-set}
 use Rattle.condition.proofs.Laws.{null-is, null-wanted}
 use borrow.Author.Needs.{needs}
 use Rattle.condition.proofs.null_word.Statement.{statement}
 use Rattle.condition.proofs.null_word.Tie as tie
-use Rattle.condition.proofs.null_word.Reads as reads
-use Rattle.condition.proofs.null_word.Lts as lts
-use Rattle.condition.proofs.behind_is.Reads as behind-is-reads
-use Rattle.condition.proofs.operand.Reads as operand-reads
 
 -- src/lib.rt:191:9
 operand-requires : tie.Need-operand-requires

@@ -1,8 +1,4 @@
-use Prim.Native.Nat.{ℕ, _+_, _-_, _*_, _≤_, _<_}
-use native.Mathlib.Omega.{arith}
-use mathlib.Core.Path.{_≡_, refl, sym, ap, _∙_, subst}
-use mathlib.Core.List.{List, [], _∷_, _++_}
-use lib.ListN.{length, take, drop, length-set}
+use mathlib.Core.Path.{sym, ap, _∙_}
 use Rattle.condition.proofs.Laws.{digit-high, digit-low, pick-b, skip-b}
 use Rattle.condition.specs.Lean.{World, all, All, begin}
 use Rattle.condition.specs.Lean
@@ -10,12 +6,6 @@ use Rattle.condition.specs.declared.Machine.{Machine}
 use borrow.Author.Needs.{needs}
 use Rattle.condition.proofs.number.Statement.{statement}
 use Rattle.condition.proofs.number.Tie as tie
-use Rattle.condition.proofs.number.Reads as reads
-use Rattle.condition.proofs.number.Lts as lts
-use Rattle.condition.proofs.begin.Reads as begin-reads
-use Rattle.condition.proofs.digit.Reads as digit-reads
-use Rattle.condition.proofs.more_digit.Reads as more-digit-reads
-use Rattle.condition.proofs.number_ends.Reads as number-ends-reads
 
 -- src/lib.rt:601:8
 digit-requires : tie.Need-digit-requires

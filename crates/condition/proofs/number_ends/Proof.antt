@@ -1,8 +1,4 @@
-use Prim.Native.Nat.{ℕ, _+_, _-_, _*_, _≤_, _<_}
-use native.Mathlib.Omega.{arith}
-use mathlib.Core.Path.{_≡_, refl, sym, ap, _∙_, subst}
-use mathlib.Core.List.{List, [], _∷_, _++_}
-use lib.ListN.{length, take, drop, length-set}
+use mathlib.Core.Path.{sym, ap, _∙_}
 use Rattle.condition.proofs.Laws.{number-last, pick-eq, skip-eq}
 use Rattle.condition.specs.Lean.{World, world, operand}
 use Rattle.condition.specs.Lean
@@ -10,11 +6,6 @@ use Rattle.condition.specs.declared.Machine.{Machine}
 use borrow.Author.Needs.{needs}
 use Rattle.condition.proofs.number_ends.Statement.{statement}
 use Rattle.condition.proofs.number_ends.Tie as tie
-use Rattle.condition.proofs.number_ends.Reads as reads
-use Rattle.condition.proofs.number_ends.Lts as lts
-use Rattle.condition.proofs.operand.Reads as operand-reads
-use Rattle.condition.proofs.signed.Reads as signed-reads
-use Rattle.condition.proofs.to_mode.Reads as to-mode-reads
 
 -- src/lib.rt:547:9
 to-mode-requires : tie.Need-to-mode-requires

@@ -1,14 +1,8 @@
-use Prim.Native.Nat.{ℕ, _+_, _-_, _*_, _≤_, _<_}
 use native.Mathlib.Omega.{arith}
-use mathlib.Core.Path.{_≡_, refl, sym, ap, _∙_, subst}
-use mathlib.Core.List.{List, [], _∷_, _++_}
-use lib.ListN.{length, take, drop, length-set}
 use Rattle.condition.proofs.Laws.{not-full, not-next}
 use borrow.Author.Needs.{needs}
 use Rattle.condition.proofs.one_more_not.Statement.{statement}
 use Rattle.condition.proofs.one_more_not.Tie as tie
-use Rattle.condition.proofs.one_more_not.Reads as reads
-use Rattle.condition.proofs.one_more_not.Lts as lts
 
 -- src/lib.rt:181:9
 returns : tie.Need-returns

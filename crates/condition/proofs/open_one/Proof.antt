@@ -1,8 +1,4 @@
-use Prim.Native.Nat.{ℕ, _+_, _-_, _*_, _≤_, _<_}
-use native.Mathlib.Omega.{arith}
-use mathlib.Core.Path.{_≡_, refl, sym, ap, _∙_, subst}
-use mathlib.Core.List.{List, [], _∷_, _++_}
-use lib.ListN.{length, take, drop, length-set}
+use mathlib.Core.Path.{sym, ap, _∙_}
 use Rattle.condition.proofs.Laws.{pick-eq, pick-le, skip-eq, skip-le}
 use Rattle.condition.specs.Lean.{World, world}
 use Rattle.condition.specs.Lean
@@ -10,9 +6,6 @@ use Rattle.condition.specs.declared.Machine.{Machine}
 use borrow.Author.Needs.{needs}
 use Rattle.condition.proofs.open_one.Statement.{statement}
 use Rattle.condition.proofs.open_one.Tie as tie
-use Rattle.condition.proofs.open_one.Reads as reads
-use Rattle.condition.proofs.open_one.Lts as lts
-use Rattle.condition.proofs.stuck.Reads as stuck-reads
 
 -- src/lib.rt:444:9
 stuck-requires : tie.Need-stuck-requires

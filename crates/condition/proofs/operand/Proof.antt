@@ -1,16 +1,8 @@
-use Prim.Native.Nat.{ℕ, _+_, _-_, _*_, _≤_, _<_}
-use native.Mathlib.Omega.{arith}
-use mathlib.Core.Path.{_≡_, refl, sym, ap, _∙_, subst}
-use mathlib.Core.List.{List, [], _∷_, _++_}
-use lib.ListN.{length, take, drop, length-set}
+use mathlib.Core.Path.{ap, _∙_}
 use Rattle.condition.specs.Lean.{fill}
 use borrow.Author.Needs.{needs}
 use Rattle.condition.proofs.operand.Statement.{statement}
 use Rattle.condition.proofs.operand.Tie as tie
-use Rattle.condition.proofs.operand.Reads as reads
-use Rattle.condition.proofs.operand.Lts as lts
-use Rattle.condition.proofs.fill.Reads as fill-reads
-use Rattle.condition.proofs.put.Reads as put-reads
 
 -- src/lib.rt:124:9
 put-requires : tie.Need-put-requires

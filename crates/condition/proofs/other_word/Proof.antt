@@ -1,18 +1,9 @@
-use Prim.Native.Nat.{ℕ, _+_, _-_, _*_, _≤_, _<_}
-use native.Mathlib.Omega.{arith}
-use mathlib.Core.Path.{_≡_, refl, sym, ap, _∙_, subst}
-use mathlib.Core.List.{List, [], _∷_, _++_}
-use lib.ListN.{length, take, drop, length-set}
+use mathlib.Core.Path.{refl, ap}
 use Rattle.condition.proofs.Laws.{other-is, other-nan, other-not, other-null}
 use Rattle.condition.specs.Lean.{world}
 use borrow.Author.Needs.{needs}
 use Rattle.condition.proofs.other_word.Statement.{statement}
 use Rattle.condition.proofs.other_word.Tie as tie
-use Rattle.condition.proofs.other_word.Reads as reads
-use Rattle.condition.proofs.other_word.Lts as lts
-use Rattle.condition.proofs.behind_is.Reads as behind-is-reads
-use Rattle.condition.proofs.null_word.Reads as null-word-reads
-use Rattle.condition.proofs.one_more_not.Reads as one-more-not-reads
 
 -- src/lib.rt:201:9
 null-word-requires : tie.Need-null-word-requires

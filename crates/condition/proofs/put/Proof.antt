@@ -1,15 +1,8 @@
-use Prim.Native.Nat.{ℕ, _+_, _-_, _*_, _≤_, _<_}
 use native.Mathlib.Omega.{arith}
-use mathlib.Core.Path.{_≡_, refl, sym, ap, _∙_, subst}
-use mathlib.Core.List.{List, [], _∷_, _++_}
-use lib.ListN.{length, take, drop, length-set}
 use Rattle.condition.proofs.Laws.{put-full, put-next}
 use borrow.Author.Needs.{needs}
 use Rattle.condition.proofs.put.Statement.{statement}
 use Rattle.condition.proofs.put.Tie as tie
-use Rattle.condition.proofs.put.Reads as reads
-use Rattle.condition.proofs.put.Lts as lts
-use Rattle.condition.proofs.put_cell.Reads as put-cell-reads
 
 -- src/lib.rt:64:9
 returns : tie.Need-returns

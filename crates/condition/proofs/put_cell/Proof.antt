@@ -1,15 +1,8 @@
-use Prim.Native.Nat.{ℕ, _+_, _-_, _*_, _≤_, _<_}
 use native.Mathlib.Omega.{arith}
-use mathlib.Core.Path.{_≡_, refl, sym, ap, _∙_, subst}
-use mathlib.Core.List.{List, [], _∷_, _++_}
-use lib.ListN.{length, take, drop, length-set}
 use Rattle.condition.proofs.Laws.{no-room, room}
 use borrow.Author.Needs.{needs}
 use Rattle.condition.proofs.put_cell.Statement.{statement}
 use Rattle.condition.proofs.put_cell.Tie as tie
-use Rattle.condition.proofs.put_cell.Reads as reads
-use Rattle.condition.proofs.put_cell.Lts as lts
-use Rattle.condition.proofs.put_word.Reads as put-word-reads
 
 -- src/lib.rt:47:20
 mul-if1 : tie.Need-mul-if1

@@ -1,15 +1,11 @@
-use Prim.Native.Nat.{ℕ, _+_, _-_, _*_, _≤_, _<_}
+use Prim.Native.Nat.{_-_, _≤_}
 use native.Mathlib.Omega.{arith}
-use mathlib.Core.Path.{_≡_, refl, sym, ap, _∙_, subst}
-use mathlib.Core.List.{List, [], _∷_, _++_}
-use lib.ListN.{length, take, drop, length-set}
+use mathlib.Core.Path.{_≡_, refl}
+use lib.ListN.{length}
 use Rattle.condition.proofs.Laws.{times-end, times-next, times-start}
 use Rattle.condition.specs.Lean.{world, put-times}
 use Rattle.condition.proofs.put_nots.Statement.{statement}
 use Rattle.condition.proofs.put_nots.Tie as tie
-use Rattle.condition.proofs.put_nots.Reads as reads
-use Rattle.condition.proofs.put_nots.Lts as lts
-use Rattle.condition.proofs.put.Reads as put-reads
 
 abbrev Inv-loop : tie.InvT-loop
 Inv-loop out₀ n r₀ i₀ out r i = (i ≤ n) × (length out ≡ length out₀) × (put-times (n - i) (world r out) ≡ put-times n (world r₀ out₀))

@@ -1,14 +1,10 @@
-use Prim.Native.Nat.{ℕ, _+_, _-_, _*_, _≤_, _<_}
 use native.Mathlib.Omega.{arith}
-use mathlib.Core.Path.{_≡_, refl, sym, ap, _∙_, subst}
-use mathlib.Core.List.{List, [], _∷_, _++_}
-use lib.ListN.{length, take, drop, length-set}
+use mathlib.Core.Path.{refl}
+use lib.ListN.{length-set}
 use Rattle.encode.proofs.Written.{put-bytes}
 use borrow.Author.Needs.{needs}
 use Rattle.condition.proofs.put_word.Statement.{statement}
 use Rattle.condition.proofs.put_word.Tie as tie
-use Rattle.condition.proofs.put_word.Reads as reads
-use Rattle.condition.proofs.put_word.Lts as lts
 
 -- src/lib.rt:35:15
 cast-out : tie.Need-cast-out

@@ -1,15 +1,10 @@
-use Prim.Native.Nat.{ℕ, _+_, _-_, _*_, _≤_, _<_}
-use native.Mathlib.Omega.{arith}
-use mathlib.Core.Path.{_≡_, refl, sym, ap, _∙_, subst}
-use mathlib.Core.List.{List, [], _∷_, _++_}
-use lib.ListN.{length, take, drop, length-set}
+use Prim.Native.Nat.{ℕ}
+use mathlib.Core.Path.{sym}
 use Rattle.condition.proofs.Laws.{pick-lt, skip-lt}
 use Rattle.condition.specs.Lean
 use borrow.Author.Needs.{needs}
 use Rattle.condition.proofs.reference.Statement.{statement}
 use Rattle.condition.proofs.reference.Tie as tie
-use Rattle.condition.proofs.reference.Reads as reads
-use Rattle.condition.proofs.reference.Lts as lts
 
 -- src/lib.rt:614:9
 returns : tie.Need-returns

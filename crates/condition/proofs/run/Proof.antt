@@ -1,18 +1,11 @@
-use Prim.Native.Nat.{ℕ, _+_, _-_, _*_, _≤_, _<_}
+use Prim.Native.Nat.{ℕ, _-_}
 use native.Mathlib.Omega.{arith}
-use mathlib.Core.Path.{_≡_, refl, sym, ap, _∙_, subst}
-use mathlib.Core.List.{List, [], _∷_, _++_}
-use lib.ListN.{length, take, drop, length-set}
+use mathlib.Core.Path.{_≡_, refl, ap, _∙_}
+use lib.ListN.{length}
 use Rattle.condition.proofs.Laws.{Running, end-stuck, end-well, running-end, running-next, running-start, running-stuck}
 use Rattle.condition.specs.Lean.{all, run, step}
 use Rattle.condition.proofs.run.Statement.{statement}
 use Rattle.condition.proofs.run.Tie as tie
-use Rattle.condition.proofs.run.Reads as reads
-use Rattle.condition.proofs.run.Lts as lts
-use Rattle.condition.proofs.finish.Reads as finish-reads
-use Rattle.condition.proofs.placed.Reads as placed-reads
-use Rattle.condition.proofs.step.Reads as step-reads
-use Rattle.condition.proofs.wide.Reads as wide-reads
 
 abbrev Inv-loop : tie.InvT-loop
 Inv-loop text stack₀ out₀ m₀ i₀ stack out m i = (length stack ≡ length stack₀) × (length out ≡ length out₀) × Running text i (all m stack out) (run 0 text (all m₀ stack₀ out₀))

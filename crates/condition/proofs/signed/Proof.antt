@@ -1,15 +1,10 @@
-use Prim.Native.Nat.{ℕ, _+_, _-_, _*_, _≤_, _<_}
-use native.Mathlib.Omega.{arith}
-use mathlib.Core.Path.{_≡_, refl, sym, ap, _∙_, subst}
-use mathlib.Core.List.{List, [], _∷_, _++_}
-use lib.ListN.{length, take, drop, length-set}
+use Prim.Native.Nat.{ℕ}
+use mathlib.Core.Path.{sym, _∙_}
 use Rattle.condition.proofs.Laws.{pick-eq, skip-eq}
 use Rattle.condition.specs.Lean
 use borrow.Author.Needs.{needs}
 use Rattle.condition.proofs.signed.Statement.{statement}
 use Rattle.condition.proofs.signed.Tie as tie
-use Rattle.condition.proofs.signed.Reads as reads
-use Rattle.condition.proofs.signed.Lts as lts
 
 -- src/lib.rt:536:9
 returns : tie.Need-returns

@@ -1,8 +1,4 @@
-use Prim.Native.Nat.{ℕ, _+_, _-_, _*_, _≤_, _<_}
-use native.Mathlib.Omega.{arith}
-use mathlib.Core.Path.{_≡_, refl, sym, ap, _∙_, subst}
-use mathlib.Core.List.{List, [], _∷_, _++_}
-use lib.ListN.{length, take, drop, length-set}
+use mathlib.Core.Path.{sym, ap, _∙_}
 use Rattle.condition.proofs.Laws.{pick-lt, skip-lt}
 use Rattle.condition.specs.Lean.{all, All, beside}
 use Rattle.condition.specs.Lean
@@ -10,13 +6,6 @@ use Rattle.condition.specs.declared.Machine.{Machine}
 use borrow.Author.Needs.{needs}
 use Rattle.condition.proofs.step.Statement.{statement}
 use Rattle.condition.proofs.step.Tie as tie
-use Rattle.condition.proofs.step.Reads as reads
-use Rattle.condition.proofs.step.Lts as lts
-use Rattle.condition.proofs.begin.Reads as begin-reads
-use Rattle.condition.proofs.begun.Reads as begun-reads
-use Rattle.condition.proofs.letter.Reads as letter-reads
-use Rattle.condition.proofs.number.Reads as number-reads
-use Rattle.condition.proofs.string.Reads as string-reads
 
 -- src/lib.rt:639:9
 begin-requires : tie.Need-begin-requires

@@ -1,19 +1,10 @@
-use Prim.Native.Nat.{ℕ, _+_, _-_, _*_, _≤_, _<_}
-use native.Mathlib.Omega.{arith}
-use mathlib.Core.Path.{_≡_, refl, sym, ap, _∙_, subst}
-use mathlib.Core.List.{List, [], _∷_, _++_}
-use lib.ListN.{length, take, drop, length-set}
+use mathlib.Core.Path.{sym, _∙_}
 use Rattle.condition.proofs.Laws.{pick-eq, skip-eq, string-last}
 use Rattle.condition.specs.Lean.{World}
 use Rattle.condition.specs.Lean
 use borrow.Author.Needs.{needs}
 use Rattle.condition.proofs.string.Statement.{statement}
 use Rattle.condition.proofs.string.Tie as tie
-use Rattle.condition.proofs.string.Reads as reads
-use Rattle.condition.proofs.string.Lts as lts
-use Rattle.condition.proofs.operand.Reads as operand-reads
-use Rattle.condition.proofs.reference.Reads as reference-reads
-use Rattle.condition.proofs.to_mode.Reads as to-mode-reads
 
 -- src/lib.rt:624:9
 returns : tie.Need-returns

@@ -1,14 +1,8 @@
-use Prim.Native.Nat.{ℕ, _+_, _-_, _*_, _≤_, _<_}
-use native.Mathlib.Omega.{arith}
-use mathlib.Core.Path.{_≡_, refl, sym, ap, _∙_, subst}
-use mathlib.Core.List.{List, [], _∷_, _++_}
-use lib.ListN.{length, take, drop, length-set}
+use mathlib.Core.Path.{sym}
 use Rattle.condition.proofs.Laws.{pick-eq, skip-eq}
 use mathlib.Core.Bool.{Bool}
 use Rattle.condition.proofs.there.Statement.{statement}
 use Rattle.condition.proofs.there.Tie as tie
-use Rattle.condition.proofs.there.Reads as reads
-use Rattle.condition.proofs.there.Lts as lts
 
 -- src/lib.rt:485:9
 returns : tie.Need-returns

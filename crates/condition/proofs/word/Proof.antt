@@ -1,18 +1,7 @@
-use Prim.Native.Nat.{ℕ, _+_, _-_, _*_, _≤_, _<_}
-use native.Mathlib.Omega.{arith}
-use mathlib.Core.Path.{_≡_, refl, sym, ap, _∙_, subst}
-use mathlib.Core.List.{List, [], _∷_, _++_}
-use lib.ListN.{length, take, drop, length-set}
 use Rattle.condition.proofs.Laws.{word-and, word-false, word-or, word-other, word-true}
 use borrow.Author.Needs.{needs}
 use Rattle.condition.proofs.word.Statement.{statement}
 use Rattle.condition.proofs.word.Tie as tie
-use Rattle.condition.proofs.word.Reads as reads
-use Rattle.condition.proofs.word.Lts as lts
-use Rattle.condition.proofs.behind_and.Reads as behind-and-reads
-use Rattle.condition.proofs.behind_or.Reads as behind-or-reads
-use Rattle.condition.proofs.operand.Reads as operand-reads
-use Rattle.condition.proofs.other_word.Reads as other-word-reads
 
 -- src/lib.rt:218:9
 operand-requires : tie.Need-operand-requires
