@@ -5,7 +5,7 @@ use Prim.Native.String.{String}
 use mathlib.Core.Path.{_≡_}
 use mathlib.Core.Bool.{Bool, true, false, not, _&&_}
 use mathlib.Core.List.{List, [], _∷_, _++_}
-use lib.Dec.{eqb, leb}
+use lib.Dec.{eqb, leb, ltb}
 use lib.IntN.{ℤ, pos, negℤ}
 use lib.ListN.{length}
 
@@ -44,6 +44,10 @@ sign-byte greater = 62
 abbrev pub all : (ℕ → Bool) → List ℕ → Bool
 all test [] = true
 all test (b ∷ s) = test b && all test s
+
+-- every number is a byte
+abbrev pub bytes-only : List ℕ → Bool
+bytes-only s = all (λ b. ltb b 256) s
 
 -- 0 to 9
 abbrev pub digit : ℕ → Bool

@@ -13,7 +13,7 @@ use Rattle.grammar.specs.Statements.{Place, Statements}
 use Rattle.grammar.specs.Fed.{fed-of-read, read-of-fed}
 use Rattle.grammar.specs.Typed.{run-step, run-of-parts}
 use Rattle.grammar.specs.Told.{parts-of-run}
-use Rattle.grammar.specs.Completed.{completed}
+use Rattle.grammar.specs.Completed.{Lettered, If-lettered, step-lettered, completed}
 use Rattle.grammar.specs.Refers.{condition-refers}
 
 condition-taken : (text : List ℕ) (e : Expression) → Condition text e → reading text ≡ taken e
@@ -44,23 +44,24 @@ record Met (at : ℕ) (text : List ℕ) (s : State) (place : ℕ) : Type 0 where
   there : at + count ≡ place
   within : count ≤ length text
   state : State
+  lettered : Lettered state
   reached : (more : List ℕ) → run at (take count text ++ more) s ≡ run place more state
   stopped : count < length text → (more : List ℕ) → run at (take (suc count) text ++ more) s ≡ refused place
 
-met : (text : List ℕ) (at : ℕ) (s : State) (place : ℕ) → run at text s ≡ refused place → Met at text s place
+met : (text : List ℕ) (at : ℕ) (s : State) (place : ℕ) → Lettered s → run at text s ≡ refused place → Met at text s place
 unfolding run
-met [] at s place h = go (finish s) h
+met [] at s place y h = go (finish s) h
   where
     go : (o : Option Expression) → _≡_ {A = Reading} (elim o as (λ z. Reading) [ none ↦ refused at | some f ↦ taken f ]) (refused place) → Met at [] s place
     go none k =
         let u : at ≡ place = ap place-in k in
-        record { count = 0; there = omega arith; within = omega arith; state = s; reached = λ more. ap (λ (z : ℕ). run z more s) u; stopped = λ l. absurd (omega arith) }
+        record { count = 0; there = omega arith; within = omega arith; state = s; lettered = y; reached = λ more. ap (λ (z : ℕ). run z more s) u; stopped = λ l. absurd (omega arith) }
     go (some f) k = absurd (Option·none-ne-some f (sym (ap tree-in k)))
-met (b ∷ text) at s place h = go (step at b s) refl h (λ next. met text (suc at) next place)
+met (b ∷ text) at s place y h = go (step at b s) refl h (λ next. met text (suc at) next place)
   where
     go : (o : Option State) → step at b s ≡ o
         → _≡_ {A = Reading} (elim o as (λ z. Reading) [ none ↦ refused at | some next ↦ run (suc at) text next ]) (refused place)
-        → ((next : State) → run (suc at) text next ≡ refused place → Met (suc at) text next place) → Met at (b ∷ text) s place
+        → ((next : State) → Lettered next → run (suc at) text next ≡ refused place → Met (suc at) text next place) → Met at (b ∷ text) s place
     go none k g later =
         let u : at ≡ place = ap place-in g in
         record {
@@ -68,11 +69,12 @@ met (b ∷ text) at s place h = go (step at b s) refl h (λ next. met text (suc 
           there = omega arith;
           within = omega arith;
           state = s;
+          lettered = y;
           reached = λ more. ap (λ (z : ℕ). run z more s) u;
           stopped = λ l more. ap (λ (z : Option State). elim z as (λ w. Reading) [ none ↦ refused at | some y ↦ run (suc at) more y ]) k ∙ g;
         }
     go (some next) k g later =
-        let m = later next g in
+        let m = later next (subst If-lettered k (step-lettered at b s y)) g in
         let u : suc at + m .count ≡ place = m .there in
         let v : m .count ≤ length text = m .within in
         record {
@@ -80,6 +82,7 @@ met (b ∷ text) at s place h = go (step at b s) refl h (λ next. met text (suc 
           there = omega arith;
           within = omega arith;
           state = m .state;
+          lettered = m .lettered;
           reached = λ more. run-step at b (take (m .count) text ++ more) s next k ∙ m .reached more;
           stopped = λ l more. run-step at b (take (suc (m .count)) text ++ more) s next k ∙ m .stopped (omega arith) more;
         }
@@ -87,12 +90,12 @@ met (b ∷ text) at s place h = go (step at b s) refl h (λ next. met text (suc 
 refused-place : (text : List ℕ) (place : ℕ) → reading text ≡ refused place → Place text place
 unfolding reading
 refused-place text place h =
-    let m = met text 0 start place h in
+    let m = met text 0 start place tt h in
     let u : m .count ≡ place = omega (arith, m .there) in
-    let c = completed (m .state) in
+    let c = completed (m .state) (m .lettered) in
     subst (Place text) u (record {
       within = m .within;
-      continued = (c .rest, c .tree, taken-condition (take (m .count) text ++ c .rest) (c .tree) (m .reached (c .rest) ∙ c .completes place));
+      continued = (c .rest, c .tree, c .bytes, taken-condition (take (m .count) text ++ c .rest) (c .tree) (m .reached (c .rest) ∙ c .completes place));
       not-continued = λ l more e d. not-both (take (suc (m .count)) text ++ more) place e (m .stopped l more) (condition-taken _ e d);
     })
   where
@@ -114,7 +117,7 @@ split (suc a) (suc b) (c ∷ text) more h =
 -- The shorter of two prefixes, with a byte more, is continued as the longer one is.
 not-before : (text : List ℕ) (p q : ℕ) → Place text p → Place text q → ¬ (p < q)
 not-before text p q here there h =
-    let (more, e, c) = there .continued in
+    let (more, e, y, c) = there .continued in
     let (rest, k) = split (suc p) q text more h in
     let w : q ≤ length text = there .within in
     here .not-continued (omega arith) rest e (subst (λ (t : List ℕ). Condition t e) k c)

@@ -2,9 +2,11 @@
 use Prim.Native.Nat.{ℕ, suc, _≤_, _<_}
 use mathlib.Core.Path.{_≡_}
 use mathlib.Core.Logic.{_↔_}
+use mathlib.Core.Bool.{true}
 use mathlib.Core.List.{List, _++_}
 use lib.ListN.{length, take}
 use Rattle.sql.specs.Expression.{Expression}
+use Rattle.grammar.specs.Parts.{bytes-only}
 use Rattle.grammar.specs.Grammar.{Condition}
 use Rattle.grammar.specs.Refers.{Refers}
 use Rattle.grammar.specs.Machine.{taken, refused, reading}
@@ -13,7 +15,7 @@ use Rattle.grammar.specs.Machine.{taken, refused, reading}
 -- place, and none continues what includes the byte there.
 pub record Place (text : List ℕ) (place : ℕ) : Type 0 where
   pub within : place ≤ length text
-  pub continued : (more : List ℕ) × (e : Expression) × Condition (take place text ++ more) e
+  pub continued : (more : List ℕ) × (e : Expression) × (bytes-only more ≡ true) × Condition (take place text ++ more) e
   pub not-continued : place < length text → (more : List ℕ) (e : Expression) → ¬ Condition (take (suc place) text ++ more) e
 
 pub record Statements : Type 0 where
