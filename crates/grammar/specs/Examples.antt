@@ -10,6 +10,8 @@ use Rattle.value.specs.Value.{datum, null, boolean, integer, string}
 use Rattle.sql.specs.Expression.{Equal, LessThan, IsNull, IsNaN, Binary, Unary, Expression, constant, column, unary, binary, and, or, not}
 use Rattle.grammar.specs.Parts.{ascii, decimal-from, TRUE, NOT, OR, IS, NAN, equal, word, sign, opening, closing, Part, none-left, space, part, a-word, an-integer, a-column, a-string, a-sign, a-parenthesis, its-end}
 use Rattle.grammar.specs.Grammar.{Condition, simple, in-parentheses, alone, compared, is-nan, affirmed, negated, one, single, either}
+use Rattle.sheet.specs.Operations.{refuse}
+use Rattle.grammar.specs.Operation.{condition}
 use Rattle.grammar.specs.Machine.{reading, refused, taken}
 
 abbrev int : ℕ → Expression
@@ -117,8 +119,8 @@ two-strings : reading (ascii "'a''b'") ≡ refused 3
 unfolding reading
 two-strings = refl
 
--- 300 parentheses that are open
-only-opened : reading (replicate 300 40) ≡ refused 300
+-- 8,192 parentheses that are open
+only-opened : reading (replicate 8192 40) ≡ refused 8192
 unfolding reading
 only-opened = refl
 
@@ -209,3 +211,26 @@ derived-string =
           either (single (one (affirmed (alone (in-parentheses (single (one (affirmed (is-nan (simple refl))))))))))
           (one (affirmed (alone (simple refl))));
     }
+
+-- ---- the operation
+
+one-cell : condition (ascii "'a'") (replicate 18 255)
+    ≡ record {
+      numbers = record { number = 0; place = 0; length = 16; cells = 1; columns = 0 };
+      output = 5 ∷ 0 ∷ 0 ∷ 0 ∷ 1 ∷ 0 ∷ 1 ∷ 0 ∷ 0 ∷ 0 ∷ 0 ∷ 0 ∷ 0 ∷ 0 ∷ 0 ∷ 0 ∷ 255 ∷ 255 ∷ [];
+    }
+unfolding condition
+one-cell = refl
+
+-- refusals in their order: 2 before 22, 22 before 15
+over-long : condition (replicate 8193 40) [] ≡ refuse [] 2 0
+unfolding condition
+over-long = refl
+
+no-condition : condition (ascii "TRUX") [] ≡ refuse [] 22 3
+unfolding condition
+no-condition = refl
+
+too-little-room : condition (ascii "'a'") (replicate 15 255) ≡ refuse (replicate 15 255) 15 16
+unfolding condition
+too-little-room = refl
