@@ -1,11 +1,12 @@
 #!/usr/bin/env python3
 """Writes the example sheets: document 01's worked plans P1 to P10, plans of a gateway, and a sheet for each refusal
-that a sheet can cause, 2 to 14 (1 and 15 come from the call: tests/c/optimize.c shows them).
+that a sheet can cause, 2 to 14 (1, 15 and 21 come from the call: tests/c/optimize.c shows them).
 
     python3 examples/make.py [FOLDER]
 
-Beside each NAME.sheet stands NAME.check, the line that the program sheet_check prints for it. The lines are
-written here from document 01, not taken from the program. NAME.list, what the program sheet_list prints, is not
+Beside each NAME.sheet stands NAME.check, the line that the program sheet_check prints for it, and NAME.convert, what
+comes of it when it is carried to edition 0, 1, 2 and 3. The lines are written here from documents 01 and 02, not taken
+from a program. NAME.list, what the program sheet_list prints, is not
 made here: it comes from the harness, whose model is compared with the compiled Rust (README.md beside this file).
 """
 import os
@@ -250,6 +251,17 @@ examples = {
     ),
 }
 
+
+def converted(data, line, edition):
+    """A sheet, of which check says this line, carried to this edition: the refusal, or its counts and its origins."""
+    if line.startswith("refused"):
+        return line
+    if edition not in (1, 2) or edition == edition_of(data):
+        return "refused 21 place 0"
+    _, _, cells, _, columns = line.split()
+    return f"cells {cells} bytes {len(data)} columns {columns} origins " + ("0" if edition == 1 else f"0 to {int(cells) - 1}")
+
+
 if __name__ == "__main__":
     folder = sys.argv[1] if len(sys.argv) > 1 else os.path.dirname(os.path.abspath(__file__))
     for name, (data, line) in examples.items():
@@ -257,3 +269,5 @@ if __name__ == "__main__":
             f.write(data)
         with open(os.path.join(folder, name + ".check"), "w") as f:
             f.write(line + "\n")
+        with open(os.path.join(folder, name + ".convert"), "w") as f:
+            f.writelines(f"to {edition}: {converted(data, line, edition)}\n" for edition in range(4))

@@ -15,9 +15,10 @@ extern "C" {
 
 /* The version, said here and taken from here for the archive, the command, its manual page and the pkg-config file. The first number rises when a caller has
  * to change, the second when something is added. (Before 1.0.0, see "What will change" below.) */
-#define REQSHABU_VERSION "0.2.0"
+#define REQSHABU_VERSION "0.3.0"
 
-/* Rises by one whenever the prototypes or the answer below change, and with nothing else: `#if REQSHABU_INTERFACE >= 2`. */
+/* Rises by one whenever the prototypes or the answer below change, and with nothing else: `#if REQSHABU_INTERFACE >= 2`. An operation that is added beside the
+ * others doesn't raise it, the version says that: plan_convert is there from 0.3.0 on. */
 #define REQSHABU_INTERFACE 1
 
 /* The version of the archive that is linked, to be compared with the header's. Archives made by `make` have it; the bare one of `rt staticlib` hasn't. */
@@ -26,9 +27,9 @@ extern const char reqshabu_version[];
 /* The bytes of the largest sheet: an output of so many is always enough. */
 #define REQSHABU_LARGEST_SHEET 45332
 
-/* A sheet is of edition 1 or 2 (FORMAT.md, Editions), and the sheet that an operation writes is of the same. The editions differ in bytes 2 and 3 of each cell:
+/* A sheet is of edition 1 or 2 (FORMAT.md, Editions), and the sheet that a pass writes is of the same. The editions differ in bytes 2 and 3 of each cell:
  * zeros in edition 1, in edition 2 the cell's origin, any number of 16 bits. A cell that is written has the origin of the cell of the sheet handed in that it came
- * from (FORMAT.md, Origins); nothing else in an answer or a sheet depends on origins. */
+ * from (FORMAT.md, Origins); nothing else in an answer or a sheet depends on origins. plan_convert carries a sheet from one edition to the other. */
 
 /* What an operation returns. number is 0, or the number of a refusal (FORMAT.md, Refusals); place is where (0 on success). On a refusal length, cells
  * and columns are 0. */
@@ -52,7 +53,12 @@ reqshabu_answer plan_pass(const uint8_t *sheet, size_t length, size_t pass, uint
 /* All five passes in turn, likewise. */
 reqshabu_answer plan_optimize(const uint8_t *sheet, size_t length, uint8_t *output, size_t capacity);
 
-/* The three keep no state and allocate nothing, so they may be called from several threads at once. 1 MiB of stack is enough for every sheet. */
+/* The same sheet in the other edition, written likewise; it is as long as it was. To edition 2 the origin of each cell becomes its number, to edition 1 it becomes 0.
+ * An edition that is neither 1 nor 2, or that is the sheet's own, is refusal 21. To 2 and back to 1 gives the same bytes; to 1 and back to 2 does so if and only if
+ * each origin was its cell's number. */
+reqshabu_answer plan_convert(const uint8_t *sheet, size_t length, size_t edition, uint8_t *output, size_t capacity);
+
+/* The four keep no state and allocate nothing, so they may be called from several threads at once. 1 MiB of stack is enough for every sheet. */
 
 /* What will change
  *
@@ -80,7 +86,8 @@ reqshabu_answer plan_optimize(const uint8_t *sheet, size_t length, uint8_t *outp
  *   interface 1, but for the mark.
  * - mark and summary (W-213): the mark is 0 on a refusal and from operations that have none. summary gets an entry for each column record; it needs as many
  *   entries as there are column records, at most 256, and may be NULL where there are none.
- * - plan_profile (W-202) answers as plan_check. plan_convert (W-209), plan_compact (W-212) and plan_condition (W-211) write as plan_pass does.
+ * - plan_profile (W-202) answers as plan_check. plan_convert (W-209) is above already, and stays as it is but for the mark. plan_compact (W-212) and
+ *   plan_condition (W-211) write as plan_pass does.
  * - plan_read (W-206) is in an archive of its own, libreqshabu_read.a, with a header of its own, reqshabu_read.h: a gateway that only optimizes doesn't link it.
  * - The answer is the same struct everywhere. New refusal numbers may be added in any version: treat a number that you don't know as a refusal.
  */

@@ -15,7 +15,7 @@
 //! - else the node visited: Scan for its lookup, with the Filter over it;
 //!   NestedLoopJoin for its HashJoin; an emptied node for Nothing and Labels.
 
-use crate::check::Answer;
+use crate::check::{self, Answer};
 use crate::model::{self, ALL};
 use crate::rng::Rng;
 use crate::tree::{self, Cell, RECORD, TRAILER, Val, tag, word};
@@ -77,6 +77,30 @@ pub fn any_up(rng: &mut Rng, bytes: &[u8]) -> Vec<u8> {
         4 => up(bytes, |i| if i % 2 == 0 { 0 } else { u16::MAX }),
         _ => up(bytes, |_| k),
     }
+}
+
+/// The operation convert on any bytes (document 02, W-209): upward each origin
+/// is its cell's number, downward 0. What check refuses comes first, then an
+/// edition that isn't there or is the sheet's own, then a short output.
+pub fn convert(bytes: &[u8], target: u64, capacity: usize) -> (Answer, Vec<u8>) {
+    let answer = check::check(bytes);
+    if answer.number != 0 {
+        return (answer, Vec::new());
+    }
+    let out = match (edition(bytes), target) {
+        (1, 2) => up(bytes, |i| i as u16),
+        (2, 1) => down(bytes),
+        _ => return (Answer::refusal(21, 0), Vec::new()),
+    };
+    if out.len() > capacity {
+        return (Answer::refusal(15, out.len() as u64), Vec::new());
+    }
+    (Answer { length: out.len() as u64, ..answer }, out)
+}
+
+/// Whether each origin of an accepted sheet is its cell's number.
+pub fn is_numbered(bytes: &[u8]) -> bool {
+    cells_of(bytes).step_by(RECORD).enumerate().all(|(i, at)| usize::from(u16::from_le_bytes([bytes[at + 2], bytes[at + 3]])) == i)
 }
 
 /// One pass, or all five, on an accepted sheet of edition 2.

@@ -1,9 +1,11 @@
-/* The three operations through the C header, on the sheet on standard input.
+/* The four operations through the C header, on the sheet on standard input.
  *
  *     optimize check      prints the line that sheet_check prints
  *     optimize pass N     one pass, by its number: the listing, or the refusal
  *     optimize passes     each of the five on the sheet handed in, under a line with its number
  *     optimize all        all five: what sheet_list prints
+ *     optimize convert E  the sheet in edition E, its bytes, or the refusal
+ *     optimize editions   what comes of the sheet in editions 0 to 3: counts and origins, or the refusal
  *     optimize promises   prints nothing; exits with 1 and a line if one of the header's promises is not kept
  */
 #include "reqshabu.h"
@@ -12,7 +14,7 @@
 #include <stdlib.h>
 #include <string.h>
 
-enum { LARGEST = 45332, ALL = -1, FILLER = 0xA5 };
+enum { LARGEST = 45332, ALL = -1, CONVERT = -2, FILLER = 0xA5 };
 
 /* One byte more than a sheet can have, so that a longer input is refused and not cut. */
 static uint8_t sheet[LARGEST + 1];
@@ -40,6 +42,31 @@ static void list(reqshabu_answer a, const uint8_t *written) {
         printf("%" PRIu64 " %u %u %" PRIu32 " %" PRIu32 " %" PRIu32 "\n", i, cell[0], cell[1], word(cell + 4), word(cell + 8), word(cell + 12));
 }
 
+static size_t origin(const uint8_t *cell) {
+    return cell[2] | (size_t)cell[3] << 8;
+}
+
+/* The counts and the origins of the sheet that was written in another edition. */
+static void list_edition(reqshabu_answer a, const uint8_t *written) {
+    if (a.number != 0) {
+        refused(a);
+        return;
+    }
+    const uint8_t *cell = written + word(written + a.length - 12);
+    int zeros = 1, numbers = 1;
+    for (uint64_t i = 0; i < a.cells; i++, cell += 16) {
+        zeros &= origin(cell) == 0;
+        numbers &= origin(cell) == i;
+    }
+    printf("cells %" PRIu64 " bytes %" PRIu64 " columns %" PRIu64 " origins ", a.cells, a.length, a.columns);
+    if (word(written + a.length - 8) == 1 && zeros)
+        printf("0\n");
+    else if (word(written + a.length - 8) == 2 && numbers)
+        printf("0 to %" PRIu64 "\n", a.cells - 1);
+    else
+        printf("of another edition\n");
+}
+
 /* ---- what the header promises */
 
 static reqshabu_answer run(long pass, const uint8_t *from, size_t n, uint8_t *output, size_t capacity) {
@@ -51,6 +78,8 @@ static void hold(int kept, long pass, const char *what) {
         return;
     if (pass == ALL)
         fprintf(stderr, "all five: %s\n", what);
+    else if (pass == CONVERT)
+        fprintf(stderr, "convert: %s\n", what);
     else
         fprintf(stderr, "pass %ld: %s\n", pass, what);
     exit(1);
@@ -120,11 +149,61 @@ static void promise_of_all(void) {
     hold(memcmp(from, output, all.length) == 0, ALL, "another sheet than pass after pass");
 }
 
+/* Whether each origin of the sheet is its cell's number. */
+static int numbered(void) {
+    size_t i = 0;
+    for (const uint8_t *cell = sheet + word(sheet + length - 12); cell < sheet + length - 20; cell += 16, i++)
+        if (origin(cell) != i)
+            return 0;
+    return 1;
+}
+
+/* The accepted sheet in the other edition, which is in `output`, is this one but for its origins and its edition, and carried back it is this one, if it can be. */
+static void promise_of_converted(size_t edition, reqshabu_answer a) {
+    static uint8_t expected[LARGEST];
+    memcpy(expected, sheet, length);
+    size_t i = 0;
+    for (uint8_t *cell = expected + word(sheet + length - 12); cell < expected + length - 20; cell += 16, i++) {
+        cell[2] = edition == 1 ? 0 : i & 255;
+        cell[3] = edition == 1 ? 0 : i >> 8;
+    }
+    memcpy(expected + length - 8, (uint8_t[]){(uint8_t)edition, 0, 0, 0}, 4);
+    hold(memcmp(output, expected, length) == 0, CONVERT, "another sheet than the one in the other edition");
+    fill(other);
+    hold(same(plan_convert(expected, length, 3 - edition, other, sizeof other), a), CONVERT, "another answer on the way back");
+    hold((memcmp(other, sheet, length) == 0) == (edition == 2 || numbered()), CONVERT, "there and back is the same sheet, or not, against the promise");
+}
+
+static void promises_of_edition(size_t edition) {
+    fill(output);
+    reqshabu_answer checked = plan_check(sheet, length), a = plan_convert(sheet, length, edition, output, sizeof output);
+    if (a.number != 0) {
+        int refused_by_check = checked.number != 0;
+        hold(refused_by_check ? same(a, checked) : is_refusal(a, 21, 0), CONVERT, "another refusal than check's, or than 21");
+        hold(refused_by_check || (edition != 1 && edition != 2) || edition == word(sheet + length - 8), CONVERT, "a refusal without a cause");
+        hold(untouched(output, sizeof output), CONVERT, "a refusal that changes the output");
+        hold(same(plan_convert(sheet, length, edition, NULL, 0), a), CONVERT, "another refusal without an output");
+        return;
+    }
+    hold(same(a, (reqshabu_answer){0, 0, length, checked.cells, checked.columns}), CONVERT, "another length or other counts than the sheet's");
+    hold(untouched(output + length, sizeof output - length), CONVERT, "bytes after the sheet changed");
+    promise_of_converted(edition, a);
+    fill(other);
+    hold(same(plan_convert(sheet, length, edition, other, length), a) && memcmp(output, other, sizeof output) == 0, CONVERT, "an output of just the sheet's length");
+    fill(other);
+    hold(is_refusal(plan_convert(sheet, length, edition, other, length - 1), 15, length), CONVERT, "an output one byte short is not refusal 15");
+    hold(untouched(other, sizeof other), CONVERT, "an output one byte short changed");
+    hold(is_refusal(plan_convert(sheet, length, edition, NULL, 0), 15, length), CONVERT, "no output is not refusal 15");
+}
+
 static void promises(void) {
     for (long pass = 1; pass <= 5; pass++)
         promises_of(pass);
     promises_of(ALL);
     promise_of_all();
+    const size_t editions[] = {0, 1, 2, 3, 257, 258, (size_t)1 << 32 | 1, (size_t)1 << 32 | 2, SIZE_MAX};
+    for (size_t i = 0; i < sizeof editions / sizeof *editions; i++)
+        promises_of_edition(editions[i]);
     /* A pass that isn't there is refusal 1, whatever the sheet. */
     const size_t none[] = {0, 6, SIZE_MAX};
     for (size_t i = 0; i < sizeof none / sizeof *none; i++) {
@@ -137,6 +216,7 @@ static void promises(void) {
     hold(is_refusal(plan_check(NULL, 0), 2, 0), 0, "check: no sheet is not refusal 2");
     hold(is_refusal(plan_pass(NULL, 0, 1, NULL, 0), 2, 0), 1, "no sheet is not refusal 2");
     hold(is_refusal(plan_optimize(NULL, 0, NULL, 0), 2, 0), ALL, "no sheet is not refusal 2");
+    hold(is_refusal(plan_convert(NULL, 0, 0, NULL, 0), 2, 0), CONVERT, "no sheet is not refusal 2");
 }
 
 int main(int count, char **words) {
@@ -157,10 +237,21 @@ int main(int count, char **words) {
         }
     } else if (strcmp(operation, "all") == 0) {
         list(plan_optimize(sheet, length, output, sizeof output), output);
+    } else if (strcmp(operation, "convert") == 0 && count > 2) {
+        reqshabu_answer a = plan_convert(sheet, length, strtoul(words[2], NULL, 10), output, sizeof output);
+        if (a.number != 0)
+            refused(a);
+        else
+            return fwrite(output, 1, a.length, stdout) != a.length;
+    } else if (strcmp(operation, "editions") == 0) {
+        for (size_t edition = 0; edition <= 3; edition++) {
+            printf("to %zu: ", edition);
+            list_edition(plan_convert(sheet, length, edition, output, sizeof output), output);
+        }
     } else if (strcmp(operation, "promises") == 0) {
         promises();
     } else {
-        fprintf(stderr, "usage: optimize check | pass N | passes | all | promises\n");
+        fprintf(stderr, "usage: optimize check | pass N | passes | all | convert E | editions | promises\n");
         return 2;
     }
     return 0;

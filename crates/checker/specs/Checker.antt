@@ -7,11 +7,16 @@ use Rattle.sql.specs.Plan.{Node, columns}
 use Rattle.sql.specs.Answer.{Answer, done, _>>=_}
 use Rattle.sheet.specs.Scope.{outside, target-repeated}
 use Rattle.sheet.specs.Check.{Numbers, checked, in-scope, schema}
+use Rattle.sheet.specs.Operations.{Outcome}
 use Rattle.structure.specs.Structure.{plan-of}
 use Rattle.checker.specs.declared.Answer as Code
 
 abbrev pub numbers : Code.Answer → Numbers
 numbers r = record { number = r .number; place = r .place; length = r .length; cells = r .cells; columns = r .columns }
+
+-- What the code returns, and what its output holds then.
+abbrev pub outcome : Code.Answer → List ℕ → Outcome
+outcome a out = record { numbers = numbers a; output = out }
 
 -- Refusals 8 to 10 of a sheet that 2 to 7 let by, or its plan.
 abbrev pub scoped : List ℕ → Answer Node

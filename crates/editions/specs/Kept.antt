@@ -25,13 +25,13 @@ sets-other (v ∷ vs) l i q n =
     sets-other vs (set l i v) (suc i) q (λ j h e. n (suc j) (omega arith) (omega arith)) ∙ getD-set-other l i q v 0 (λ e. n 0 (omega arith) (omega arith))
 
 module _ (f : ℕ → ℕ) (at : ℕ) where
-  length-origins : (i k : ℕ) (s : List ℕ) → length (with-origins f at i k s) ≡ length s
+  pub length-origins : (i k : ℕ) (s : List ℕ) → length (with-origins f at i k s) ≡ length s
   length-origins i zero s = refl
   length-origins i (suc k) s =
       length-origins (suc i) k (sets s (record-at at i + 2) (origin-bytes (f i))) ∙ length-sets s (record-at at i + 2) (origin-bytes (f i))
 
   -- a byte that is no cell's origin
-  origin-kept : (i k p : ℕ) (s : List ℕ) → ((j : ℕ) → i ≤ j → j < i + k → (p ≢ record-at at j + 2) × (p ≢ record-at at j + 3))
+  pub origin-kept : (i k p : ℕ) (s : List ℕ) → ((j : ℕ) → i ≤ j → j < i + k → (p ≢ record-at at j + 2) × (p ≢ record-at at j + 3))
       → byte (with-origins f at i k s) p ≡ byte s p
   origin-kept i zero p s a = refl
   origin-kept i (suc k) p s a =

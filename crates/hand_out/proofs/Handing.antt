@@ -23,14 +23,14 @@ use Rattle.words.proofs.Sizes.{words-long}
 use Rattle.stream.proofs.Streams.{top-here}
 use Rattle.decode.proofs.Laws.{whole}
 use Rattle.encode.specs.Encode.{PlanLong, Lengths, Encodable, Encodes}
-use Rattle.checker.specs.Checker.{numbers}
+use Rattle.checker.specs.Checker.{numbers, outcome}
 use Rattle.checker.specs.declared.Answer as Code
 use Rattle.cells.specs.Cells.{cell-words}
 use Rattle.cells.specs.Room.{most-words}
 use Rattle.fold_operator.specs.declared.Folded.{Folded}
 use Rattle.fold_operator.specs.declared.Folded.the-variants as Folded
 use Rattle.passes.specs.Passes.{Left, Leaves}
-use Rattle.hand_out.specs.HandOut.{outcome, Fit, Written-in, WrittenAt, Writes, AnsweredAt, HandsOut}
+use Rattle.hand_out.specs.HandOut.{Fit, Written-in, WrittenAt, Writes, AnsweredAt, HandsOut}
 
 module _ {s x : List ℕ} {n : ℕ} {node m : Node} (w : Written-in s x n node m) where
   words-count : length (node-words m) ≡ n

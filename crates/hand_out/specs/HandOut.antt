@@ -10,19 +10,15 @@ use Rattle.sheet.specs.Parts.{table-count}
 use Rattle.sheet.specs.Cell.{origins}
 use Rattle.sheet.specs.Check.{text, schema, plan}
 use Rattle.sheet.specs.Write.{write}
-use Rattle.sheet.specs.Operations.{Outcome, written, hand-out}
+use Rattle.sheet.specs.Operations.{written, hand-out}
 use Rattle.sheet_laws.specs.Fits.{Origins-below}
 use Rattle.words.specs.Words.{node-words}
 use Rattle.kept.specs.Kept.{Kept}
-use Rattle.checker.specs.Checker.{numbers}
+use Rattle.checker.specs.Checker.{outcome}
 use Rattle.checker.specs.declared.Answer as Code
 use Rattle.cells.specs.Room.{most-words}
 use Rattle.fold_operator.specs.declared.Folded.{Folded}
 use Rattle.passes.specs.Passes.{Leaves}
-
--- What the code returns, and what its output holds then.
-abbrev pub outcome : Code.Answer → List ℕ → Outcome
-outcome a out = record { numbers = numbers a; output = out }
 
 -- m can take the place of a sheet's plan.
 abbrev pub Fit : List ℕ → Node → Node → Type 0

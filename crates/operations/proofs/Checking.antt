@@ -14,9 +14,9 @@ use Rattle.sheet.specs.Operations.{Outcome, refuse, hand-out, one-pass, all-fiv
 use Rattle.sheet_laws.specs.Accepted.{accepted}
 use Rattle.sheet_laws.specs.Plan.{Bytes, parts-of, plan-size}
 use Rattle.sound.specs.Refusals.{Refused-by, From-to, plan-refused}
-use Rattle.checker.specs.Checker.{numbers}
+use Rattle.checker.specs.Checker.{numbers, outcome}
 use Rattle.checker.specs.declared.Answer as Code
-use Rattle.hand_out.specs.HandOut.{outcome, Counted}
+use Rattle.hand_out.specs.HandOut.{Counted}
 use Rattle.sheet_passes.specs.Rooms.{FitsIn}
 
 outcome-of : (a : Code.Answer) (out : List ℕ) (m : Numbers) → numbers a ≡ m → outcome a out ≡ record { numbers = m; output = out }

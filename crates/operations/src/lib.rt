@@ -5,8 +5,9 @@ use optimizer::Chosen;
 ghost use mathlib.Core.Path.{_≡_};
 ghost use Prim.Native.Nat.{_≤_};
 ghost use Rattle.sheet.specs.Operations.{one-pass, all-five};
+ghost use Rattle.checker.specs.Checker.{outcome};
 ghost use Rattle.optimizer.specs.Choices.{Choice};
-ghost use Rattle.hand_out.specs.HandOut.{outcome, Counted};
+ghost use Rattle.hand_out.specs.HandOut.{Counted};
 ghost use Rattle.sheet_passes.specs.Rooms.{FitsIn, RunsIn};
 
 // Buffers for 24 cells, where plans of up to 16 are tried: copies of lookups make a small join's plan half as large again, and a second run takes longer than the

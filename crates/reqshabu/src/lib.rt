@@ -1,11 +1,11 @@
 // The library's public face: the operations, exported to C. include/reqshabu.h declares them. Nothing is required of the caller: every byte string, every pass
-// number and every output gets the answer of the definition, and the output then holds what the definition says, byte by byte.
+// number, every edition and every output gets the answer of the definition, and the output then holds what the definition says, byte by byte.
 use checker::Answer;
 ghost use mathlib.Core.Path.{_≡_};
 ghost use Rattle.sheet.specs.Check.{check};
 ghost use Rattle.sheet.specs.Operations.{one-pass, all-five};
-ghost use Rattle.checker.specs.Checker.{numbers};
-ghost use Rattle.hand_out.specs.HandOut.{outcome};
+ghost use Rattle.checker.specs.Checker.{numbers, outcome};
+ghost use Rattle.convert.specs.Convert.{convert};
 
 // Checks a sheet.
 #[no_mangle]
@@ -29,4 +29,12 @@ pub extern "C" fn plan_optimize(sheet: &[u8], output: &mut [u8]) -> Answer
     ensures { λ r. ⌜ outcome r (now (output .exit)) ≡ all-five (now (sheet .entry)) (now (output .entry)) ⌝ }
 {
     operations::optimize(sheet, output)
+}
+
+// A sheet carried to the other edition, 1 or 2.
+#[no_mangle]
+pub extern "C" fn plan_convert(sheet: &[u8], edition: usize, output: &mut [u8]) -> Answer
+    ensures { λ r. ⌜ outcome r (now (output .exit)) ≡ convert (now (sheet .entry)) edition (now (output .entry)) ⌝ }
+{
+    convert::convert(sheet, edition, output)
 }

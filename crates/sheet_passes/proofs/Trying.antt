@@ -12,6 +12,7 @@ use Rattle.sql.specs.Answer.{Answer, done, refused}
 use Rattle.sheet.specs.Check.{schema, plan}
 use Rattle.sheet.specs.Write.{write}
 use Rattle.sheet.specs.Operations.{Outcome, written, hand-out}
+use Rattle.checker.specs.Checker.{outcome}
 use Rattle.checker.specs.declared.Answer as Code
 use Rattle.cells.specs.Cells.{cell-words}
 use Rattle.cells.specs.Room.{most-words}
@@ -20,7 +21,6 @@ use Rattle.optimizer.specs.Choices.{chosen}
 use Rattle.optimizer.specs.Settled.{Settled, pass-settled, optimize-settled}
 use Rattle.optimizer.specs.declared.Chosen.{Chosen}
 use Rattle.optimizer.specs.declared.Chosen.the-variants.{One, All}
-use Rattle.hand_out.specs.HandOut.{outcome}
 use Rattle.sheet_passes.specs.SheetPasses.{RunAt, RunsOn}
 use Rattle.sheet_passes.specs.Rooms.{FitsIn, RunsIn}
 

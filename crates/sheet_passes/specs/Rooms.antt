@@ -6,10 +6,10 @@ use Rattle.sql.specs.Plan.{Node, columns, node-size}
 use Rattle.sql.specs.Answer.{done}
 use Rattle.sheet.specs.Check.{schema, plan}
 use Rattle.sheet.specs.Operations.{hand-out}
+use Rattle.checker.specs.Checker.{outcome}
 use Rattle.checker.specs.declared.Answer as Code
 use Rattle.optimizer.specs.Choices.{chosen}
 use Rattle.optimizer.specs.declared.Chosen.{Chosen}
-use Rattle.hand_out.specs.HandOut.{outcome}
 
 -- s stands for some plan, which fits in the room.
 pub record FitsIn (room : ℕ) (s : List ℕ) : Type 0 where

@@ -7,12 +7,12 @@ use Rattle.sql.specs.Plan.{Node, columns, node-size}
 use Rattle.sql.specs.Answer.{done}
 use Rattle.sheet.specs.Check.{schema, plan}
 use Rattle.sheet.specs.Operations.{hand-out}
+use Rattle.checker.specs.Checker.{outcome}
 use Rattle.checker.specs.declared.Answer as Code
 use Rattle.cells.specs.Room.{most-words}
 use Rattle.passes.specs.Passes.{Alike}
 use Rattle.optimizer.specs.Choices.{chosen}
 use Rattle.optimizer.specs.declared.Chosen.{Chosen}
-use Rattle.hand_out.specs.HandOut.{outcome}
 use Rattle.cells.specs.Cells.{cell-words}
 
 -- s stands for a plan that fits into x. Each buffer has seven words for each cell that there is room for.

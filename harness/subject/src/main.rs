@@ -11,6 +11,7 @@
 //!     subject capacities N SEED        outputs of awkward lengths, and passes that there aren't
 //!     subject rubbish N SEED           damaged sheets through all three operations
 //!     subject origins N SEED           sheets of edition 2, whole and damaged, beside the model of origins; and beside edition 1
+//!     subject convert N SEED           sheets of both editions, whole and damaged, carried to the other, beside the model; and there and back
 //!     subject limits [KIB]             sheets at the limits, on a thread with so much stack (1024)
 //!     subject rows N SEED              the six plans that the library hands out, read over random tables
 //!     subject explain N SEED           the trees that `reqshabu explain` prints beside toyDB's own
@@ -120,6 +121,7 @@ fn main() {
         Some("capacities") => operations::capacities(number(1), number(2)),
         Some("rubbish") => operations::damaged(number(1), number(2)),
         Some("origins") => operations::origins(number(1), number(2)),
+        Some("convert") => operations::converted(number(1), number(2)),
         Some("limits") => operations::at_limits(words.get(1).map_or(1024, |_| number(1))),
         Some("rows") => operations::rows(number(1), number(2)),
         Some("explain") => {
@@ -133,7 +135,7 @@ fn main() {
             original::on_deep_stack(move || bench::random(n, seed))
         }
         _ => {
-            eprintln!("subject damaged | accepted | operations | capacities | rubbish | origins | rows | explain | bench-random N SEED, or bench | bench-all | bench-least | limits");
+            eprintln!("subject damaged | accepted | operations | capacities | rubbish | origins | convert | rows | explain | bench-random N SEED, or bench | bench-all | bench-least | limits");
             false
         }
     };

@@ -1,4 +1,4 @@
-//! The three operations beside the model and the compiled Rust.
+//! The operations beside the model and the compiled Rust.
 use std::collections::BTreeMap;
 
 use harness::check::Answer;
@@ -7,8 +7,13 @@ use harness::rng::Rng;
 use harness::rows::{self, Interner};
 use harness::{damage, extremes, generate, model, original, origins, promise, tree};
 
-/// An operation: 0 is check, 1 to 5 are the passes, 6 is all five, and n from 100 on asks for pass n - 100.
+/// An operation: 0 is check, 1 to 5 are the passes, 6 is all five, n from 200 to 299 converts to edition n - 200, and any other from 100 on asks for pass n - 100.
 pub type Operation = u32;
+
+/// Convert, to edition 0.
+const CONVERT: Operation = 200;
+/// Convert, to edition 99, the highest that is asked for.
+const LAST_CONVERT: Operation = 299;
 
 /// What is in an output before it is written.
 const BEFORE: u8 = 0xA5;
@@ -26,6 +31,7 @@ pub fn proved(sheet: &[u8], operation: Operation, capacity: usize) -> (Answer, V
             Err(r) => Answer::refusal(r.number, r.place),
         },
         model::ALL => answer(reqshabu::optimize(sheet, &mut output)),
+        CONVERT..=LAST_CONVERT => answer(reqshabu::convert(sheet, (operation - CONVERT) as usize, &mut output)),
         100.. => answer(reqshabu::pass(sheet, operation as usize - 100, &mut output)),
         k => answer(reqshabu::pass(sheet, k as usize, &mut output)),
     };
@@ -37,6 +43,7 @@ pub fn modelled(sheet: &[u8], operation: Operation, capacity: usize) -> (Answer,
     let (said, written) = match operation {
         0 => (model::check(sheet), Vec::new()),
         model::ALL => model::all_five(sheet, capacity),
+        CONVERT..=LAST_CONVERT => origins::convert(sheet, u64::from(operation - CONVERT), capacity),
         100.. => model::one_pass(sheet, operation - 100, capacity),
         k => model::one_pass(sheet, k, capacity),
     };
@@ -104,6 +111,7 @@ fn name(operation: Operation) -> String {
     match operation {
         0 => "check".into(),
         model::ALL => "all five".into(),
+        CONVERT..=LAST_CONVERT => format!("convert to edition {}", operation - CONVERT),
         k => format!("pass {k}"),
     }
 }
@@ -211,6 +219,56 @@ pub fn origins(n: u64, seed: u64) -> bool {
         }
     });
     tally.print(&format!("{n} accepted sheets in edition 2, and a damaged copy of each"))
+}
+
+/// `convert`: n sheets, by turns accepted in edition 1 and in edition 2 with any origins, and damaged copies of both, and the sheets at the limits, carried to
+/// editions that there are and that there aren't, in outputs of awkward lengths, beside the model; and there and back.
+pub fn converted(n: u64, seed: u64) -> bool {
+    let limits = extremes::list();
+    let tally = in_two(n + limits.len() as u64, |i, tally| {
+        let mut rng = Rng::case(seed ^ 0x0209, i);
+        let plain = match i.checked_sub(n) {
+            Some(k) => limits[k as usize].1.clone(),
+            None => generate::bytes(&mut rng),
+        };
+        let mut bytes = plain;
+        if rng.below(2) == 0 && harness::check::check(&bytes).number == 0 && origins::edition(&bytes) == 1 {
+            bytes = origins::any_up(&mut rng, &bytes);
+        }
+        if i < n && i % 2 == 1 {
+            bytes = damage::damage(&mut rng, &bytes);
+        }
+        let case = format!("sheet {i}");
+        for target in [0, 1, 2, 3, 99] {
+            for capacity in [0, bytes.len().saturating_sub(1), bytes.len(), bytes.len() + 1, 45_332] {
+                tally.add(&case, CONVERT + target, same(&bytes, CONVERT + target, capacity));
+            }
+        }
+        if let Err(said) = there_and_back(&bytes) {
+            tally.report(&case, &said);
+        }
+    });
+    tally.print(&format!("{n} sheets, every second one damaged, and {} at the limits, carried to the other edition", limits.len()))
+}
+
+/// An accepted sheet carried over by the library and carried back: the same bytes upward then downward, and downward then upward exactly if its cells are numbered.
+/// What comes of it passes the check with the same counts, and each pass makes the same of it, origins aside.
+fn there_and_back(bytes: &[u8]) -> Result<(), String> {
+    let Ok(accepted) = reqshabu::check(bytes) else { return Ok(()) };
+    let own = origins::edition(bytes) as usize;
+    let there = reqshabu::convert_to_vec(bytes, 3 - own).map_err(|r| r.to_string())?;
+    let back = reqshabu::convert_to_vec(&there, own).map_err(|r| r.to_string())?;
+    if (back == bytes) != (own == 1 || origins::is_numbered(bytes)) {
+        return Err("there and back is the same sheet, or not, against the law".into());
+    }
+    if reqshabu::check(&there) != Ok(accepted) || origins::down(&there) != origins::down(bytes) {
+        return Err("another sheet than the one handed in, origins aside".into());
+    }
+    let down = |sheet: Result<Vec<u8>, reqshabu::Refusal>| sheet.map(|s| origins::down(&s));
+    match down(reqshabu::optimize_to_vec(&there)) == down(reqshabu::optimize_to_vec(bytes)) {
+        true => Ok(()),
+        false => Err("all five make another plan of it, origins aside".into()),
+    }
 }
 
 /// `limits`: sheets at the limits, the library on a thread with so many KiB of stack.

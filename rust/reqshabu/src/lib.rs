@@ -1,7 +1,7 @@
 //! Plan sheets, checked and optimized by a proved library.
 //!
-//! A *sheet* is a query plan as bytes (docs/FORMAT.md in the source tree describes it byte by byte). Three operations work on it: [`check`] says whether the
-//! bytes are a sheet, [`pass`] applies one pass of toyDB's optimizer, and [`optimize`] applies all five. They are safe and require nothing of the caller: any
+//! A *sheet* is a query plan as bytes (docs/FORMAT.md in the source tree describes it byte by byte). Four operations work on it: [`check`] says whether the
+//! bytes are a sheet, [`pass`] applies one pass of toyDB's optimizer, [`optimize`] applies all five, and [`convert`] carries a sheet to the other edition. They are safe and require nothing of the caller: any
 //! bytes get their answer, which is a sheet or a [`Refusal`], a number and a place that it prints in words.
 //!
 //! ```no_run
@@ -16,8 +16,8 @@
 //! `cargo run --example optimize -- FILE` in rust/reqshabu is that as a program. [`Plan`] reads a sheet for people: a tree as toyDB's EXPLAIN prints it, a
 //! graph, or a list of cells. It is tested, not proved.
 //!
-//! A sheet is of edition 1 or 2, and the sheet handed out is of the same. In edition 2 each cell has an *origin*, a number of 16 bits that the caller chooses; the
-//! cells handed out have those of the cells that they came from (docs/FORMAT.md, Origins). [`Plan::origin`] gives them.
+//! A sheet is of edition 1 or 2, and the sheet that a pass hands out is of the same. In edition 2 each cell has an *origin*, a number of 16 bits that the caller
+//! chooses; the cells handed out have those of the cells that they came from (docs/FORMAT.md, Origins). [`Plan::origin`] gives them.
 //!
 //! # What will be added
 //!
@@ -58,6 +58,7 @@ mod raw {
         pub fn plan_check(sheet: *const u8, length: usize) -> Answer;
         pub fn plan_pass(sheet: *const u8, length: usize, pass: usize, output: *mut u8, capacity: usize) -> Answer;
         pub fn plan_optimize(sheet: *const u8, length: usize, output: *mut u8, capacity: usize) -> Answer;
+        pub fn plan_convert(sheet: *const u8, length: usize, edition: usize, output: *mut u8, capacity: usize) -> Answer;
     }
 }
 
@@ -118,6 +119,15 @@ pub fn optimize(sheet: &[u8], output: &mut [u8]) -> Result<Written, Refusal> {
     written(unsafe { raw::plan_optimize(sheet.as_ptr(), sheet.len(), output.as_mut_ptr(), output.len()) })
 }
 
+/// The sheet in the other edition, 1 or 2, written as [`pass`] does. It stays as long as it was. To edition 2 the origin of each cell becomes its number, to edition
+/// 1 it becomes 0; an edition that is neither, or the sheet's own, is refusal 21.
+///
+/// To 2 and back to 1 gives the same bytes; to 1 and back to 2 does so if and only if each origin was its cell's number.
+pub fn convert(sheet: &[u8], edition: usize, output: &mut [u8]) -> Result<Written, Refusal> {
+    // SAFETY: both slices are live and don't overlap, and plan_convert, whose proof requires nothing, stays within them.
+    written(unsafe { raw::plan_convert(sheet.as_ptr(), sheet.len(), edition, output.as_mut_ptr(), output.len()) })
+}
+
 /// The sheet that an operation writes, in a vector of its length. Refusal 15 is never given: there is room for every sheet.
 fn to_vec(operation: impl FnOnce(&mut [u8]) -> Result<Written, Refusal>) -> Result<Vec<u8>, Refusal> {
     let mut output = vec![0; LARGEST_SHEET];
@@ -135,4 +145,9 @@ pub fn pass_to_vec(sheet: &[u8], number: usize) -> Result<Vec<u8>, Refusal> {
 /// All five passes, as [`optimize`], with the sheet in a vector.
 pub fn optimize_to_vec(sheet: &[u8]) -> Result<Vec<u8>, Refusal> {
     to_vec(|output| optimize(sheet, output))
+}
+
+/// The sheet in the other edition, as [`convert`], in a vector.
+pub fn convert_to_vec(sheet: &[u8], edition: usize) -> Result<Vec<u8>, Refusal> {
+    to_vec(|output| convert(sheet, edition, output))
 }

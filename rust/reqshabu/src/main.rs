@@ -9,12 +9,13 @@ use std::os::unix::fs::{MetadataExt, fchown};
 use std::path::{Path, PathBuf};
 use std::process::ExitCode;
 
-use reqshabu::{LARGEST_SHEET, Line, PASSES, Part, Plan, Refusal, VERSION, changed_lines, check, optimize_to_vec, pass_to_vec};
+use reqshabu::{LARGEST_SHEET, Line, PASSES, Part, Plan, Refusal, VERSION, changed_lines, check, convert_to_vec, optimize_to_vec, pass_to_vec};
 
 const USAGE: &str = "\
 usage: reqshabu check FILE
        reqshabu pass N [-o OUT | --list | --dot] FILE
        reqshabu optimize [-o OUT | --list | --dot] FILE
+       reqshabu convert E [-o OUT | --list | --dot] FILE
        reqshabu explain [--list | --dot] FILE
        reqshabu diff FILE
        reqshabu --help | --version
@@ -24,6 +25,7 @@ const HELP: &str = "
   check      says whether FILE is a sheet, and how many cells and columns it has
   pass N     applies one pass: 1 ConstantFolding, 2 FilterPushdown, 3 IndexLookup, 4 HashJoin, 5 ShortCircuit
   optimize   applies all five in turn
+  convert E  carries the sheet to edition E, 1 or 2: to 2 each cell's origin becomes its number, to 1 it becomes 0
   explain    shows the plan as a tree, with the cell number of each node
   diff       shows the plan before and after each pass that changes it
 
@@ -56,6 +58,7 @@ enum Operation {
     Check,
     Pass(usize),
     Optimize,
+    Convert(usize),
     Explain,
     Diff,
 }
@@ -138,27 +141,31 @@ fn request(words: &[OsString]) -> Result<Request, Stop> {
     let name = plain.next().ok_or_else(|| usage("an operation is missing".into()))?;
     let operation = match name.as_bytes() {
         b"check" => Operation::Check,
-        b"pass" => {
-            let number = plain.next().ok_or_else(|| usage("pass lacks its number".into()))?;
-            let digits = number.to_str().filter(|text| !text.is_empty() && text.bytes().all(|byte| byte.is_ascii_digit()));
-            Operation::Pass(digits.and_then(|text| text.parse().ok()).ok_or_else(|| usage(format!("no number of a pass: {}", number.to_string_lossy())))?)
-        }
+        b"pass" => Operation::Pass(number(plain.next(), "pass", "a pass")?),
         b"optimize" => Operation::Optimize,
+        b"convert" => Operation::Convert(number(plain.next(), "convert", "an edition")?),
         b"explain" => Operation::Explain,
         b"diff" => Operation::Diff,
         _ => return Err(usage(format!("no such operation: {}", name.to_string_lossy()))),
     };
-    if out.is_some() && !matches!(operation, Operation::Pass(_) | Operation::Optimize) {
-        return Err(usage(format!("{} writes no sheet: -o is for pass and optimize", name.to_string_lossy())));
+    if out.is_some() && !matches!(operation, Operation::Pass(_) | Operation::Optimize | Operation::Convert(_)) {
+        return Err(usage(format!("{} writes no sheet: -o is for pass, optimize and convert", name.to_string_lossy())));
     }
     if form != Form::Tree && (out.is_some() || matches!(operation, Operation::Check | Operation::Diff)) {
-        return Err(usage("--list and --dot are for pass, optimize and explain, without -o".into()));
+        return Err(usage("--list and --dot are for pass, optimize, convert and explain, without -o".into()));
     }
     let file = plain.next().ok_or_else(|| usage("FILE is missing".into()))?.clone();
     if let Some(more) = plain.next() {
         return Err(usage(format!("one word too many: {}", more.to_string_lossy())));
     }
     Ok(Request { operation, form, out, file })
+}
+
+/// The number that an operation asks for behind its name. Which numbers there are, the library says.
+fn number(word: Option<&OsString>, operation: &str, what: &str) -> Result<usize, Stop> {
+    let word = word.ok_or_else(|| Stop::Usage(format!("{operation} lacks its number")))?;
+    let digits = word.to_str().filter(|text| !text.is_empty() && text.bytes().all(|byte| byte.is_ascii_digit()));
+    digits.and_then(|text| text.parse().ok()).ok_or_else(|| Stop::Usage(format!("no number of {what}: {}", word.to_string_lossy())))
 }
 
 // ---- the operations
@@ -174,6 +181,7 @@ fn run(request: &Request) -> Result<(), Stop> {
         Operation::Diff => return diff(request, &sheet),
         Operation::Pass(number) => pass_to_vec(&sheet, number).map_err(refused)?,
         Operation::Optimize => optimize_to_vec(&sheet).map_err(refused)?,
+        Operation::Convert(edition) => convert_to_vec(&sheet, edition).map_err(refused)?,
         Operation::Explain => sheet.clone(),
     };
     if let Some(out) = &request.out {
