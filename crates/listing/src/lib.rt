@@ -123,12 +123,24 @@ fn one_more(k: Kinds, tag: u32) -> Kinds
     ensures { λ r. ⌜ OneMore k tag r ⌝ }
 {
     if tag < FIRST_PART {
-        return Kinds { expressions: k.expressions + 1, parts: k.parts, nodes: k.nodes };
+        return Kinds {
+            expressions: k.expressions + 1,
+            parts: k.parts,
+            nodes: k.nodes,
+        };
     }
     if tag < FIRST_NODE {
-        return Kinds { expressions: k.expressions, parts: k.parts + 1, nodes: k.nodes };
+        return Kinds {
+            expressions: k.expressions,
+            parts: k.parts + 1,
+            nodes: k.nodes,
+        };
     }
-    Kinds { expressions: k.expressions, parts: k.parts, nodes: k.nodes + 1 }
+    Kinds {
+        expressions: k.expressions,
+        parts: k.parts,
+        nodes: k.nodes + 1,
+    }
 }
 
 // The cells of the sheet s, counted by kind.
@@ -138,7 +150,11 @@ fn kinds_of(s: &[u8]) -> Kinds
 {
     let p = layout::parts_of(s);
     let count = p.cells.count;
-    let mut k = Kinds { expressions: 0, parts: 0, nodes: 0 };
+    let mut k = Kinds {
+        expressions: 0,
+        parts: 0,
+        nodes: 0,
+    };
     let mut i: usize = 0;
     while i < count {
         let cell = cell_view::cell_of(s, i);
