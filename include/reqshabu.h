@@ -58,7 +58,12 @@ reqshabu_answer plan_optimize(const uint8_t *sheet, size_t length, uint8_t *outp
  * each origin was its cell's number. */
 reqshabu_answer plan_convert(const uint8_t *sheet, size_t length, size_t edition, uint8_t *output, size_t capacity);
 
-/* The four keep no state and allocate nothing, so they may be called from several threads at once. 1 MiB of stack is enough for every sheet. */
+/* The sheet without the text that nobody refers to, likewise: each different string that a record or cell refers to once, in order of first reference, records
+ * first. Everything else stays, the edition and the origins too. Strings that overlapped don't any more, so it may be longer than the sheet handed in: refusal 14,
+ * place 0, if the text kept has over 8,192 bytes. What is compacted again stays as it is. */
+reqshabu_answer plan_compact(const uint8_t *sheet, size_t length, uint8_t *output, size_t capacity);
+
+/* The five keep no state and allocate nothing, so they may be called from several threads at once. 1 MiB of stack is enough for every sheet. */
 
 /* What will change
  *

@@ -59,6 +59,7 @@ mod raw {
         pub fn plan_pass(sheet: *const u8, length: usize, pass: usize, output: *mut u8, capacity: usize) -> Answer;
         pub fn plan_optimize(sheet: *const u8, length: usize, output: *mut u8, capacity: usize) -> Answer;
         pub fn plan_convert(sheet: *const u8, length: usize, edition: usize, output: *mut u8, capacity: usize) -> Answer;
+        pub fn plan_compact(sheet: *const u8, length: usize, output: *mut u8, capacity: usize) -> Answer;
     }
 }
 
@@ -128,6 +129,13 @@ pub fn convert(sheet: &[u8], edition: usize, output: &mut [u8]) -> Result<Writte
     written(unsafe { raw::plan_convert(sheet.as_ptr(), sheet.len(), edition, output.as_mut_ptr(), output.len()) })
 }
 
+/// The sheet without the text that nobody refers to, written as [`pass`] does: each different string that a record or cell refers to once, in order of first
+/// reference.
+pub fn compact(sheet: &[u8], output: &mut [u8]) -> Result<Written, Refusal> {
+    // SAFETY: both slices are live and don't overlap, and plan_compact, whose proof requires nothing, stays within them.
+    written(unsafe { raw::plan_compact(sheet.as_ptr(), sheet.len(), output.as_mut_ptr(), output.len()) })
+}
+
 /// The sheet that an operation writes, in a vector of its length. Refusal 15 is never given: there is room for every sheet.
 fn to_vec(operation: impl FnOnce(&mut [u8]) -> Result<Written, Refusal>) -> Result<Vec<u8>, Refusal> {
     let mut output = vec![0; LARGEST_SHEET];
@@ -150,4 +158,9 @@ pub fn optimize_to_vec(sheet: &[u8]) -> Result<Vec<u8>, Refusal> {
 /// The sheet in the other edition, as [`convert`], in a vector.
 pub fn convert_to_vec(sheet: &[u8], edition: usize) -> Result<Vec<u8>, Refusal> {
     to_vec(|output| convert(sheet, edition, output))
+}
+
+/// The sheet without unused text, as [`compact`], with the sheet in a vector.
+pub fn compact_to_vec(sheet: &[u8]) -> Result<Vec<u8>, Refusal> {
+    to_vec(|output| compact(sheet, output))
 }

@@ -2,7 +2,7 @@
 mod common;
 
 use common::{LARGEST, cell, down, example, examples, listing, on_small_stack, output, sheet, up};
-use reqshabu::{LARGEST_SHEET, PASSES, Plan, Refusal, changed_lines, check, optimize, optimize_to_vec, pass, pass_to_vec};
+use reqshabu::{LARGEST_SHEET, PASSES, Plan, Refusal, changed_lines, check, compact, compact_to_vec, optimize, optimize_to_vec, pass, pass_to_vec};
 use std::fs;
 
 #[test]
@@ -17,6 +17,21 @@ fn vectors_hold_what_is_written() {
             let mut lent = output();
             let one = pass(&sheet, number, &mut lent).map(|written| lent[..written.length as usize].to_vec());
             assert_eq!(pass_to_vec(&sheet, number), one, "{}, pass {number}", path.display());
+        }
+    }
+}
+
+/// A result that is compacted again stays as it is, and passes check with the counts of the sheet handed in.
+#[test]
+fn compacted_twice() {
+    for path in examples() {
+        let sheet = fs::read(&path).unwrap();
+        let mut lent = output();
+        let one = compact(&sheet, &mut lent).map(|written| lent[..written.length as usize].to_vec());
+        assert_eq!(compact_to_vec(&sheet), one, "{}", path.display());
+        if let Ok(one) = one {
+            assert_eq!(compact_to_vec(&one).as_ref(), Ok(&one), "{}", path.display());
+            assert_eq!(check(&one), check(&sheet), "{}", path.display());
         }
     }
 }
