@@ -10,7 +10,7 @@ use lib.Dec.{leb}
 use lib.ListN.{length, take, drop, length-append, length-drop}
 use lib.Seq.{length-take-le}
 use Rattle.value.specs.Value.{truth, datum, False, Unknown, True, integer, float, string}
-use Rattle.sql.specs.Expression.{Expression, constant, column, unary, binary, Unary, Binary, Not, IsNull, IsNaN, Identity, Negate, And, Or, Equal, GreaterThan, LessThan, Add, Divide, logical}
+use Rattle.sql.specs.Expression.{Expression, constant, column, unary, binary, Unary, Binary, Not, IsNull, IsNaN, Identity, Negate, SquareRoot, And, Or, Equal, GreaterThan, LessThan, Add, Divide, Subtract, Multiply, logical}
 use Rattle.sheet.specs.Cell.{Cell}
 use Rattle.sheet.specs.Cells.{expression-cells}
 use Rattle.sheet.specs.Content.{Content, cell-of, marked, constant-cell, column-cell, unary-cell, binary-cell}
@@ -59,6 +59,7 @@ plain-cells (unary og (Unary.function IsNull) x) z = plain-append (expression-ce
 plain-cells (unary og (Unary.function IsNaN) x) z = plain-append (expression-cells x) _ (plain-cells x (z .1)) (at-zero og (unary-cell (Unary.function IsNaN)) (z .0) refl)
 plain-cells (unary og (Unary.function Identity) x) z = plain-append (expression-cells x) _ (plain-cells x (z .1)) (at-zero og (unary-cell (Unary.function Identity)) (z .0) refl)
 plain-cells (unary og (Unary.function Negate) x) z = plain-append (expression-cells x) _ (plain-cells x (z .1)) (at-zero og (unary-cell (Unary.function Negate)) (z .0) refl)
+plain-cells (unary og (Unary.function SquareRoot) x) z = plain-append (expression-cells x) _ (plain-cells x (z .1)) (at-zero og (unary-cell (Unary.function SquareRoot)) (z .0) refl)
 plain-cells (binary og (logical And) l r) z = plain-append (expression-cells l) _ (plain-cells l (z .1)) (plain-append (expression-cells r) _ (plain-cells r (z .2)) (at-zero og (binary-cell (logical And)) (z .0) refl))
 plain-cells (binary og (logical Or) l r) z = plain-append (expression-cells l) _ (plain-cells l (z .1)) (plain-append (expression-cells r) _ (plain-cells r (z .2)) (at-zero og (binary-cell (logical Or)) (z .0) refl))
 plain-cells (binary og Equal l r) z = plain-append (expression-cells l) _ (plain-cells l (z .1)) (plain-append (expression-cells r) _ (plain-cells r (z .2)) (at-zero og (binary-cell Equal) (z .0) refl))
@@ -66,6 +67,8 @@ plain-cells (binary og (Binary.function GreaterThan) l r) z = plain-append (expr
 plain-cells (binary og (Binary.function LessThan) l r) z = plain-append (expression-cells l) _ (plain-cells l (z .1)) (plain-append (expression-cells r) _ (plain-cells r (z .2)) (at-zero og (binary-cell (Binary.function LessThan)) (z .0) refl))
 plain-cells (binary og (Binary.function Add) l r) z = plain-append (expression-cells l) _ (plain-cells l (z .1)) (plain-append (expression-cells r) _ (plain-cells r (z .2)) (at-zero og (binary-cell (Binary.function Add)) (z .0) refl))
 plain-cells (binary og (Binary.function Divide) l r) z = plain-append (expression-cells l) _ (plain-cells l (z .1)) (plain-append (expression-cells r) _ (plain-cells r (z .2)) (at-zero og (binary-cell (Binary.function Divide)) (z .0) refl))
+plain-cells (binary og (Binary.function Subtract) l r) z = plain-append (expression-cells l) _ (plain-cells l (z .1)) (plain-append (expression-cells r) _ (plain-cells r (z .2)) (at-zero og (binary-cell (Binary.function Subtract)) (z .0) refl))
+plain-cells (binary og (Binary.function Multiply) l r) z = plain-append (expression-cells l) _ (plain-cells l (z .1)) (plain-append (expression-cells r) _ (plain-cells r (z .2)) (at-zero og (binary-cell (Binary.function Multiply)) (z .0) refl))
 
 word-zero : (w : Word) (e : Expression) → part-tree (word w) ≡ some e → Zero e
 word-zero TRUE e h = subst Zero (Option·some-injective _ e h) refl
