@@ -3,8 +3,10 @@ pub mod Expression
 pub mod Plan
 pub mod Ranges
 pub mod Answer
+pub mod Mode
 pub mod Optimizer
 pub mod Room
 pub mod Samples
 pub mod Further
 pub mod Numbered
+pub mod House

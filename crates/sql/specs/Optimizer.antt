@@ -11,6 +11,7 @@ use Rattle.sql.specs.Schema.{Table, Schema, table-of, column-of}
 use Rattle.sql.specs.Expression.{Marked, Logical, And, Or, Unary, Binary, logical, Equal, function, Expression, constant, column, unary, binary, and, origin, size, bind, evaluate, contains-column, replace-column, shift-column-down, shift-column-up, into-cnf-vec, and-vec, is-column, is-column-lookup, into-column-values}
 use Rattle.sql.specs.Plan.{Label, unlabelled, unqualified, qualified, Access, by-key, by-index, Leaf, scan, lookup, nothing, values, Other, limit, offset, order, projection, remap, aggregate, Over, filter, other, Join, nested-loop, hash, Node, leaf, over, join, node-origin, columns, column-labels, row-size, item-size, key-size, node-size}
 use Rattle.sql.specs.Answer.{Answer, done, refused, _>>=_, at-place}
+use Rattle.sql.specs.Mode.{Mode, usable}
 
 -- A transform is applied to the sources of a node.
 abbrev pub map-sources : (Node → Node) → Node → Node
@@ -323,19 +324,10 @@ module _ (schema : Schema) (table : ℕ) where
   abbrev pub has-index : ℕ → Bool
   has-index c = eqb c (table-of schema table .primary-key) || column-of schema table c .index
 
-  abbrev pub with-index : Option ℕ → Option ℕ
-  with-index none = none
-  with-index (some c) = cond (has-index c) (some c) none
-
   abbrev pub found-here : Expression → List Expression → Option ℕ → Option Found → Option Found
   found-here e es (some c) later = some (record { column-number = c; conjunct = e; remaining = es })
   found-here e es none none = none
   found-here e es none (some f) = some (record { column-number = f .column-number; conjunct = f .conjunct; remaining = e ∷ f .remaining })
-
-  -- The first conjunct that is such a lookup. The key has no priority over an index.
-  abbrev pub find-lookup : List Expression → Option Found
-  find-lookup [] = none
-  find-lookup (e ∷ es) = found-here e es (with-index (is-column-lookup e)) (find-lookup es)
 
   abbrev pub access : ℕ → Access
   access c = cond (eqb c (table-of schema table .primary-key)) by-key (by-index c)
@@ -346,10 +338,21 @@ module _ (schema : Schema) (table : ℕ) where
   lookup-or-scan og alias predicate (some f) =
       filtered og (and-vec og (f .remaining)) (leaf og (lookup (access (f .column-number)) table alias (into-column-values (f .conjunct))))
 
-module _ (schema : Schema) where
+module _ (mode : Mode) (schema : Schema) (table : ℕ) where
+  -- The column of a conjunct that is a lookup, if the mode's rule lets a lookup go by the two.
+  abbrev pub with-index : Expression → Option ℕ → Option ℕ
+  with-index e none = none
+  with-index e (some c) = cond (usable mode (column-of schema table c .kind) e && has-index schema table c) (some c) none
+
+  -- The first conjunct that is such a lookup. The key has no priority over an index.
+  abbrev pub find-lookup : List Expression → Option Found
+  find-lookup [] = none
+  find-lookup (e ∷ es) = found-here schema table e es (with-index e (is-column-lookup e)) (find-lookup es)
+
+module _ (mode : Mode) (schema : Schema) where
   unfoldable pub index-lookup : ℕ → Leaf → Node
   index-lookup og (scan table alias none) = leaf og (scan table alias none)
-  index-lookup og (scan table alias (some predicate)) = lookup-or-scan schema table og alias predicate (find-lookup schema table (into-cnf-vec predicate))
+  index-lookup og (scan table alias (some predicate)) = lookup-or-scan schema table og alias predicate (find-lookup mode schema table (into-cnf-vec predicate))
   index-lookup og (lookup access table alias constants) = leaf og (lookup access table alias constants)
   index-lookup og (nothing labels) = leaf og (nothing labels)
   index-lookup og (values rows) = leaf og (values rows)
@@ -513,12 +516,12 @@ abbrev pub in-turn : List Optimizer → Optimizer
 in-turn [] node = done node
 in-turn (f ∷ fs) node = f node >>= in-turn fs
 
-module _ (schema : Schema) where
+module _ (mode : Mode) (schema : Schema) where
   abbrev pub OPTIMIZERS : List Optimizer
   OPTIMIZERS =
       ConstantFolding 0
       ∷ (λ node. done (FilterPushdown schema node))
-      ∷ (λ node. done (IndexLookup schema node))
+      ∷ (λ node. done (IndexLookup mode schema node))
       ∷ (λ node. done (HashJoin schema node))
       ∷ (λ node. done (ShortCircuit schema node))
       ∷ []

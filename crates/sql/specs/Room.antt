@@ -13,6 +13,7 @@ use Rattle.sql.specs.Schema.{Schema}
 use Rattle.sql.specs.Expression.{Expression, size, into-nnf, into-cnf}
 use Rattle.sql.specs.Plan.{Leaf, scan, lookup, nothing, values, Over, filter, other, Join, nested-loop, hash, Node, leaf, over, join, over-size, join-size, node-size}
 use Rattle.sql.specs.Answer.{Answer, done, refused, _>>=_}
+use Rattle.sql.specs.Mode.{Mode}
 use Rattle.sql.specs.Optimizer.{push-into, Optimizer, pass-of, in-turn}
 use Rattle.sql.specs.Optimizer
 
@@ -86,10 +87,12 @@ module _ (room : ℕ) (schema : Schema) where
   unfoldable pub FilterPushdown : ℕ → Node → Answer Node
   FilterPushdown rest node = push-filters-from (node-size node) rest node
 
-  -- ======== IndexLookup. A scan's normal form counts for room also where nothing is found and the original filter stays.
+-- ======== IndexLookup. A scan's normal form counts for room also where nothing is found and the original filter stays.
 
+module _ (mode : Mode) (room : ℕ) (schema : Schema) where
   unfoldable pub index-lookup : ℕ → ℕ → Leaf → Answer Node
-  index-lookup og rest l = if-room (normal-forms-fit (scan-filter l)) (leaf og l) >>= λ n. step rest (Optimizer.index-lookup schema og l)
+  index-lookup og rest l =
+      if-room (normal-forms-fit room schema (scan-filter l)) (leaf og l) >>= λ n. step room schema rest (Optimizer.index-lookup mode schema og l)
 
   unfoldable pub IndexLookup : ℕ → Node → Answer Node
   IndexLookup rest (leaf og l) = index-lookup og rest l
@@ -101,10 +104,11 @@ module _ (room : ℕ) (schema : Schema) where
     r ← IndexLookup (rest + (node-size l + join-size j)) right
     done (join og outer j l r)
 
-  -- ======== ShortCircuit: sources before the node
+-- ======== ShortCircuit: sources before the node
 
+module _ (room : ℕ) (schema : Schema) where
   unfoldable pub short-circuit : ℕ → Node → Answer Node
-  short-circuit rest node = step rest (Optimizer.short-circuit schema node)
+  short-circuit rest node = step room schema rest (Optimizer.short-circuit schema node)
 
   unfoldable pub ShortCircuit : ℕ → Node → Answer Node
   ShortCircuit rest (leaf og l) = short-circuit rest (leaf og l)
@@ -114,16 +118,17 @@ module _ (room : ℕ) (schema : Schema) where
     r ← ShortCircuit (rest + (node-size l + join-size j)) right
     short-circuit rest (join og outer j l r)
 
-  -- ======== one optimizer by its number, and the five in turn
+-- ======== one optimizer by its number, and the five in turn
 
+module _ (mode : Mode) (room : ℕ) (schema : Schema) where
   -- ConstantFolding and HashJoin put no more cells in the place of what they rewrite (crate room), so there is room for each of their steps.
   abbrev pub OPTIMIZERS : List Optimizer
   OPTIMIZERS =
       Optimizer.ConstantFolding 0
-      ∷ FilterPushdown 0
-      ∷ IndexLookup 0
+      ∷ FilterPushdown room schema 0
+      ∷ IndexLookup mode room schema 0
       ∷ (λ node. done (Optimizer.HashJoin schema node))
-      ∷ ShortCircuit 0
+      ∷ ShortCircuit room schema 0
       ∷ []
 
   abbrev pub pass : ℕ → Optimizer
