@@ -10,6 +10,7 @@ use Rattle.sql.specs.Schema.{Schema}
 use Rattle.sql.specs.Expression.{Expression, size, into-nnf, into-cnf}
 use Rattle.sql.specs.Plan.{Leaf, Over, filter, other, Node, leaf, over, join, over-size, join-size, node-size}
 use Rattle.sql.specs.Answer.{Answer, done, refused, _>>=_}
+use Rattle.sql.specs.Mode.{Mode}
 use Rattle.sql.specs.Optimizer.{push-into, Optimizer, in-turn}
 use Rattle.sql.specs.Optimizer as Optimizer
 use Rattle.sql.specs.Room.{if-room, join-predicate, scan-filter, go-on}
@@ -107,25 +108,6 @@ module _ (room more : ℕ) (larger : room ≤ more) (schema : Schema) where
   unfolding Room.FilterPushdown
   pushdown-larger rest n = from-larger (node-size n) rest n
 
-  pub lookup-larger : (rest : ℕ) (n : Node) → Follows (Room.IndexLookup room schema rest n) (Room.IndexLookup more schema rest n)
-  unfolding Room.IndexLookup Room.index-lookup
-  lookup-larger rest (leaf og l) =
-      let here = Room.normal-forms-fit room schema (scan-filter l) in
-      let there = Room.normal-forms-fit more schema (scan-filter l) in
-      follows-then (if-room here (leaf og l)) (if-room there (leaf og l)) (λ k. Room.step room schema rest (Optimizer.index-lookup schema og l)) (λ k. Room.step more schema rest (Optimizer.index-lookup schema og l))
-      (if-room-follows here there (leaf og l) (forms-larger (scan-filter l))) (λ k. step-larger rest (Optimizer.index-lookup schema og l))
-  lookup-larger rest (over og o source) =
-      follows-then (Room.IndexLookup room schema (rest + over-size o) source) (Room.IndexLookup more schema (rest + over-size o) source) (λ s. done (over og o s)) (λ s. done (over og o s))
-      (lookup-larger (rest + over-size o) source) (λ s m h. h)
-  lookup-larger rest (join og outer j left right) =
-      let on-left = rest + (node-size right + join-size j) in
-      follows-then (Room.IndexLookup room schema on-left left) (Room.IndexLookup more schema on-left left)
-      (λ l. Room.IndexLookup room schema (rest + (node-size l + join-size j)) right >>= λ r. done (join og outer j l r))
-      (λ l. Room.IndexLookup more schema (rest + (node-size l + join-size j)) right >>= λ r. done (join og outer j l r))
-      (lookup-larger on-left left)
-      (λ l. follows-then (Room.IndexLookup room schema (rest + (node-size l + join-size j)) right) (Room.IndexLookup more schema (rest + (node-size l + join-size j)) right)
-      (λ r. done (join og outer j l r)) (λ r. done (join og outer j l r)) (lookup-larger (rest + (node-size l + join-size j)) right) (λ r m h. h))
-
   one-larger : (rest : ℕ) (n : Node) → Follows (Room.short-circuit room schema rest n) (Room.short-circuit more schema rest n)
   unfolding Room.short-circuit
   one-larger rest n = step-larger rest (Optimizer.short-circuit schema n)
@@ -147,19 +129,39 @@ module _ (room more : ℕ) (larger : room ≤ more) (schema : Schema) where
       (λ r. Room.short-circuit room schema rest (join og outer j l r)) (λ r. Room.short-circuit more schema rest (join og outer j l r))
       (circuit-larger (rest + (node-size l + join-size j)) right) (λ r. one-larger rest (join og outer j l r)))
 
+turn : (f g : Optimizer) (fs gs : List Optimizer) → ((n : Node) → Follows (f n) (g n)) → ((n : Node) → Follows (in-turn fs n) (in-turn gs n))
+    → (n : Node) → Follows (in-turn (f ∷ fs) n) (in-turn (g ∷ gs) n)
+turn f g fs gs h k n = follows-then (f n) (g n) (in-turn fs) (in-turn gs) (h n) k
+
+module _ (mode : Mode) (room more : ℕ) (larger : room ≤ more) (schema : Schema) where
+  pub lookup-larger : (rest : ℕ) (n : Node) → Follows (Room.IndexLookup mode room schema rest n) (Room.IndexLookup mode more schema rest n)
+  unfolding Room.IndexLookup Room.index-lookup
+  lookup-larger rest (leaf og l) =
+      let here = Room.normal-forms-fit room schema (scan-filter l) in
+      let there = Room.normal-forms-fit more schema (scan-filter l) in
+      follows-then (if-room here (leaf og l)) (if-room there (leaf og l)) (λ k. Room.step room schema rest (Optimizer.index-lookup mode schema og l)) (λ k. Room.step more schema rest (Optimizer.index-lookup mode schema og l))
+      (if-room-follows here there (leaf og l) (forms-larger room more larger schema (scan-filter l))) (λ k. step-larger room more larger schema rest (Optimizer.index-lookup mode schema og l))
+  lookup-larger rest (over og o source) =
+      follows-then (Room.IndexLookup mode room schema (rest + over-size o) source) (Room.IndexLookup mode more schema (rest + over-size o) source) (λ s. done (over og o s)) (λ s. done (over og o s))
+      (lookup-larger (rest + over-size o) source) (λ s m h. h)
+  lookup-larger rest (join og outer j left right) =
+      let on-left = rest + (node-size right + join-size j) in
+      follows-then (Room.IndexLookup mode room schema on-left left) (Room.IndexLookup mode more schema on-left left)
+      (λ l. Room.IndexLookup mode room schema (rest + (node-size l + join-size j)) right >>= λ r. done (join og outer j l r))
+      (λ l. Room.IndexLookup mode more schema (rest + (node-size l + join-size j)) right >>= λ r. done (join og outer j l r))
+      (lookup-larger on-left left)
+      (λ l. follows-then (Room.IndexLookup mode room schema (rest + (node-size l + join-size j)) right) (Room.IndexLookup mode more schema (rest + (node-size l + join-size j)) right)
+      (λ r. done (join og outer j l r)) (λ r. done (join og outer j l r)) (lookup-larger (rest + (node-size l + join-size j)) right) (λ r m h. h))
+
   -- One pass, and all five.
-  pub pass-larger : (k : ℕ) (n : Node) → Follows (Room.pass room schema k n) (Room.pass more schema k n)
+  pub pass-larger : (k : ℕ) (n : Node) → Follows (Room.pass mode room schema k n) (Room.pass mode more schema k n)
   pass-larger zero n m h = h
   pass-larger (suc zero) n m h = h
-  pass-larger (suc (suc zero)) n m h = pushdown-larger 0 n m h
+  pass-larger (suc (suc zero)) n m h = pushdown-larger room more larger schema 0 n m h
   pass-larger (suc (suc (suc zero))) n m h = lookup-larger 0 n m h
   pass-larger (suc (suc (suc (suc zero)))) n m h = h
-  pass-larger (suc (suc (suc (suc (suc zero))))) n m h = circuit-larger 0 n m h
+  pass-larger (suc (suc (suc (suc (suc zero))))) n m h = circuit-larger room more larger schema 0 n m h
   pass-larger (suc (suc (suc (suc (suc (suc k)))))) n m h = h
-
-  turn : (f g : Optimizer) (fs gs : List Optimizer) → ((n : Node) → Follows (f n) (g n)) → ((n : Node) → Follows (in-turn fs n) (in-turn gs n))
-      → (n : Node) → Follows (in-turn (f ∷ fs) n) (in-turn (g ∷ gs) n)
-  turn f g fs gs h k n = follows-then (f n) (g n) (in-turn fs) (in-turn gs) (h n) k
 
   abbrev from-5 : ℕ → List Optimizer
   from-5 r = Room.ShortCircuit r schema 0 ∷ []
@@ -168,15 +170,15 @@ module _ (room more : ℕ) (larger : room ≤ more) (schema : Schema) where
   from-4 r = (λ n. done (Optimizer.HashJoin schema n)) ∷ from-5 r
 
   abbrev from-3 : ℕ → List Optimizer
-  from-3 r = Room.IndexLookup r schema 0 ∷ from-4 r
+  from-3 r = Room.IndexLookup mode r schema 0 ∷ from-4 r
 
   abbrev from-2 : ℕ → List Optimizer
   from-2 r = Room.FilterPushdown r schema 0 ∷ from-3 r
 
-  pub optimize-larger : (n : Node) → Follows (Room.optimize room schema n) (Room.optimize more schema n)
+  pub optimize-larger : (n : Node) → Follows (Room.optimize mode room schema n) (Room.optimize mode more schema n)
   optimize-larger =
       turn (Optimizer.ConstantFolding 0) (Optimizer.ConstantFolding 0) (from-2 room) (from-2 more) (pass-larger 1)
       (turn (Room.FilterPushdown room schema 0) (Room.FilterPushdown more schema 0) (from-3 room) (from-3 more) (pass-larger 2)
-      (turn (Room.IndexLookup room schema 0) (Room.IndexLookup more schema 0) (from-4 room) (from-4 more) (pass-larger 3)
+      (turn (Room.IndexLookup mode room schema 0) (Room.IndexLookup mode more schema 0) (from-4 room) (from-4 more) (pass-larger 3)
       (turn (λ n. done (Optimizer.HashJoin schema n)) (λ n. done (Optimizer.HashJoin schema n)) (from-5 room) (from-5 more) (pass-larger 4)
       (turn (Room.ShortCircuit room schema 0) (Room.ShortCircuit more schema 0) [] [] (pass-larger 5) (λ n m h. h)))))

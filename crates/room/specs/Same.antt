@@ -9,6 +9,7 @@ use Rattle.sql.specs.Schema.{Schema}
 use Rattle.sql.specs.Expression.{Expression}
 use Rattle.sql.specs.Plan.{Leaf, Over, filter, other, Node, leaf, over, join, over-size, join-size, node-size}
 use Rattle.sql.specs.Answer.{Answer, done, refused, _>>=_}
+use Rattle.sql.specs.Mode.{Mode}
 use Rattle.sql.specs.Optimizer.{map-sources, push-into, Optimizer, in-turn}
 use Rattle.sql.specs.Optimizer as Optimizer
 use Rattle.sql.specs.Room.{if-room, join-predicate, scan-filter, go-on}
@@ -86,28 +87,6 @@ module _ (room : ℕ) (schema : Schema) where
   unfolding Room.FilterPushdown Optimizer.FilterPushdown
   pushdown-same rest n m h = from-same (node-size n) rest n m h
 
-  -- ---- IndexLookup
-
-  leaf-same : (og rest : ℕ) (l : Leaf) (m : Node) → Room.index-lookup room schema og rest l ≡ done m → Optimizer.index-lookup schema og l ≡ m
-  unfolding Room.index-lookup
-  leaf-same og rest l m h =
-      let a = after (if-room (Room.normal-forms-fit room schema (scan-filter l)) (leaf og l)) (λ k. Room.step room schema rest (Optimizer.index-lookup schema og l)) m h in
-      step-same rest (Optimizer.index-lookup schema og l) m (a .second)
-
-  pub lookup-same : (rest : ℕ) (n m : Node) → Room.IndexLookup room schema rest n ≡ done m → Optimizer.IndexLookup schema n ≡ m
-  unfolding Room.IndexLookup Optimizer.IndexLookup
-  lookup-same rest (leaf og l) m h = leaf-same og rest l m h
-  lookup-same rest (over og o source) m h =
-      let a = after (Room.IndexLookup room schema (rest + over-size o) source) (λ s. done (over og o s)) m h in
-      ap (over og o) (lookup-same (rest + over-size o) source (a .of) (a .first)) ∙ done-same (a .second)
-  lookup-same rest (join og outer j left right) m h =
-      let on-left = rest + (node-size right + join-size j) in
-      let a = after (Room.IndexLookup room schema on-left left)
-      (λ l. Room.IndexLookup room schema (rest + (node-size l + join-size j)) right >>= λ r. done (join og outer j l r)) m h in
-      let on-right = rest + (node-size (a .of) + join-size j) in
-      let b = after (Room.IndexLookup room schema on-right right) (λ r. done (join og outer j (a .of) r)) m (a .second) in
-      ap₂ (join og outer j) (lookup-same on-left left (a .of) (a .first)) (lookup-same on-right right (b .of) (b .first)) ∙ done-same (b .second)
-
   -- ---- ShortCircuit
 
   one-same : (rest : ℕ) (n m : Node) → Room.short-circuit room schema rest n ≡ done m → Optimizer.short-circuit schema n ≡ m
@@ -129,15 +108,38 @@ module _ (room : ℕ) (schema : Schema) where
       ap₂ (λ x y. Optimizer.short-circuit schema (join og outer j x y)) (circuit-same on-left left (a .of) (a .first)) (circuit-same on-right right (b .of) (b .first))
       ∙ one-same rest (join og outer j (a .of) (b .of)) m (b .second)
 
+-- ---- IndexLookup
+
+module _ (mode : Mode) (room : ℕ) (schema : Schema) where
+  leaf-same : (og rest : ℕ) (l : Leaf) (m : Node) → Room.index-lookup mode room schema og rest l ≡ done m → Optimizer.index-lookup mode schema og l ≡ m
+  unfolding Room.index-lookup
+  leaf-same og rest l m h =
+      let a = after (if-room (Room.normal-forms-fit room schema (scan-filter l)) (leaf og l)) (λ k. Room.step room schema rest (Optimizer.index-lookup mode schema og l)) m h in
+      step-same room schema rest (Optimizer.index-lookup mode schema og l) m (a .second)
+
+  pub lookup-same : (rest : ℕ) (n m : Node) → Room.IndexLookup mode room schema rest n ≡ done m → Optimizer.IndexLookup mode schema n ≡ m
+  unfolding Room.IndexLookup Optimizer.IndexLookup
+  lookup-same rest (leaf og l) m h = leaf-same og rest l m h
+  lookup-same rest (over og o source) m h =
+      let a = after (Room.IndexLookup mode room schema (rest + over-size o) source) (λ s. done (over og o s)) m h in
+      ap (over og o) (lookup-same (rest + over-size o) source (a .of) (a .first)) ∙ done-same (a .second)
+  lookup-same rest (join og outer j left right) m h =
+      let on-left = rest + (node-size right + join-size j) in
+      let a = after (Room.IndexLookup mode room schema on-left left)
+      (λ l. Room.IndexLookup mode room schema (rest + (node-size l + join-size j)) right >>= λ r. done (join og outer j l r)) m h in
+      let on-right = rest + (node-size (a .of) + join-size j) in
+      let b = after (Room.IndexLookup mode room schema on-right right) (λ r. done (join og outer j (a .of) r)) m (a .second) in
+      ap₂ (join og outer j) (lookup-same on-left left (a .of) (a .first)) (lookup-same on-right right (b .of) (b .first)) ∙ done-same (b .second)
+
   -- ---- all of them
 
-  pub pass-same : (k : ℕ) (n m : Node) → Room.pass room schema k n ≡ done m → Optimizer.pass schema k n ≡ done m
+  pub pass-same : (k : ℕ) (n m : Node) → Room.pass mode room schema k n ≡ done m → Optimizer.pass mode schema k n ≡ done m
   pass-same zero n m h = h
   pass-same (suc zero) n m h = h
-  pass-same (suc (suc zero)) n m h = ap done (pushdown-same 0 n m h)
+  pass-same (suc (suc zero)) n m h = ap done (pushdown-same room schema 0 n m h)
   pass-same (suc (suc (suc zero))) n m h = ap done (lookup-same 0 n m h)
   pass-same (suc (suc (suc (suc zero)))) n m h = h
-  pass-same (suc (suc (suc (suc (suc zero))))) n m h = ap done (circuit-same 0 n m h)
+  pass-same (suc (suc (suc (suc (suc zero))))) n m h = ap done (circuit-same room schema 0 n m h)
   pass-same (suc (suc (suc (suc (suc (suc k)))))) n m h = h
 
 -- optimizers in turn, each of which does what another one does
@@ -151,7 +153,7 @@ in-turn-same (and-then {f} {g} {fs} {gs} k r) n m h =
     let a = after (f n) (in-turn fs) m h in
     ap (λ z. z >>= in-turn gs) (k n (a .of) (a .first)) ∙ in-turn-same r (a .of) m (a .second)
 
-pub optimize-same : (room : ℕ) (schema : Schema) (n m : Node) → Room.optimize room schema n ≡ done m → Optimizer.optimize schema n ≡ done m
-optimize-same room schema =
-    in-turn-same (and-then (pass-same room schema 1) (and-then (pass-same room schema 2) (and-then (pass-same room schema 3)
-    (and-then (pass-same room schema 4) (and-then (pass-same room schema 5) no-more)))))
+pub optimize-same : (mode : Mode) (room : ℕ) (schema : Schema) (n m : Node) → Room.optimize mode room schema n ≡ done m → Optimizer.optimize mode schema n ≡ done m
+optimize-same mode room schema =
+    in-turn-same (and-then (pass-same mode room schema 1) (and-then (pass-same mode room schema 2) (and-then (pass-same mode room schema 3)
+    (and-then (pass-same mode room schema 4) (and-then (pass-same mode room schema 5) no-more)))))
