@@ -11,6 +11,7 @@ use Rattle.sql.specs.Schema.{Schema}
 use Rattle.sql.specs.Expression.{Marked, origin, Expression, constant, column, unary, binary, size, bind, evaluate, contains-column}
 use Rattle.sql.specs.Plan.{Leaf, scan, lookup, nothing, values, limit, offset, order, projection, remap, aggregate, Over, filter, other, Join, nested-loop, hash, Node, leaf, over, join, row-size, item-size, key-size, node-size, over-size, join-size}
 use Rattle.sql.specs.Answer.{Answer, done, refused, _>>=_, at-place}
+use Rattle.sql.specs.Mode.{Mode}
 use Rattle.sql.specs.Optimizer.{fold-by, fold, fold-expression, fold-each, fold-optional, fold-row, fold-part, fold-leaf, fold-over, fold-join, ConstantFolding, push-into, Optimizer, in-turn}
 use Rattle.sql.specs.Optimizer as Optimizer
 use Rattle.sql.specs.Room.{if-room, join-predicate, scan-filter, go-on}
@@ -242,19 +243,6 @@ module _ (room : ℕ) (schema : Schema) where
   unfolding Room.FilterPushdown
   pushdown-refused rest n = from-refused (node-size n) rest n
 
-  scan-refused : (og rest : ℕ) (l : Leaf) → Refused-by R (Room.index-lookup room schema og rest l)
-  unfolding Room.index-lookup
-  scan-refused og rest l =
-      let fits = Room.normal-forms-fit room schema (scan-filter l) in
-      refused-then R (if-room fits (leaf og l)) (λ k. Room.step room schema rest (Optimizer.index-lookup schema og l)) (room-refused fits (leaf og l))
-      (λ k. step-refused rest (Optimizer.index-lookup schema og l))
-
-  pub lookup-refused : (rest : ℕ) (n : Node) → Refused-by (λ k. k ≡ 14) (Room.IndexLookup room schema rest n)
-  unfolding Room.IndexLookup
-  lookup-refused rest (leaf og l) = scan-refused og rest l
-  lookup-refused rest (over og o s) = visited (Room.IndexLookup room schema) og rest o s (λ r. lookup-refused r s)
-  lookup-refused rest (join og outer j a b) = both-visited (Room.IndexLookup room schema) og rest outer j a b (λ r. lookup-refused r a) (λ r. lookup-refused r b)
-
   short-refused : (rest : ℕ) (n : Node) → Refused-by R (Room.short-circuit room schema rest n)
   unfolding Room.short-circuit
   short-refused rest n = step-refused rest (Optimizer.short-circuit schema n)
@@ -272,34 +260,48 @@ module _ (room : ℕ) (schema : Schema) where
       (λ l. refused-then R (Room.ShortCircuit room schema (rest + (node-size l + join-size j)) b) (λ r. Room.short-circuit room schema rest (join og outer j l r))
       (circuit-refused (rest + (node-size l + join-size j)) b) (λ r. short-refused rest (join og outer j l r)))
 
-  -- ---- one pass, and all five
+-- ---- one pass, and all five
 
-  abbrev Refuses : Optimizer → Type 0
-  Refuses f = (n : Node) → Refused-by (From-to 11 14) (f n)
+abbrev Refuses : Optimizer → Type 0
+Refuses f = (n : Node) → Refused-by (From-to 11 14) (f n)
 
-  for-room : (r : Answer Node) → Refused-by R r → Refused-by (From-to 11 14) r
-  for-room = refused-weaker R (From-to 11 14) (λ k h. (omega arith, omega arith))
+for-room : (r : Answer Node) → Refused-by R r → Refused-by (From-to 11 14) r
+for-room = refused-weaker R (From-to 11 14) (λ k h. (omega arith, omega arith))
 
-  all-refuse : All Refuses (Room.OPTIMIZERS room schema)
+in-turn-refused : (fs : List Optimizer) → All Refuses fs → Refuses (in-turn fs)
+in-turn-refused [] h n = tt
+in-turn-refused (f ∷ fs) h n = refused-then (From-to 11 14) (f n) (in-turn fs) (h .0 n) (in-turn-refused fs (h .1))
+
+module _ (mode : Mode) (room : ℕ) (schema : Schema) where
+  scan-refused : (og rest : ℕ) (l : Leaf) → Refused-by R (Room.index-lookup mode room schema og rest l)
+  unfolding Room.index-lookup
+  scan-refused og rest l =
+      let fits = Room.normal-forms-fit room schema (scan-filter l) in
+      refused-then R (if-room fits (leaf og l)) (λ k. Room.step room schema rest (Optimizer.index-lookup mode schema og l)) (room-refused fits (leaf og l))
+      (λ k. step-refused room schema rest (Optimizer.index-lookup mode schema og l))
+
+  pub lookup-refused : (rest : ℕ) (n : Node) → Refused-by (λ k. k ≡ 14) (Room.IndexLookup mode room schema rest n)
+  unfolding Room.IndexLookup
+  lookup-refused rest (leaf og l) = scan-refused og rest l
+  lookup-refused rest (over og o s) = visited room schema (Room.IndexLookup mode room schema) og rest o s (λ r. lookup-refused r s)
+  lookup-refused rest (join og outer j a b) = both-visited room schema (Room.IndexLookup mode room schema) og rest outer j a b (λ r. lookup-refused r a) (λ r. lookup-refused r b)
+
+  all-refuse : All Refuses (Room.OPTIMIZERS mode room schema)
   all-refuse = (
     λ n. refused-weaker F (From-to 11 14) (λ k h. let (p, q) = h in (p, omega arith)) (ConstantFolding 0 n) (folding-refused 0 n),
     (
-      λ n. for-room (Room.FilterPushdown room schema 0 n) (pushdown-refused 0 n),
+      λ n. for-room (Room.FilterPushdown room schema 0 n) (pushdown-refused room schema 0 n),
       (
-        λ n. for-room (Room.IndexLookup room schema 0 n) (lookup-refused 0 n),
-        (λ n. tt, (λ n. for-room (Room.ShortCircuit room schema 0 n) (circuit-refused 0 n), tt)),
+        λ n. for-room (Room.IndexLookup mode room schema 0 n) (lookup-refused 0 n),
+        (λ n. tt, (λ n. for-room (Room.ShortCircuit room schema 0 n) (circuit-refused room schema 0 n), tt)),
       ),
     ),
   )
 
   -- A pass that there is, 1 to 5, is refused by 11 to 14 only.
-  pub pass-refused : (k : ℕ) → 1 ≤ k → k ≤ 5 → (n : Node) → Refused-by (From-to 11 14) (Room.pass room schema k n)
+  pub pass-refused : (k : ℕ) → 1 ≤ k → k ≤ 5 → (n : Node) → Refused-by (From-to 11 14) (Room.pass mode room schema k n)
   pass-refused zero p q n = absurd (omega arith)
-  pass-refused (suc k) p q n = getD-within Refuses (Room.OPTIMIZERS room schema) k (λ m. refused 1 0) all-refuse (omega arith) n
+  pass-refused (suc k) p q n = getD-within Refuses (Room.OPTIMIZERS mode room schema) k (λ m. refused 1 0) all-refuse (omega arith) n
 
-  in-turn-refused : (fs : List Optimizer) → All Refuses fs → Refuses (in-turn fs)
-  in-turn-refused [] h n = tt
-  in-turn-refused (f ∷ fs) h n = refused-then (From-to 11 14) (f n) (in-turn fs) (h .0 n) (in-turn-refused fs (h .1))
-
-  pub optimize-refused : (n : Node) → Refused-by (From-to 11 14) (Room.optimize room schema n)
-  optimize-refused = in-turn-refused (Room.OPTIMIZERS room schema) all-refuse
+  pub optimize-refused : (n : Node) → Refused-by (From-to 11 14) (Room.optimize mode room schema n)
+  optimize-refused = in-turn-refused (Room.OPTIMIZERS mode room schema) all-refuse
