@@ -11,7 +11,11 @@ use Rattle.sql.specs.Expression.{Expression, constant, column, unary, bi
 pub data Mode : Type 0 where
   plain house : Mode
 
--- by its number
+-- Callers name it by its number.
+abbrev pub mode-number : Mode → ℕ
+mode-number plain = 0
+mode-number house = 1
+
 abbrev pub mode-of : ℕ → Option Mode
 mode-of zero = some plain
 mode-of (suc zero) = some house

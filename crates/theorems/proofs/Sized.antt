@@ -13,6 +13,7 @@ use Rattle.sql.specs.Schema.{Schema}
 use Rattle.sql.specs.Expression.{Expression, size, into-nnf, into-cnf}
 use Rattle.sql.specs.Plan.{Leaf, Over, filter, other, Join, Node, leaf, over, join, columns, over-size, join-size, node-size}
 use Rattle.sql.specs.Answer.{Answer, done, refused, _>>=_}
+use Rattle.sql.specs.Mode.{Mode}
 use Rattle.sql.specs.Optimizer.{fold-leaf, fold-over, fold-join, map-sources, push-into, hash-join, in-turn}
 use Rattle.sql.specs.Optimizer as Optimizer
 use Rattle.sql.specs.Room.{max-cells, if-room, join-predicate, scan-filter, go-on}
@@ -216,12 +217,6 @@ module _ (room : ℕ) (schema : Schema) where
       same-room (fit (Sizes.push-filters-from schema k rest n)) (fit (Sizes.FilterPushdown schema rest n)) (Optimizer.push-filters-from schema k n)
       (Optimizer.FilterPushdown schema n) (sym (from-sized k rest n) ∙ (pushdown-bound room schema k rest n (omega arith) ∙ pushdown-sized rest n))
 
-  -- ---- IndexLookup
-
-  leaf-sized : (og rest : ℕ) (l : Leaf) → Room.index-lookup room schema og rest l ≡ if-room (fit (normal-forms (scan-filter l) ++ step rest (Optimizer.index-lookup schema og l))) (Optimizer.index-lookup schema og l)
-  unfolding Room.index-lookup
-  leaf-sized og rest l = formed (scan-filter l) rest (leaf og l) (Optimizer.index-lookup schema og l)
-
   -- a visit that leaves the node as it is, and then those of its sources, which stay too
   stays : (rest : ℕ) (n : Node) → fit (step rest n ++ Sizes.each-source schema (λ (m : Node). m) step rest n) ≡ fit (step rest n)
   stays rest (leaf og l) = refl
@@ -235,35 +230,6 @@ module _ (room : ℕ) (schema : Schema) where
       let b = leb (rest + (node-size left + node-size right + join-size j)) room in
       ap (λ (c : ℕ). b && (leb c room && (leb (rest + (node-size left + join-size j) + node-size right) room && true))) e
       ∙ (ap (λ (c : ℕ). b && (b && (leb c room && true))) f ∙ (and-self-left b (b && true) ∙ and-self-left b true))
-
-  lookup-sized : (rest : ℕ) (n : Node) → rest + node-size n ≤ room
-      → Room.IndexLookup room schema rest n ≡ if-room (fit (Sizes.IndexLookup schema rest n)) (Optimizer.IndexLookup schema n)
-  unfolding Room.IndexLookup Optimizer.IndexLookup
-  lookup-sized rest (leaf og l) h =
-      let m = Optimizer.index-lookup schema og l in
-      let forms = normal-forms (scan-filter l) in
-      let visits = step rest m ++ Sizes.each-source schema (λ (n : Node). n) step rest m in
-      leaf-sized og rest l
-      ∙ ap (λ (t : Bool). if-room t m) (fit-append forms (step rest m) ∙ (ap (λ (t : Bool). fit forms && t) (sym (stays rest m)) ∙ sym (fit-append forms visits)))
-  lookup-sized rest (over og o source) h =
-      let sizes = Sizes.IndexLookup schema (rest + over-size o) source in
-      let m = over og o (Optimizer.IndexLookup schema source) in
-      over-sized og (Room.IndexLookup room schema (rest + over-size o)) (Optimizer.IndexLookup schema) sizes o source
-      (lookup-sized (rest + over-size o) source (omega arith))
-      ∙ ap (λ (t : Bool). if-room t m) (sym (left-out (step rest (over og o source)) sizes (step-fits rest (over og o source) h)))
-  lookup-sized rest (join og outer j left right) h =
-      let f = Room.IndexLookup room schema in
-      let g = Optimizer.IndexLookup schema in
-      let on-left = rest + (node-size right + join-size j) in
-      let on-right = rest + (node-size (g left) + join-size j) in
-      let sizes = Sizes.IndexLookup schema on-left left ++ Sizes.IndexLookup schema on-right right in
-      let on-the-left = lookup-sized on-left left (omega arith) in
-      both-sized og f g (Sizes.IndexLookup schema) rest outer j left right on-the-left
-      (λ e.
-      let p = lookup-fits room schema on-left left (g left) (on-the-left ∙ ap (λ (t : Bool). if-room t (g left)) e) (omega arith) in
-      lookup-sized on-right right (omega arith))
-      ∙ ap (λ (t : Bool). if-room t (join og outer j (g left) (g right)))
-      (sym (left-out (step rest (join og outer j left right)) sizes (step-fits rest (join og outer j left right) h)))
 
   -- ---- HashJoin
 
@@ -309,9 +275,45 @@ module _ (room : ℕ) (schema : Schema) where
       (ap (λ (a : Answer Node). a >>= last l) (circuit-sized on-right right)
       ∙ then-sized (Sizes.ShortCircuit schema on-right right) (step rest m) r m (last l) (circuit-step rest (join og outer j l r)))
 
+-- ---- IndexLookup
+
+module _ (mode : Mode) (room : ℕ) (schema : Schema) where
+  leaf-sized : (og rest : ℕ) (l : Leaf) → Room.index-lookup mode room schema og rest l ≡ if-room (fit room schema (normal-forms (scan-filter l) ++ step rest (Optimizer.index-lookup mode schema og l))) (Optimizer.index-lookup mode schema og l)
+  unfolding Room.index-lookup
+  leaf-sized og rest l = formed room schema (scan-filter l) rest (leaf og l) (Optimizer.index-lookup mode schema og l)
+
+  lookup-sized : (rest : ℕ) (n : Node) → rest + node-size n ≤ room
+      → Room.IndexLookup mode room schema rest n ≡ if-room (fit room schema (Sizes.IndexLookup mode schema rest n)) (Optimizer.IndexLookup mode schema n)
+  unfolding Room.IndexLookup Optimizer.IndexLookup
+  lookup-sized rest (leaf og l) h =
+      let m = Optimizer.index-lookup mode schema og l in
+      let forms = normal-forms (scan-filter l) in
+      let visits = step rest m ++ Sizes.each-source schema (λ (n : Node). n) step rest m in
+      leaf-sized og rest l
+      ∙ ap (λ (t : Bool). if-room t m) (fit-append room schema forms (step rest m) ∙ (ap (λ (t : Bool). fit room schema forms && t) (sym (stays room schema rest m)) ∙ sym (fit-append room schema forms visits)))
+  lookup-sized rest (over og o source) h =
+      let sizes = Sizes.IndexLookup mode schema (rest + over-size o) source in
+      let m = over og o (Optimizer.IndexLookup mode schema source) in
+      over-sized room schema og (Room.IndexLookup mode room schema (rest + over-size o)) (Optimizer.IndexLookup mode schema) sizes o source
+      (lookup-sized (rest + over-size o) source (omega arith))
+      ∙ ap (λ (t : Bool). if-room t m) (sym (left-out room schema (step rest (over og o source)) sizes (step-fits room schema rest (over og o source) h)))
+  lookup-sized rest (join og outer j left right) h =
+      let f = Room.IndexLookup mode room schema in
+      let g = Optimizer.IndexLookup mode schema in
+      let on-left = rest + (node-size right + join-size j) in
+      let on-right = rest + (node-size (g left) + join-size j) in
+      let sizes = Sizes.IndexLookup mode schema on-left left ++ Sizes.IndexLookup mode schema on-right right in
+      let on-the-left = lookup-sized on-left left (omega arith) in
+      both-sized room schema og f g (Sizes.IndexLookup mode schema) rest outer j left right on-the-left
+      (λ e.
+      let p = lookup-fits mode room schema on-left left (g left) (on-the-left ∙ ap (λ (t : Bool). if-room t (g left)) e) (omega arith) in
+      lookup-sized on-right right (omega arith))
+      ∙ ap (λ (t : Bool). if-room t (join og outer j (g left) (g right)))
+      (sym (left-out room schema (step rest (join og outer j left right)) sizes (step-fits room schema rest (join og outer j left right) h)))
+
 -- ---- one pass, and all five
 
-module _ (schema : Schema) where
+module _ (mode : Mode) (schema : Schema) where
   roomy : (sizes : List ℕ) (m : Node) → if-room (fit max-cells schema sizes) m ≡ with-room sizes (done m)
   roomy sizes m = go (fit max-cells schema sizes)
     where
@@ -323,11 +325,11 @@ module _ (schema : Schema) where
   all-fit : (sizes : List ℕ) (r : Answer Node) → fit max-cells schema sizes ≡ true → r ≡ with-room sizes r
   all-fit sizes r h = sym (ap (λ (t : Bool). cond t r (refused 14 0)) h)
 
-  pub pass-sized : (k : ℕ) (n : Node) → node-size n ≤ max-cells → Room.pass max-cells schema k n ≡ with-room (Sizes.pass schema k n) (Optimizer.pass schema k n)
+  pub pass-sized : (k : ℕ) (n : Node) → node-size n ≤ max-cells → Room.pass mode max-cells schema k n ≡ with-room (Sizes.pass mode schema k n) (Optimizer.pass mode schema k n)
   pass-sized zero n h = refl
   pass-sized (suc zero) n h = all-fit (Sizes.ConstantFolding 0 0 n) (Optimizer.ConstantFolding 0 n) (folding-fits max-cells schema 0 0 n (omega arith))
   pass-sized (suc (suc zero)) n h = pushdown-sized max-cells schema 0 n ∙ roomy (Sizes.FilterPushdown schema 0 n) _
-  pass-sized (suc (suc (suc zero))) n h = lookup-sized max-cells schema 0 n (omega arith) ∙ roomy (Sizes.IndexLookup schema 0 n) _
+  pass-sized (suc (suc (suc zero))) n h = lookup-sized mode max-cells schema 0 n (omega arith) ∙ roomy (Sizes.IndexLookup mode schema 0 n) _
   pass-sized (suc (suc (suc (suc zero)))) n h =
       all-fit (Sizes.HashJoin schema 0 n) (done (Optimizer.HashJoin schema n)) (hash-fits max-cells schema 0 n (omega arith))
   pass-sized (suc (suc (suc (suc (suc zero))))) n h = circuit-sized max-cells schema 0 n ∙ roomy (Sizes.ShortCircuit schema 0 n) _
@@ -338,15 +340,15 @@ module _ (schema : Schema) where
   from-hash = in-turn ((λ n. done (Optimizer.HashJoin schema n)) ∷ Room.ShortCircuit max-cells schema 0 ∷ [])
 
   abbrev from-lookup : Node → Answer Node
-  from-lookup = in-turn (Room.IndexLookup max-cells schema 0 ∷ (λ n. done (Optimizer.HashJoin schema n)) ∷ Room.ShortCircuit max-cells schema 0 ∷ [])
+  from-lookup = in-turn (Room.IndexLookup mode max-cells schema 0 ∷ (λ n. done (Optimizer.HashJoin schema n)) ∷ Room.ShortCircuit max-cells schema 0 ∷ [])
 
   abbrev from-pushdown : Node → Answer Node
   from-pushdown =
-      in-turn (Room.FilterPushdown max-cells schema 0 ∷ Room.IndexLookup max-cells schema 0 ∷ (λ n. done (Optimizer.HashJoin schema n)) ∷ Room.ShortCircuit max-cells schema 0 ∷ [])
+      in-turn (Room.FilterPushdown max-cells schema 0 ∷ Room.IndexLookup mode max-cells schema 0 ∷ (λ n. done (Optimizer.HashJoin schema n)) ∷ Room.ShortCircuit max-cells schema 0 ∷ [])
 
   abbrev plain-from-pushdown : Node → Answer Node
   plain-from-pushdown =
-      in-turn ((λ n. done (Optimizer.FilterPushdown schema n)) ∷ (λ n. done (Optimizer.IndexLookup schema n)) ∷ (λ n. done (Optimizer.HashJoin schema n))
+      in-turn ((λ n. done (Optimizer.FilterPushdown schema n)) ∷ (λ n. done (Optimizer.IndexLookup mode schema n)) ∷ (λ n. done (Optimizer.HashJoin schema n))
       ∷ (λ n. done (Optimizer.ShortCircuit schema n)) ∷ [])
 
   hash-sized : (n : Node) → node-size n ≤ max-cells → let h = Optimizer.HashJoin schema n in
@@ -359,36 +361,36 @@ module _ (schema : Schema) where
       ∙ (made max-cells schema (fit max-cells schema sizes) m (λ z. z)
       ∙ ap (λ (t : Bool). if-room t m) (sym (left-out max-cells schema (Sizes.HashJoin schema 0 n) sizes (hash-fits max-cells schema 0 n (omega arith)))))
 
-  lookups-sized : (n : Node) → node-size n ≤ max-cells → let i = Optimizer.IndexLookup schema n in let h = Optimizer.HashJoin schema i in
+  lookups-sized : (n : Node) → node-size n ≤ max-cells → let i = Optimizer.IndexLookup mode schema n in let h = Optimizer.HashJoin schema i in
       from-lookup n
-      ≡ if-room (fit max-cells schema (Sizes.IndexLookup schema 0 n ++ (Sizes.HashJoin schema 0 i ++ Sizes.ShortCircuit schema 0 h))) (Optimizer.ShortCircuit schema h)
+      ≡ if-room (fit max-cells schema (Sizes.IndexLookup mode schema 0 n ++ (Sizes.HashJoin schema 0 i ++ Sizes.ShortCircuit schema 0 h))) (Optimizer.ShortCircuit schema h)
   lookups-sized n fits =
-      let i = Optimizer.IndexLookup schema n in
+      let i = Optimizer.IndexLookup mode schema n in
       let h = Optimizer.HashJoin schema i in
-      let sized = lookup-sized max-cells schema 0 n (omega arith) in
+      let sized = lookup-sized mode max-cells schema 0 n (omega arith) in
       ap (λ (r : Answer Node). r >>= from-hash) sized
-      ∙ then-if-fit max-cells schema (Sizes.IndexLookup schema 0 n) (Sizes.HashJoin schema 0 i ++ Sizes.ShortCircuit schema 0 h) i (Optimizer.ShortCircuit schema h) from-hash
-      (λ e. let p = lookup-fits max-cells schema 0 n i (sized ∙ ap (λ (t : Bool). if-room t i) e) (omega arith) in hash-sized i (omega arith))
+      ∙ then-if-fit max-cells schema (Sizes.IndexLookup mode schema 0 n) (Sizes.HashJoin schema 0 i ++ Sizes.ShortCircuit schema 0 h) i (Optimizer.ShortCircuit schema h) from-hash
+      (λ e. let p = lookup-fits mode max-cells schema 0 n i (sized ∙ ap (λ (t : Bool). if-room t i) e) (omega arith) in hash-sized i (omega arith))
 
   folded-sized : (r : Answer Node) → ((n : Node) → r ≡ done n → node-size n ≤ max-cells)
-      → (r >>= from-pushdown) ≡ with-room (if-done r (Sizes.after-folding schema)) (r >>= plain-from-pushdown)
+      → (r >>= from-pushdown) ≡ with-room (if-done r (Sizes.after-folding mode schema)) (r >>= plain-from-pushdown)
   folded-sized (refused number place) fits = refl
   folded-sized (done n) fits =
       let p = Optimizer.FilterPushdown schema n in
-      let i = Optimizer.IndexLookup schema p in
+      let i = Optimizer.IndexLookup mode schema p in
       let h = Optimizer.HashJoin schema i in
       let sized = pushdown-sized max-cells schema 0 n in
       let small = fits n refl in
       ap (λ (r : Answer Node). r >>= from-lookup) sized
-      ∙ (then-if-fit max-cells schema (Sizes.FilterPushdown schema 0 n) (Sizes.IndexLookup schema 0 p ++ (Sizes.HashJoin schema 0 i ++ Sizes.ShortCircuit schema 0 h)) p
+      ∙ (then-if-fit max-cells schema (Sizes.FilterPushdown schema 0 n) (Sizes.IndexLookup mode schema 0 p ++ (Sizes.HashJoin schema 0 i ++ Sizes.ShortCircuit schema 0 h)) p
       (Optimizer.ShortCircuit schema h) from-lookup
       (λ e. let q = pushdown-fits max-cells schema 0 n p (sized ∙ ap (λ (t : Bool). if-room t p) e) (omega arith) in lookups-sized p (omega arith))
-      ∙ roomy (Sizes.after-folding schema n) (Optimizer.ShortCircuit schema h))
+      ∙ roomy (Sizes.after-folding mode schema n) (Optimizer.ShortCircuit schema h))
 
-  pub optimize-sized : (n : Node) → node-size n ≤ max-cells → Room.optimize max-cells schema n ≡ with-room (Sizes.optimize schema n) (Optimizer.optimize schema n)
+  pub optimize-sized : (n : Node) → node-size n ≤ max-cells → Room.optimize mode max-cells schema n ≡ with-room (Sizes.optimize mode schema n) (Optimizer.optimize mode schema n)
   optimize-sized n h =
       let r = Optimizer.ConstantFolding 0 n in
-      let later = if-done r (Sizes.after-folding schema) in
+      let later = if-done r (Sizes.after-folding mode schema) in
       folded-sized r (λ m e. let s = folding-smaller 0 n m e in omega arith)
-      ∙ ap (λ (t : Bool). cond t (Optimizer.optimize schema n) (refused 14 0))
+      ∙ ap (λ (t : Bool). cond t (Optimizer.optimize mode schema n) (refused 14 0))
       (sym (left-out max-cells schema (Sizes.ConstantFolding 0 0 n) later (folding-fits max-cells schema 0 0 n (omega arith))))

@@ -12,6 +12,7 @@ use Rattle.value.specs.Arithmetic.{checked, subtract-integers, multiply-integer
 use Rattle.sql.specs.Expression.{Expression, constant, unary, binary, function, Subtract, Multiply, SquareRoot, into-cnf, into-cnf-vec}
 use Rattle.sql.specs.Plan.{by-key, scan, lookup, filter, Node, leaf, over}
 use Rattle.sql.specs.Answer.{Answer, done, refused}
+use Rattle.sql.specs.Mode.{plain}
 use Rattle.sql.specs.Optimizer
 use Rattle.sql.specs.Room
 use Rattle.sql.specs.Room.{max-cells}
@@ -104,6 +105,6 @@ plans =
     ∷ (given (plus (number 1) (root (whole (negsuc 0)))), refused 13 2)
     ∷ []
 
-plans-answered : map (λ e. Room.optimize max-cells keyed (e .0)) plans ≡ map (λ e. e .1) plans
+plans-answered : map (λ e. Room.optimize plain max-cells keyed (e .0)) plans ≡ map (λ e. e .1) plans
 unfolding plans into-cnf into-cnf-vec Optimizer.maybe-push-join Optimizer.index-lookup Room.maybe-push-join Room.maybe-push-filter Room.push-filters-from Room.FilterPushdown Room.index-lookup Room.IndexLookup Room.short-circuit Room.ShortCircuit checked subtract-integers multiply-integers Ieee.ofInt Ieee.toBits Ieee754.read Ieee754.units Ieee754.root-bits
 plans-answered = refl

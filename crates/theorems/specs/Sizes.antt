@@ -1,7 +1,7 @@
 -- Refusal 14, as document 01 says it: "Room is refused if and only if the plan after some step, or a result of into_nnf or into_cnf, has over 2,048 cells,
 -- where a step is one visit of one node, one merge of a Filter into what is below, or one split of a join predicate."
 --
--- Here are those sizes, each of them, in the order in which they come up. The passes are the Rust's, which know no limit (crate sql, Optimizer.antt), and each
+-- Here are those sizes, each of them, in the order in which they come up, in either mode. The passes know no limit (crate sql, Optimizer.antt), and each
 -- function here has the name of the one whose steps it lists. The size that counts is that of the whole plan, so each takes `rest`, the number of the plan's
 -- cells that lie outside the node at that moment: the left source is visited with the right one outside it, the right source with what the left one has become.
 -- All passes but ShortCircuit visit a node before its sources.
@@ -13,6 +13,7 @@ use Rattle.sql.specs.Schema.{Schema}
 use Rattle.sql.specs.Expression.{Expression, size, into-nnf, into-cnf}
 use Rattle.sql.specs.Plan.{filter, other, Node, leaf, over, join, columns, over-size, join-size, node-size}
 use Rattle.sql.specs.Answer.{Answer, done, refused}
+use Rattle.sql.specs.Mode.{Mode}
 use Rattle.sql.specs.Optimizer.{fold-leaf, fold-over, fold-join, push-into, hash-join}
 use Rattle.sql.specs.Optimizer
 use Rattle.sql.specs.Room.{join-predicate, scan-filter}
@@ -85,21 +86,23 @@ module _ (schema : Schema) where
   abbrev pub FilterPushdown : (rest : ℕ) → Node → List ℕ
   FilterPushdown rest node = push-filters-from (node-size node) rest node
 
-  -- ======== IndexLookup
+-- ======== IndexLookup
 
+module _ (mode : Mode) (schema : Schema) where
   -- A Scan that becomes a Filter over a lookup: the lookup is visited too, and stays.
   abbrev pub IndexLookup : (rest : ℕ) → Node → List ℕ
   IndexLookup rest (leaf og l) =
-      let found = Optimizer.index-lookup schema og l in
-      normal-forms (scan-filter l) ++ (step rest found ++ each-source (λ lookup. lookup) step rest found)
+      let found = Optimizer.index-lookup mode schema og l in
+      normal-forms (scan-filter l) ++ (step rest found ++ each-source schema (λ lookup. lookup) step rest found)
   IndexLookup rest (over og o source) = step rest (over og o source) ++ IndexLookup (rest + over-size o) source
   IndexLookup rest (join og outer j left right) =
       step rest (join og outer j left right)
       ++ (IndexLookup (rest + (node-size right + join-size j)) left
-      ++ IndexLookup (rest + (node-size (Optimizer.IndexLookup schema left) + join-size j)) right)
+      ++ IndexLookup (rest + (node-size (Optimizer.IndexLookup mode schema left) + join-size j)) right)
 
-  -- ======== HashJoin
+-- ======== HashJoin
 
+module _ (schema : Schema) where
   abbrev pub HashJoin : (rest : ℕ) → Node → List ℕ
   HashJoin rest (leaf og l) = step rest (leaf og l)
   HashJoin rest (over og o source) = step rest (over og o source) ++ HashJoin (rest + over-size o) source
@@ -119,19 +122,20 @@ module _ (schema : Schema) where
       ++ (ShortCircuit (rest + (node-size (Optimizer.ShortCircuit schema left) + join-size j)) right
       ++ step rest (Optimizer.ShortCircuit schema (join og outer j left right)))
 
-  -- ======== One pass by its number, and all five.
+-- ======== One pass by its number, and all five.
 
+module _ (mode : Mode) (schema : Schema) where
   abbrev pub pass : ℕ → Node → List ℕ
   pass zero node = []
-  pass (suc k) node = getD (ConstantFolding 0 0 ∷ FilterPushdown 0 ∷ IndexLookup 0 ∷ HashJoin 0 ∷ ShortCircuit 0 ∷ []) k (λ n. []) node
+  pass (suc k) node = getD (ConstantFolding 0 0 ∷ FilterPushdown schema 0 ∷ IndexLookup mode schema 0 ∷ HashJoin schema 0 ∷ ShortCircuit schema 0 ∷ []) k (λ n. []) node
 
   -- of the plan that ConstantFolding gives, in the four passes after it
   abbrev pub after-folding : Node → List ℕ
   after-folding folded =
       let pushed = Optimizer.FilterPushdown schema folded in
-      let looked-up = Optimizer.IndexLookup schema pushed in
+      let looked-up = Optimizer.IndexLookup mode schema pushed in
       let hashed = Optimizer.HashJoin schema looked-up in
-      FilterPushdown 0 folded ++ (IndexLookup 0 pushed ++ (HashJoin 0 looked-up ++ ShortCircuit 0 hashed))
+      FilterPushdown schema 0 folded ++ (IndexLookup mode schema 0 pushed ++ (HashJoin schema 0 looked-up ++ ShortCircuit schema 0 hashed))
 
   abbrev pub optimize : Node → List ℕ
   optimize node = ConstantFolding 0 0 node ++ if-done (Optimizer.ConstantFolding 0 node) after-folding
