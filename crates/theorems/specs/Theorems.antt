@@ -25,7 +25,7 @@ use Rattle.sql.specs.Schema.{Schema}
 use Rattle.sql.specs.Expression.{Row}
 use Rattle.sql.specs.Plan.{Node, columns, node-size}
 use Rattle.sql.specs.Answer.{Answer, done, refused, _>>=_}
-use Rattle.sql.specs.Mode.{Mode, mode-number}
+use Rattle.sql.specs.Mode.{Mode, plain, mode-number}
 use Rattle.sql.specs.Optimizer.{ConstantFolding, pass, optimize}
 use Rattle.sql.specs.Room.{max-cells}
 use Rattle.literal.specs.Law.{Pass-literal, Five-literal}
