@@ -21,6 +21,11 @@ mode-of zero = some plain
 mode-of (suc zero) = some house
 mode-of (suc (suc n)) = none
 
+-- The code has it as a flag.
+abbrev pub by-flag : (in-house : Bool) → Mode
+by-flag false = plain
+by-flag true = house
+
 -- ======== Pass 3
 
 abbrev pub truth-of-kind : Kind → Truth → Bool

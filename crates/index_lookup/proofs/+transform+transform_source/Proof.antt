@@ -2,6 +2,7 @@ use Rattle.index_lookup.proofs.Below.{stream-stands, chain-at, below-in
 use Rattle.index_lookup.proofs.Walk.{no-source, one-cell-copied, one-stop, one-go, left-refused, right-refused, two-go}
 use Rattle.stream.proofs.Streams.{stream-node, stream-in}
 use Rattle.stream.proofs.Sources.{two-left, own-in, source-at, right-sized, mid-in, left-at, right-at}
+use Rattle.sql.specs.Mode.{by-flag}
 use Rattle.sql.specs.Room.{IndexLookup}
 use Rattle.records.specs.Records.{Records}
 use Prim.Native.Nat.{ℕ, _+_, _-_, _*_, _<_}
@@ -151,7 +152,7 @@ transform-returns-4 : (t : ℕ) → transform-lts.Need-returns-4 (transform-clai
 transform-returns-4 t c = chain-stop (c .before .before .before .before .before .before .before .before .before .before .before .before .before .before .before .before .descend .ensures) (left-refused (c .before .before .before .before .before .before .before .before .before .before .before .before .before .before .before .before .before .before .before .before .before .before .before .args .tables .now) (c .before .before .before .before .before .before .before .before .before .before .before .before .before .before .before .before .before .before .before .before .before .before .before .args .columns .now) (c .before .before .before .before .before .before .before .before .before .before .before .before .before .before .before .source-count .ensures) (c .before .before .before .before .before .before .before .before .before .before .before .before .before .own-start .ensures) (two-left (below-at (c .before .before .before .before .before .before .before .before .before .before .before .before .before .before .before .before .descend .ensures) (c .before .before .before .before .before .before .before .before .before .before .before .before .before .before .before .before .before .before .before .before .before .before .before .pre .1 .0)) (c .before .before .before .before .before .before .before .before .before .before .before .before .before .before .before .source-count .ensures) (c .before .before .before .before .before .before .before .before .before .before .before .before .before .before .if1 .left) (c .before .before .before .before .before .before .before .before .before .before .before .before .if2 .left)) (c .before .before .before .before .before .before .before .before .before .before .before .start .ensures) (c .before .before .before .before .before .before .before .transform-source2 .ensures) (c .if4 .taken)) (c .if4 .taken)
 
 transform-transform-source-requires-3 : (t : ℕ) → transform-lts.Need-transform-source-requires-3 (transform-claims t) (transform-at t) transform.Post
-transform-transform-source-requires-3 t c κs = let (f, (h, k)) = own-in (below-at (c .before .before .before .before .before .before .before .before .before .before .before .before .before .before .before .before .before .before .before .descend .ensures) (c .before .before .before .before .before .before .before .before .before .before .before .before .before .before .before .before .before .before .before .before .before .before .before .before .before .before .pre .1 .0)) (c .before .before .before .before .before .before .before .before .before .before .before .before .before .before .before .before .own-start .ensures) in let two = two-left (below-at (c .before .before .before .before .before .before .before .before .before .before .before .before .before .before .before .before .before .before .before .descend .ensures) (c .before .before .before .before .before .before .before .before .before .before .before .before .before .before .before .before .before .before .before .before .before .before .before .before .before .before .pre .1 .0)) (c .before .before .before .before .before .before .before .before .before .before .before .before .before .before .before .before .before .before .source-count .ensures) (c .before .before .before .before .before .before .before .before .before .before .before .before .before .before .before .before .before .if1 .left) (c .before .before .before .before .before .before .before .before .before .before .before .before .before .before .before .if2 .left) in let (p, (q, r)) = mid-in (c .before .before .before .before .before .before .before .before .before .before .before .before .before .before .before .before .before .before .source-count .ensures) two (c .before .before .before .before .before .before .before .before .before .before .before .before .before .before .before .before .own-start .ensures) (c .before .before .before .before .before .before .before .before .before .before .before .before .before .before .start .ensures) (below-at (c .before .before .before .before .before .before .before .before .before .before .before .before .before .before .before .before .before .before .before .descend .ensures) (c .before .before .before .before .before .before .before .before .before .before .before .before .before .before .before .before .before .before .before .before .before .before .before .before .before .before .pre .1 .0)) in (omega (arith, c .before .before .before .before .before .before .before .before .before .before .before .before .before .before .before .before .before .before .before .before .before .before .before .before .before .before .pre .0, below-in (c .before .before .before .before .before .before .before .before .before .before .before .before .before .before .before .before .before .before .before .descend .ensures) (c .before .before .before .before .before .before .before .before .before .before .before .before .before .before .before .before .before .before .before .before .before .before .before .before .before .before .pre .1 .0)), (right-at {Lent = Records (c .before .before .before .before .before .before .before .before .before .before .before .before .before .before .before .before .before .before .before .before .before .before .before .before .before .before .args .tables .now) (c .before .before .before .before .before .before .before .before .before .before .before .before .before .before .before .before .before .before .before .before .before .before .before .before .before .before .args .columns .now)} (c .before .before .before .before .before .before .before .before .before .before .before .before .before .before .before .before .before .before .source-count .ensures) two (c .before .before .before .before .before .before .before .before .before .before .before .before .before .before .before .before .own-start .ensures) (c .before .before .before .before .before .before .before .before .before .before .before .before .before .before .start .ensures) IndexLookup (c .before .before .before .before .before .before .before .before .before .before .transform-source2 .ensures) (c .before .before .before .before .before .before .before .before .before .before .transform-source2 .kept .1 .1 .1 .1 .0) (c .before .before .before .if4 .left) (below-at (c .before .before .before .before .before .before .before .before .before .before .before .before .before .before .before .before .before .before .before .descend .ensures) (c .before .before .before .before .before .before .before .before .before .before .before .before .before .before .before .before .before .before .before .before .before .before .before .before .before .before .pre .1 .0)), (c .before .before .before .before .before .before .before .before .before .before .transform-source2 .kept .1 .1 .1 .1 .1 .1 .0 ∙ (c .before .before .before .before .before .before .before .before .before .before .before .before .before .before .before .before .before .before .before .before .before .before .before .before .before .before .pre .1 .1 .0 ∙ sym (c .before .before .before .before .before .before .before .before .before .before .transform-source2 .kept .1 .1 .1 .1 .0)), c .before .before .before .before .before .before .before .before .before .before .transform-source2 .kept .1 .1 .1 .1 .1 .1 .1 .0 ∙ (c .before .before .before .before .before .before .before .before .before .before .before .before .before .before .before .before .before .before .before .before .before .before .before .before .before .before .pre .1 .1 .1 ∙ sym (c .before .before .before .before .before .before .before .before .before .before .transform-source2 .kept .1 .1 .1 .1 .0)))))
+transform-transform-source-requires-3 t c κs = let (f, (h, k)) = own-in (below-at (c .before .before .before .before .before .before .before .before .before .before .before .before .before .before .before .before .before .before .before .descend .ensures) (c .before .before .before .before .before .before .before .before .before .before .before .before .before .before .before .before .before .before .before .before .before .before .before .before .before .before .pre .1 .0)) (c .before .before .before .before .before .before .before .before .before .before .before .before .before .before .before .before .own-start .ensures) in let two = two-left (below-at (c .before .before .before .before .before .before .before .before .before .before .before .before .before .before .before .before .before .before .before .descend .ensures) (c .before .before .before .before .before .before .before .before .before .before .before .before .before .before .before .before .before .before .before .before .before .before .before .before .before .before .pre .1 .0)) (c .before .before .before .before .before .before .before .before .before .before .before .before .before .before .before .before .before .before .source-count .ensures) (c .before .before .before .before .before .before .before .before .before .before .before .before .before .before .before .before .before .if1 .left) (c .before .before .before .before .before .before .before .before .before .before .before .before .before .before .before .if2 .left) in let (p, (q, r)) = mid-in (c .before .before .before .before .before .before .before .before .before .before .before .before .before .before .before .before .before .before .source-count .ensures) two (c .before .before .before .before .before .before .before .before .before .before .before .before .before .before .before .before .own-start .ensures) (c .before .before .before .before .before .before .before .before .before .before .before .before .before .before .start .ensures) (below-at (c .before .before .before .before .before .before .before .before .before .before .before .before .before .before .before .before .before .before .before .descend .ensures) (c .before .before .before .before .before .before .before .before .before .before .before .before .before .before .before .before .before .before .before .before .before .before .before .before .before .before .pre .1 .0)) in (omega (arith, c .before .before .before .before .before .before .before .before .before .before .before .before .before .before .before .before .before .before .before .before .before .before .before .before .before .before .pre .0, below-in (c .before .before .before .before .before .before .before .before .before .before .before .before .before .before .before .before .before .before .before .descend .ensures) (c .before .before .before .before .before .before .before .before .before .before .before .before .before .before .before .before .before .before .before .before .before .before .before .before .before .before .pre .1 .0)), (right-at {Lent = Records (c .before .before .before .before .before .before .before .before .before .before .before .before .before .before .before .before .before .before .before .before .before .before .before .before .before .before .args .tables .now) (c .before .before .before .before .before .before .before .before .before .before .before .before .before .before .before .before .before .before .before .before .before .before .before .before .before .before .args .columns .now)} (c .before .before .before .before .before .before .before .before .before .before .before .before .before .before .before .before .before .before .source-count .ensures) two (c .before .before .before .before .before .before .before .before .before .before .before .before .before .before .before .before .own-start .ensures) (c .before .before .before .before .before .before .before .before .before .before .before .before .before .before .start .ensures) (IndexLookup (by-flag (c .before .before .before .before .before .before .before .before .before .before .before .before .before .before .before .before .before .before .before .before .before .before .before .before .before .before .args .house))) (c .before .before .before .before .before .before .before .before .before .before .transform-source2 .ensures) (c .before .before .before .before .before .before .before .before .before .before .transform-source2 .kept .1 .1 .1 .1 .0) (c .before .before .before .if4 .left) (below-at (c .before .before .before .before .before .before .before .before .before .before .before .before .before .before .before .before .before .before .before .descend .ensures) (c .before .before .before .before .before .before .before .before .before .before .before .before .before .before .before .before .before .before .before .before .before .before .before .before .before .before .pre .1 .0)), (c .before .before .before .before .before .before .before .before .before .before .transform-source2 .kept .1 .1 .1 .1 .1 .1 .0 ∙ (c .before .before .before .before .before .before .before .before .before .before .before .before .before .before .before .before .before .before .before .before .before .before .before .before .before .before .pre .1 .1 .0 ∙ sym (c .before .before .before .before .before .before .before .before .before .before .transform-source2 .kept .1 .1 .1 .1 .0)), c .before .before .before .before .before .before .before .before .before .before .transform-source2 .kept .1 .1 .1 .1 .1 .1 .1 .0 ∙ (c .before .before .before .before .before .before .before .before .before .before .before .before .before .before .before .before .before .before .before .before .before .before .before .before .before .before .pre .1 .1 .1 ∙ sym (c .before .before .before .before .before .before .before .before .before .before .transform-source2 .kept .1 .1 .1 .1 .0)))))
 
 transform-same-length-13 : (t : ℕ) → transform-lts.Need-same-length-13 (transform-claims t) (transform-at t) transform.Post
 transform-same-length-13 t c = c .before .before .before .before .before .before .before .transform-source3 .kept .1 .1 .1 .1 .0 ∙ c .before .before .before .before .before .before .before .before .before .before .before .before .before .before .before .before .before .before .transform-source2 .kept .1 .1 .1 .1 .0
