@@ -161,7 +161,19 @@ pub fn remaining(
         let end = hi - cells::CELL_WORDS;
         let mid = cells::start(s, end);
         let l = remaining(s, lo, mid, d, from, at, key, columns, house, met, origin);
-        return remaining(s, mid, end, d, from, l.at, key, columns, house, l.met, origin);
+        return remaining(
+            s,
+            mid,
+            end,
+            d,
+            from,
+            l.at,
+            key,
+            columns,
+            house,
+            l.met,
+            origin,
+        );
     }
     remaining_one(s, lo, hi, d, from, at, key, columns, house, met, origin)
 }
