@@ -27,8 +27,11 @@ use Rattle.column_lookup.proofs.Values.{halves, nan-is}
 
 -- ---- one cell
 
-pub cell-suits : (t : ℕ) {k : Cell} {b : Bool} → b ≡ is-defined k → {r : Bool} → cond b (eqb (k .tag) t) true ≡ r → r ≡ suits-cell t k
-cell-suits t {k} e z = sym z ∙ ap (λ (x : Bool). cond x (eqb (k .tag) t) true) e
+pub cell-defined : (t : ℕ) (k : Cell) {b : Bool} → b ≡ is-defined k → b ≡ true → eqb (k .tag) t ≡ suits-cell t k
+cell-defined t k e z = ap (λ (x : Bool). cond x (eqb (k .tag) t) true) (sym z ∙ e)
+
+pub cell-undefined : (t : ℕ) (k : Cell) {b : Bool} → b ≡ is-defined k → b ≡ false → true ≡ suits-cell t k
+cell-undefined t k e z = ap (λ (x : Bool). cond x (eqb (k .tag) t) true) (sym z ∙ e)
 
 module _ (t : ℕ) where
   or-number : (nan : Bool) → cond (not nan) (eqb 4 t) true ≡ (nan || eqb 4 t)
