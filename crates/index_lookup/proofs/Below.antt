@@ -75,7 +75,7 @@ module _ {x : List ℕ} {n lo hi left end : ℕ} (d : GoesDown x n lo hi left en
       })
       (g .p) (g .reading)
 
-  module _ {mode : Mode} {Lent : Schema → Type 0} {tail : ℕ} {y : List ℕ} {at u : ℕ} {y₁ : List ℕ} (a : Streams Lent (IndexLookup mode) x lo end (tail + (hi - end)) y at u y₁) where
+  module _ (mode : Mode) {Lent : Schema → Type 0} {tail : ℕ} {y : List ℕ} {at u : ℕ} {y₁ : List ℕ} (a : Streams Lent (IndexLookup mode) x lo end (tail + (hi - end)) y at u y₁) where
     -- the node below is refused
     pub chain-stop : length y₁ < u → Streams Lent (IndexLookup mode) x lo hi tail y at u y₁
     chain-stop z schema text tables lent room rest p h =

@@ -43,7 +43,7 @@ unfolding IndexLookup after-sources
 join-shape mode room schema rest og outer j l r = refl
 
 module _ (records columns : List ℕ) {x : List ℕ} {lo hi tail g m : ℕ} {y : List ℕ} {at : ℕ} (c : SourceCount x lo hi g) (own : OwnStart x lo hi m) where
-  module _ (one : g ≡ 1) {mode : Mode} {u : ℕ} {y₁ : List ℕ} (a : Streams (Records records columns) (IndexLookup mode) x lo m (tail + (hi - m)) y at u y₁) where
+  module _ (one : g ≡ 1) (mode : Mode) {u : ℕ} {y₁ : List ℕ} (a : Streams (Records records columns) (IndexLookup mode) x lo m (tail + (hi - m)) y at u y₁) where
     pub one-stop : length y₁ < u → Streams (Records records columns) (IndexLookup mode) x lo hi tail y at u y₁
     one-stop z = source-stop c one own (IndexLookup mode) (IndexLookup mode) after-source (over-shape mode) a z
 
@@ -54,7 +54,7 @@ module _ (records columns : List ℕ) {x : List ℕ} {lo hi tail g m : ℕ} {y :
         source-go c one own (IndexLookup mode) (IndexLookup mode) after-source (over-shape mode) a z
         (λ schema text tables lent room rest og o n h q s. over-done own og o n h k₁ q s k₂ f)
 
-  module _ (two : g ≡ 2) {mid : ℕ} (st : mid ≡ start-at x m) {mode : Mode} {u : ℕ} {y₁ : List ℕ}
+  module _ (two : g ≡ 2) {mid : ℕ} (st : mid ≡ start-at x m) (mode : Mode) {u : ℕ} {y₁ : List ℕ}
       (a : Streams (Records records columns) (IndexLookup mode) x lo mid (tail + (hi - mid)) y at u y₁) where
     pub left-refused : length y₁ < u → Streams (Records records columns) (IndexLookup mode) x lo hi tail y at u y₁
     left-refused z = left-stop c two own st (IndexLookup mode) a (IndexLookup mode) after-sources (join-shape mode) z
@@ -83,6 +83,6 @@ no-filter e og (lookup a t al vs) u = refl
 no-filter e og (nothing ls) u = refl
 no-filter e og (values rs) u = refl
 
-pub one-cell-copied : {mode : Mode} {records columns : List ℕ} {x : List ℕ} {lo hi tail : ℕ} {y : List ℕ} {at : ℕ} → hi - lo ≡ cell-words → {r : ℕ} {y′ : List ℕ} → length y′ ≡ length y
+pub one-cell-copied : (mode : Mode) {records columns : List ℕ} {x : List ℕ} {lo hi tail : ℕ} {y : List ℕ} {at : ℕ} → hi - lo ≡ cell-words → {r : ℕ} {y′ : List ℕ} → length y′ ≡ length y
     → Copies x lo hi y at r y′ → Streams (Records records columns) (IndexLookup mode) x lo hi tail y at r y′
-one-cell-copied e k v = leaf-copied (no-filter e) (one-cell e) refl k v
+one-cell-copied mode e k v = leaf-copied (no-filter e) (one-cell e) mode refl k v

@@ -149,9 +149,9 @@ module _ (mode : Mode) (room : ℕ) (schema : Schema) (rest : ℕ) where
 module _ {x : List ℕ} {lo hi : ℕ} {b : Bool} (f : HasFilter x lo hi b) (c : SourceCount x lo hi 0) where
   module _ {records columns : List ℕ} {tail : ℕ} {y : List ℕ} {at : ℕ} where
     -- a leaf without a filter
-    pub leaf-copied : {mode : Mode} → b ≡ false → {r : ℕ} {y′ : List ℕ} → length y′ ≡ length y → Copies x lo hi y at r y′
+    pub leaf-copied : (mode : Mode) → b ≡ false → {r : ℕ} {y′ : List ℕ} → length y′ ≡ length y → Copies x lo hi y at r y′
         → Streams (Records records columns) (IndexLookup mode) x lo hi tail y at r y′
-    leaf-copied {mode} h {r} {y′} k v =
+    leaf-copied mode h {r} {y′} k v =
         leaf-streams c refl (IndexLookup mode)
         (λ schema text tables lent room rest og l g.
         subst (λ (o : Answer Node). Streamed (Kept schema text tables (leaf og l)) y at tail r y′ o)
@@ -195,8 +195,8 @@ module _ {x : List ℕ} {lo hi : ℕ} {b : Bool} (f : HasFilter x lo hi b) (c : 
 
       module _ {m : ℕ} {w : List ℕ} (n : Normalizes x lo (hi - cell-words) m w) (k : length w ≡ length y) where
         -- a normal form without room
-        pub leaf-refused : {mode : Mode} → length w < m → Streams (Records records columns) (IndexLookup mode) x lo hi tail y at m y
-        leaf-refused {mode} z =
+        pub leaf-refused : (mode : Mode) → length w < m → Streams (Records records columns) (IndexLookup mode) x lo hi tail y at m y
+        leaf-refused mode z =
             leaf-streams c refl (IndexLookup mode)
             (λ schema text tables lent room rest og l g.
             when-filtered (λ l. Reading schema text tables x lo hi tail y at room rest (leaf og l)
@@ -206,9 +206,9 @@ module _ {x : List ℕ} {lo hi : ℕ} {b : Bool} (f : HasFilter x lo hi b) (c : 
             (streamed-refused (omega arith)))
             og l (g .here) g)
 
-        pub leaf-looked : {house : Bool} → m ≤ length w → {u : ℕ} {y₁ : List ℕ} → length y₁ ≡ length y → LooksUp x lo hi y at w m records columns house u y₁ → {r : ℕ} → InRoom y₁ u tail r
+        pub leaf-looked : (house : Bool) → m ≤ length w → {u : ℕ} {y₁ : List ℕ} → length y₁ ≡ length y → LooksUp x lo hi y at w m records columns house u y₁ → {r : ℕ} → InRoom y₁ u tail r
             → Streams (Records records columns) (IndexLookup (by-flag house)) x lo hi tail y at r y₁
-        leaf-looked {house} z {u} {y₁} k₁ v {r} i =
+        leaf-looked house z {u} {y₁} k₁ v {r} i =
             leaf-streams c refl (IndexLookup (by-flag house))
             (λ schema text tables lent room rest og l g.
             when-filtered (λ l. Reading schema text tables x lo hi tail y at room rest (leaf og l)
