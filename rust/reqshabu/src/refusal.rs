@@ -31,6 +31,7 @@ impl Refusal {
             13 => "folding meets operands of kinds that don't fit the operator",
             14 => "there is no room: a plan on the way, or a normal form, has over 2,048 cells",
             15 => "the output is shorter than the result",
+            17 => "there is no such mode, only 0, plain, and 1, house",
             21 => "the edition asked for is neither 1 nor 2, or is the sheet's own",
             _ => "the library gave a number that this wrapper doesn't know",
         }
