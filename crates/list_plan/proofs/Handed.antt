@@ -91,7 +91,7 @@ module _ (s : List ℕ) (b : Bytes s) where
   sheet-bound : (m : Node) → optimized ≡ done m → length (write s m) ≤ 45332
   sheet-bound m h =
       let a = after (plan s) (Room.optimize plain Room.max-cells (schema s)) m h in
-      length-bound (write s m) (whole-if-checked (write s m) (ap (λ (n : Numbers). n .number) (optimize-handed-out s b (a .of) (a .first) m (a .second) .checks)))
+      length-bound (write s m) (whole-if-checked (write s m) (ap (λ (n : Numbers). n .number) (optimize-handed-out s b (a .of) (a .first) plain m (a .second) .checks)))
 
   lines-said : (out : List ℕ) → 45332 ≤ length out → (r : Answer Node) → optimized ≡ r → Refused-by (λ k. 1 ≤ k) r → lines (hand-out s out r) ≡ said s r
   lines-said out room (done m) h x =
