@@ -3,6 +3,7 @@ pub mod Expression
 pub mod Plan
 pub mod Ranges
 pub mod Answer
+pub mod Lists
 pub mod Optimizer
 pub mod Room
 pub mod Samples
