@@ -10,7 +10,8 @@ use Rattle.sql.specs.Schema.{Kind, Boolean, Schema, column-of}
 use Rattle.sql.specs.Expression.{Expression, ands, is-column-lookup}
 use Rattle.sql.specs.Plan.{up-to}
 use Rattle.sql.specs.Mode.{Mode, usable, by-flag}
-use Rattle.sql.specs.Optimizer.{Found, has-index, cons-if}
+use Rattle.sql.specs.Optimizer.{Found, has-index}
+use Rattle.sql.specs.Lists.{cons-if}
 use Rattle.sheet.specs.Bytes.{byte}
 use Rattle.sheet.specs.Check.{kinds}
 use Rattle.words.specs.Place.{ExpressionHere}

@@ -16,7 +16,7 @@ use Rattle.sql.specs.Answer.{Answer, done, _>>=_}
 use Rattle.sql.specs.Optimizer as Optimizer
 use Rattle.sql.specs.Room.{if-room, join-predicate, normal-forms-fit, step}
 use Rattle.sql.specs.Room
-use Rattle.sheet.specs.Content.{bit}
+use Rattle.sheet.specs.AsCell.{bit}
 use Rattle.sheet.specs.Cells.{present}
 use Rattle.cells.specs.declared.Cell.{Cell}
 use Rattle.cells.specs.Cells.{cell-words, cell-at}

@@ -12,7 +12,8 @@ use Rattle.sql.specs.Schema.{Kind, Schema, table-of, column-of}
 use Rattle.sql.specs.Expression.{Marked, Expression, Row, into-cnf-vec, and-vec, is-column-lookup, into-column-values}
 use Rattle.sql.specs.Plan.{by-key, by-index, Leaf, scan, lookup, nothing, values, filter, Node, leaf, over, join}
 use Rattle.sql.specs.Mode.{Mode, plain, house, suits, usable}
-use Rattle.sql.specs.Optimizer.{cons-if, keep, Found, filtered, has-index, with-index, found-here, find-lookup, access, lookup-or-scan, index-lookup, IndexLookup}
+use Rattle.sql.specs.Optimizer.{Found, filtered, has-index, with-index, found-here, find-lookup, access, lookup-or-scan, index-lookup, IndexLookup}
+use Rattle.sql.specs.Lists.{keep, cons-if}
 use Rattle.rows.specs.Database.{Database}
 use Rattle.rows.specs.Reading.{looked-up, lookup-column}
 use Rattle.rows.specs.Equalities.{all}

@@ -9,7 +9,7 @@ use lib.IntN.{pos}
 use Rattle.value.specs.Value.{Value, True, truth, datum, integer, float, string, the-nan, null}
 use Rattle.value.specs.Comparison.{compare-integers, compare-floats}
 use Rattle.sql.specs.Schema.{Kind, Boolean, Integer, Float, String, Column, Schema}
-use Rattle.sql.specs.Expression.{Expression, constant, column, unary, binary, function, IsNull, IsNaN, Equal, and, or, into-cnf, into-cnf-vec}
+use Rattle.sql.specs.Expression.{Expression, constant, column, unary, binary, function1, IsNull, IsNaN, Equal, and, or, into-cnf, into-cnf-vec}
 use Rattle.sql.specs.Plan.{qualified, by-key, by-index, scan, lookup, nothing, filter, Node, leaf, over}
 use Rattle.sql.specs.Answer.{Answer, done, refused}
 use Rattle.sql.specs.Mode.{Mode, plain, house, mode-of, suits}
@@ -70,10 +70,10 @@ abbrev third : Mode → Schema → Expression → Answer Node
 third mode schema predicate = Room.pass mode max-cells schema 3 (filtered predicate)
 
 abbrev is-null : Expression → Expression
-is-null = unary 0 (function IsNull)
+is-null = unary 0 (function1 IsNull)
 
 abbrev is-nan : Expression → Expression
-is-nan = unary 0 (function IsNaN)
+is-nan = unary 0 (function1 IsNaN)
 
 -- each with its answer
 abbrev pub house-plans : List (Answer Node × Answer Node)

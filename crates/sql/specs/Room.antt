@@ -14,7 +14,7 @@ use Rattle.sql.specs.Expression.{Expression, size, into-nnf, into-cnf}
 use Rattle.sql.specs.Plan.{Leaf, scan, lookup, nothing, values, Over, filter, other, Join, nested-loop, hash, Node, leaf, over, join, over-size, join-size, node-size}
 use Rattle.sql.specs.Answer.{Answer, done, refused, _>>=_}
 use Rattle.sql.specs.Mode.{Mode}
-use Rattle.sql.specs.Optimizer.{push-into, Optimizer, pass-of, in-turn}
+use Rattle.sql.specs.Optimizer.{push-into, Pass, pass-of, in-turn}
 use Rattle.sql.specs.Optimizer
 
 -- the cells that a sheet, and so a plan, can have
@@ -122,7 +122,7 @@ module _ (room : ℕ) (schema : Schema) where
 
 module _ (mode : Mode) (room : ℕ) (schema : Schema) where
   -- ConstantFolding and HashJoin put no more cells in the place of what they rewrite (crate room), so there is room for each of their steps.
-  abbrev pub OPTIMIZERS : List Optimizer
+  abbrev pub OPTIMIZERS : List Pass
   OPTIMIZERS =
       Optimizer.ConstantFolding 0
       ∷ FilterPushdown room schema 0
@@ -131,8 +131,8 @@ module _ (mode : Mode) (room : ℕ) (schema : Schema) where
       ∷ ShortCircuit room schema 0
       ∷ []
 
-  abbrev pub pass : ℕ → Optimizer
+  abbrev pub pass : ℕ → Pass
   pass = pass-of OPTIMIZERS
 
-  abbrev pub optimize : Optimizer
+  abbrev pub optimize : Pass
   optimize = in-turn OPTIMIZERS

@@ -1,6 +1,6 @@
 use Rattle.sql.specs.Mode.{by-flag}
 use Rattle.records.proofs.Laws.{tables-said}
-use Rattle.optimizer.specs.Settled.{from-pushdown, from-lookup, from-hash}
+use Rattle.optimizer.specs.HadRoom.{from-pushdown, from-lookup, from-hash}
 use Rattle.sql.specs.Room
 use Rattle.sql.specs.Optimizer.{in-turn}
 use Rattle.sql.specs.Optimizer as Optimizer
