@@ -5,7 +5,6 @@ use mathlib.Core.Path.{_≡_, refl}
 use mathlib.Core.List.{List, [], _∷_, _++_, map}
 use lib.ListN.{length, replicate}
 use Rattle.value.specs.Meaning.{integer-bits, integer-of-bits}
-use Rattle.sql.specs.Room
 use Rattle.sql.specs.Optimizer
 use Rattle.sheet.specs.Bytes.{bytes, word, half}
 use Rattle.sheet.specs.Parts.{length-ok, edition-ok, parts-ok, bad-record}

@@ -6,7 +6,7 @@ use mathlib.Core.Path.{_≡_, ap, _∙_}
 use lib.Dec.{leb}
 use Rattle.sql.specs.Schema.{Schema}
 use Rattle.sql.specs.Plan.{Node, node-size}
-use Rattle.sql.specs.Answer.{Answer, done, refused, _>>=_}
+use Rattle.sql.specs.Answer.{done, refused, _>>=_}
 use Rattle.sql.specs.Effect.{plain}
 use Rattle.sql.specs.Optimizer.{Optimizer, in-turn}
 use Rattle.sql.specs.Optimizer as Optimizer

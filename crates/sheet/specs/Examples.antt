@@ -4,7 +4,6 @@ use mathlib.Core.List.{List, [], _∷_}
 use mathlib.Core.Path.{_≡_, refl}
 use lib.ListN.{replicate}
 use Rattle.value.specs.Meaning.{integer-bits, integer-of-bits}
-use Rattle.sql.specs.Room
 use Rattle.sql.specs.Optimizer
 use Rattle.sheet.specs.Bytes.{half, word, bytes}
 use Rattle.sheet.specs.Parts.{length-ok, edition-ok, parts-ok, bad-record}
