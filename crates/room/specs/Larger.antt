@@ -10,7 +10,7 @@ use Rattle.sql.specs.Schema.{Schema}
 use Rattle.sql.specs.Expression.{Expression, size, into-nnf, into-cnf}
 use Rattle.sql.specs.Plan.{Node, node-size}
 use Rattle.sql.specs.Answer.{Answer, done, refused, _>>=_}
-use Rattle.sql.specs.Optimizer.{Optimizer, in-turn}
+use Rattle.sql.specs.Optimizer.{toydb, Optimizer, in-turn}
 use Rattle.sql.specs.Optimizer as Optimizer
 use Rattle.sql.specs.Room.{if-room, normal-forms-fit, refusing}
 use Rattle.sql.specs.Room
@@ -63,14 +63,14 @@ module _ (room more : ℕ) (larger : room ≤ more) (schema : Schema) where
       }
 
   pub pushdown-larger : (rest : ℕ) (n : Node) → Follows (Room.FilterPushdown room schema rest n) (Room.FilterPushdown more schema rest n)
-  pushdown-larger rest n = pushdown-related (refusing room schema) (refusing more schema) _ related schema n rest
+  pushdown-larger rest n = pushdown-related (refusing room schema) (refusing more schema) _ related (toydb schema) n rest
 
   pub lookup-larger : (rest : ℕ) (n : Node) → Follows (Room.IndexLookup room schema rest n) (Room.IndexLookup more schema rest n)
   lookup-larger rest n =
-      lookup-related (refusing room schema) (refusing more schema) _ related schema (λ k r m h. h) (λ k r. step-larger r k) n rest
+      lookup-related (refusing room schema) (refusing more schema) _ related (toydb schema) (λ k r m h. h) (λ k r. step-larger r k) n rest
 
   pub circuit-larger : (rest : ℕ) (n : Node) → Follows (Room.ShortCircuit room schema rest n) (Room.ShortCircuit more schema rest n)
-  circuit-larger rest n = circuit-related (refusing room schema) (refusing more schema) _ related schema n rest
+  circuit-larger rest n = circuit-related (refusing room schema) (refusing more schema) _ related (toydb schema) n rest
 
   -- One pass, and all five.
   pub pass-larger : (k : ℕ) (n : Node) → Follows (Room.pass room schema k n) (Room.pass more schema k n)

@@ -5,7 +5,7 @@ use Rattle.sql.specs.Schema.{Schema}
 use Rattle.sql.specs.Expression.{Expression}
 use Rattle.sql.specs.Plan.{filter, other, Node, leaf, over, join, columns, over-size, join-size, node-size}
 use Rattle.sql.specs.Effect.{Effect, go-on-with, each-source-with}
-use Rattle.sql.specs.Optimizer.{push-into, join-predicate, maybe-push-join, maybe-push-join-with, maybe-push-filter-with, push-filters-with, push-filters-from-with, FilterPushdown-with, scan-filter, index-lookup, IndexLookup-with, hash-join, HashJoin-with, short-circuit, ShortCircuit-with}
+use Rattle.sql.specs.Optimizer.{Rules, join-predicate, maybe-push-join-with, maybe-push-filter-with, push-filters-with, push-filters-from-with, FilterPushdown-with, scan-filter, IndexLookup-with, hash-join, HashJoin-with, ShortCircuit-with}
 
 pub record Related (a b : Effect) (R : a .Rewritten → b .Rewritten → Type 0) : Type 0 where
   pub stays : (n : Node) → R (a .stays n) (b .stays n)
@@ -15,27 +15,27 @@ pub record Related (a b : Effect) (R : a .Rewritten → b .Rewritten → Type 0)
       → R r s → ((n : Node) → R (f n) (g n)) → R (a ._and-then_ r f) (b ._and-then_ s g)
   pub beside : (cells : ℕ) (r : a .Rewritten) (s : b .Rewritten) → R r s → R (a .beside cells r) (b .beside cells s)
 
-module _ (a b : Effect) (R : a .Rewritten → b .Rewritten → Type 0) (related : Related a b R) (schema : Schema) where
+module _ (a b : Effect) (R : a .Rewritten → b .Rewritten → Type 0) (related : Related a b R) (rules : Rules) where
   open Related related using (stays, step, formed, and-then, beside)
 
-  join-related : (n : Node) → R (maybe-push-join-with a schema n) (maybe-push-join-with b schema n)
-  join-related n = and-then _ _ _ _ (formed (join-predicate n) n) (λ m. step (maybe-push-join schema m))
+  join-related : (n : Node) → R (maybe-push-join-with rules a n) (maybe-push-join-with rules b n)
+  join-related n = and-then _ _ _ _ (formed (join-predicate n) n) (λ m. step (rules .maybe-push-join m))
 
-  pub filter-related : (k : ℕ) (n : Node) → R (maybe-push-filter-with a schema k n) (maybe-push-filter-with b schema k n)
+  pub filter-related : (k : ℕ) (n : Node) → R (maybe-push-filter-with rules a k n) (maybe-push-filter-with rules b k n)
   unfolding maybe-push-filter-with
   filter-related zero n = stays n
   filter-related (suc k) (leaf og l) = stays (leaf og l)
-  filter-related (suc k) (over og (filter p) source) = go (push-into og p source) (filter-related k)
+  filter-related (suc k) (over og (filter p) source) = go (rules .push-into og p source) (filter-related k)
     where
-      go : (o : Option Node) → ((n : Node) → R (maybe-push-filter-with a schema k n) (maybe-push-filter-with b schema k n))
-          → R (go-on-with a (λ m. a ._and-then_ (a ._and-then_ (a .step m) (maybe-push-filter-with a schema k)) (maybe-push-join-with a schema)) (over og (filter p) source) o)
-          (go-on-with b (λ m. b ._and-then_ (b ._and-then_ (b .step m) (maybe-push-filter-with b schema k)) (maybe-push-join-with b schema)) (over og (filter p) source) o)
+      go : (o : Option Node) → ((n : Node) → R (maybe-push-filter-with rules a k n) (maybe-push-filter-with rules b k n))
+          → R (go-on-with a (λ m. a ._and-then_ (a ._and-then_ (a .step m) (maybe-push-filter-with rules a k)) (maybe-push-join-with rules a)) (over og (filter p) source) o)
+          (go-on-with b (λ m. b ._and-then_ (b ._and-then_ (b .step m) (maybe-push-filter-with rules b k)) (maybe-push-join-with rules b)) (over og (filter p) source) o)
       go none below = stays (over og (filter p) source)
       go (some m) below = and-then _ _ _ _ (and-then _ _ _ _ (step m) below) join-related
   filter-related (suc k) (over og (other o) source) = stays (over og (other o) source)
   filter-related (suc k) (join og outer j left right) = stays (join og outer j left right)
 
-  pub push-related : (k : ℕ) (n : Node) → R (push-filters-with a schema k n) (push-filters-with b schema k n)
+  pub push-related : (k : ℕ) (n : Node) → R (push-filters-with rules a k n) (push-filters-with rules b k n)
   push-related k n = and-then _ _ _ _ (filter-related k n) join-related
 
   sources-related : (f : Node → a .Rewritten) (g : Node → b .Rewritten) → ((n : Node) → R (f n) (g n)) → (n : Node) → R (each-source-with a f n) (each-source-with b g n)
@@ -45,19 +45,19 @@ module _ (a b : Effect) (R : a .Rewritten → b .Rewritten → Type 0) (related 
       and-then _ _ _ _ (beside (node-size right + join-size j) _ _ (h left)) (λ l.
       and-then _ _ _ _ (beside (node-size l + join-size j) _ _ (h right)) (λ r. stays (join og outer j l r)))
 
-  pub from-related : (k : ℕ) (n : Node) → R (push-filters-from-with a schema k n) (push-filters-from-with b schema k n)
+  pub from-related : (k : ℕ) (n : Node) → R (push-filters-from-with rules a k n) (push-filters-from-with rules b k n)
   unfolding push-filters-from-with
   from-related zero n = stays n
   from-related (suc k) n = and-then _ _ _ _ (push-related (suc k) n) (sources-related _ _ (from-related k))
 
-  pub pushdown-related : (n : Node) → R (FilterPushdown-with a schema n) (FilterPushdown-with b schema n)
+  pub pushdown-related : (n : Node) → R (FilterPushdown-with rules a n) (FilterPushdown-with rules b n)
   unfolding FilterPushdown-with
   pushdown-related n = from-related (node-size n) n
 
   pub lookup-related : ((n : Node) → R (a .visit n) (b .visit n)) → ((n : Node) → R (a .look-up n) (b .look-up n))
-      → (n : Node) → R (IndexLookup-with a schema n) (IndexLookup-with b schema n)
+      → (n : Node) → R (IndexLookup-with rules a n) (IndexLookup-with rules b n)
   unfolding IndexLookup-with
-  lookup-related visit look-up (leaf og l) = and-then _ _ _ _ (formed (scan-filter l) (leaf og l)) (λ n. look-up (index-lookup schema og l))
+  lookup-related visit look-up (leaf og l) = and-then _ _ _ _ (formed (scan-filter l) (leaf og l)) (λ n. look-up (rules .index-lookup og l))
   lookup-related visit look-up (over og o source) =
       and-then _ _ _ _ (visit (over og o source)) (λ n.
       and-then _ _ _ _ (beside (over-size o) _ _ (lookup-related visit look-up source)) (λ s. stays (over og o s)))
@@ -66,19 +66,19 @@ module _ (a b : Effect) (R : a .Rewritten → b .Rewritten → Type 0) (related 
       and-then _ _ _ _ (beside (node-size right + join-size j) _ _ (lookup-related visit look-up left)) (λ l.
       and-then _ _ _ _ (beside (node-size l + join-size j) _ _ (lookup-related visit look-up right)) (λ r. stays (join og outer j l r))))
 
-  pub hash-related : ((n : Node) → R (a .visit n) (b .visit n)) → (n : Node) → R (HashJoin-with a schema n) (HashJoin-with b schema n)
-  hash-related visit (leaf og l) = visit (leaf og l)
-  hash-related visit (over og o source) =
-      and-then _ _ _ _ (visit (over og o source)) (λ n. and-then _ _ _ _ (beside (over-size o) _ _ (hash-related visit source)) (λ s. stays (over og o s)))
-  hash-related visit (join og outer j left right) =
+  pub hash-related : (schema : Schema) → ((n : Node) → R (a .visit n) (b .visit n)) → (n : Node) → R (HashJoin-with a schema n) (HashJoin-with b schema n)
+  hash-related schema visit (leaf og l) = visit (leaf og l)
+  hash-related schema visit (over og o source) =
+      and-then _ _ _ _ (visit (over og o source)) (λ n. and-then _ _ _ _ (beside (over-size o) _ _ (hash-related schema visit source)) (λ s. stays (over og o s)))
+  hash-related schema visit (join og outer j left right) =
       let k = hash-join (columns schema left) j in
       and-then _ _ _ _ (visit (join og outer k left right)) (λ n.
-      and-then _ _ _ _ (beside (node-size right + join-size k) _ _ (hash-related visit left)) (λ l.
-      and-then _ _ _ _ (beside (node-size l + join-size k) _ _ (hash-related visit right)) (λ r. stays (join og outer k l r))))
+      and-then _ _ _ _ (beside (node-size right + join-size k) _ _ (hash-related schema visit left)) (λ l.
+      and-then _ _ _ _ (beside (node-size l + join-size k) _ _ (hash-related schema visit right)) (λ r. stays (join og outer k l r))))
 
-  pub circuit-related : (n : Node) → R (ShortCircuit-with a schema n) (ShortCircuit-with b schema n)
-  circuit-related (leaf og l) = step (short-circuit schema (leaf og l))
-  circuit-related (over og o source) = and-then _ _ _ _ (beside (over-size o) _ _ (circuit-related source)) (λ s. step (short-circuit schema (over og o s)))
+  pub circuit-related : (n : Node) → R (ShortCircuit-with rules a n) (ShortCircuit-with rules b n)
+  circuit-related (leaf og l) = step (rules .short-circuit (leaf og l))
+  circuit-related (over og o source) = and-then _ _ _ _ (beside (over-size o) _ _ (circuit-related source)) (λ s. step (rules .short-circuit (over og o s)))
   circuit-related (join og outer j left right) =
       and-then _ _ _ _ (beside (node-size right + join-size j) _ _ (circuit-related left)) (λ l.
-      and-then _ _ _ _ (beside (node-size l + join-size j) _ _ (circuit-related right)) (λ r. step (short-circuit schema (join og outer j l r))))
+      and-then _ _ _ _ (beside (node-size l + join-size j) _ _ (circuit-related right)) (λ r. step (rules .short-circuit (join og outer j l r))))

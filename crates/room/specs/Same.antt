@@ -8,7 +8,7 @@ use Rattle.sql.specs.Schema.{Schema}
 use Rattle.sql.specs.Plan.{Node, node-size}
 use Rattle.sql.specs.Answer.{done, refused, _>>=_}
 use Rattle.sql.specs.Effect.{plain}
-use Rattle.sql.specs.Optimizer.{Optimizer, in-turn}
+use Rattle.sql.specs.Optimizer.{toydb, Optimizer, in-turn}
 use Rattle.sql.specs.Optimizer as Optimizer
 use Rattle.sql.specs.Room.{if-room, normal-forms-fit, refusing}
 use Rattle.sql.specs.Room
@@ -37,17 +37,17 @@ module _ (room : ℕ) (schema : Schema) where
       }
 
   pub push-same : (k rest : ℕ) (n m : Node) → Within.push-filters room schema k rest n ≡ done m → Without.push-filters schema k n ≡ m
-  push-same k rest n m h = push-related (refusing room schema) plain _ related schema k n rest m h
+  push-same k rest n m h = push-related (refusing room schema) plain _ related (toydb schema) k n rest m h
 
   pub pushdown-same : (rest : ℕ) (n m : Node) → Room.FilterPushdown room schema rest n ≡ done m → Optimizer.FilterPushdown schema n ≡ m
-  pushdown-same rest n m h = pushdown-related (refusing room schema) plain _ related schema n rest m h
+  pushdown-same rest n m h = pushdown-related (refusing room schema) plain _ related (toydb schema) n rest m h
 
   pub lookup-same : (rest : ℕ) (n m : Node) → Room.IndexLookup room schema rest n ≡ done m → Optimizer.IndexLookup schema n ≡ m
   lookup-same rest n m h =
-      lookup-related (refusing room schema) plain _ related schema (λ k r i e. done-same e) (λ k r i e. step-same r k i e) n rest m h
+      lookup-related (refusing room schema) plain _ related (toydb schema) (λ k r i e. done-same e) (λ k r i e. step-same r k i e) n rest m h
 
   pub circuit-same : (rest : ℕ) (n m : Node) → Room.ShortCircuit room schema rest n ≡ done m → Optimizer.ShortCircuit schema n ≡ m
-  circuit-same rest n m h = circuit-related (refusing room schema) plain _ related schema n rest m h
+  circuit-same rest n m h = circuit-related (refusing room schema) plain _ related (toydb schema) n rest m h
 
   -- ---- all of them
 

@@ -12,7 +12,7 @@ use Rattle.sql.specs.Expression.{Marked, origin, Expression, constant, column, 
 use Rattle.sql.specs.Plan.{Leaf, scan, lookup, nothing, values, limit, offset, order, projection, remap, aggregate, Over, filter, other, Join, nested-loop, hash, Node, leaf, over, join, row-size, item-size, key-size, node-size}
 use Rattle.sql.specs.Answer.{Answer, done, refused, _>>=_, at-place}
 use Rattle.sql.specs.Effect.{plain}
-use Rattle.sql.specs.Optimizer.{fold-by, fold, fold-expression, fold-each, fold-optional, fold-row, fold-part, fold-leaf, fold-over, fold-join, ConstantFolding, Optimizer, in-turn}
+use Rattle.sql.specs.Optimizer.{toydb, fold-by, fold, fold-expression, fold-each, fold-optional, fold-row, fold-part, fold-leaf, fold-over, fold-join, ConstantFolding, Optimizer, in-turn}
 use Rattle.sql.specs.Room
 use Rattle.sql.specs.Room.{if-room, normal-forms-fit, refusing}
 use Rattle.room.specs.Related.{Related, pushdown-related, lookup-related, circuit-related}
@@ -200,13 +200,13 @@ module _ (room : ℕ) (schema : Schema) where
       }
 
   pub pushdown-refused : (rest : ℕ) (n : Node) → Refused-by (λ k. k ≡ 14) (Room.FilterPushdown room schema rest n)
-  pushdown-refused rest n = pushdown-related (refusing room schema) plain _ related schema n rest
+  pushdown-refused rest n = pushdown-related (refusing room schema) plain _ related (toydb schema) n rest
 
   pub lookup-refused : (rest : ℕ) (n : Node) → Refused-by (λ k. k ≡ 14) (Room.IndexLookup room schema rest n)
-  lookup-refused rest n = lookup-related (refusing room schema) plain _ related schema (λ m r. tt) (λ m r. step-refused r m) n rest
+  lookup-refused rest n = lookup-related (refusing room schema) plain _ related (toydb schema) (λ m r. tt) (λ m r. step-refused r m) n rest
 
   pub circuit-refused : (rest : ℕ) (n : Node) → Refused-by (λ k. k ≡ 14) (Room.ShortCircuit room schema rest n)
-  circuit-refused rest n = circuit-related (refusing room schema) plain _ related schema n rest
+  circuit-refused rest n = circuit-related (refusing room schema) plain _ related (toydb schema) n rest
 
   -- ---- one pass, and all five
 

@@ -463,14 +463,26 @@ module _ (schema : Schema) where
   abbrev pub short-circuit : Node → Node
   short-circuit node = empty-or-node (is-empty (remove-useless node)) (remove-useless node)
 
--- ======== The recursions of the four passes after ConstantFolding, for every effect
+-- ======== The recursions of the four passes after ConstantFolding, for every effect and every mode
 
-module _ (effect : Effect) (schema : Schema) where
+-- A mode: what passes 2, 3 and 5 do at a node.
+pub record Rules : Type 0 where
+  pub push-into : ℕ → Expression → Node → Option Node
+  pub maybe-push-join : Node → Node
+  pub index-lookup : ℕ → Leaf → Node
+  pub short-circuit : Node → Node
+
+-- plain mode, the Rust's
+abbrev pub toydb : Schema → Rules
+toydb schema =
+    record { push-into = push-into; maybe-push-join = maybe-push-join schema; index-lookup = index-lookup schema; short-circuit = short-circuit schema }
+
+module _ (rules : Rules) (effect : Effect) where
   infixl 10 _and-then_
   open Effect effect using (Rewritten, stays, step, visit, look-up, formed, _and-then_)
 
   abbrev pub maybe-push-join-with : Node → Rewritten
-  maybe-push-join-with node = formed (join-predicate node) node and-then λ n. step (maybe-push-join schema n)
+  maybe-push-join-with node = formed (join-predicate node) node and-then λ n. step (rules .maybe-push-join n)
 
   -- A Filter that its source takes is gone, and push_filters goes on with the source: maybe_push_filter, then the join rule. The number bounds the
   -- nodes of the plan, which are one fewer after each merge.
@@ -479,7 +491,7 @@ module _ (effect : Effect) (schema : Schema) where
   maybe-push-filter-with (suc n) (leaf og l) = stays (leaf og l)
   maybe-push-filter-with (suc n) (over og (filter predicate) source) =
       go-on-with effect (λ pushed. step pushed and-then maybe-push-filter-with n and-then maybe-push-join-with) (over og (filter predicate) source)
-      (push-into og predicate source)
+      (rules .push-into og predicate source)
   maybe-push-filter-with (suc n) (over og (other o) source) = stays (over og (other o) source)
   maybe-push-filter-with (suc n) (join og outer j left right) = stays (join og outer j left right)
 
@@ -497,10 +509,21 @@ module _ (effect : Effect) (schema : Schema) where
 
   -- Only a leaf is rewritten, and what it becomes holds no scan. A scan's normal forms are made also where no lookup is found and the original filter stays.
   unfoldable pub IndexLookup-with : Node → Rewritten
-  IndexLookup-with (leaf og l) = formed (scan-filter l) (leaf og l) and-then λ n. look-up (index-lookup schema og l)
+  IndexLookup-with (leaf og l) = formed (scan-filter l) (leaf og l) and-then λ n. look-up (rules .index-lookup og l)
   IndexLookup-with (over og o source) = visit (over og o source) and-then λ n. over-source effect og o (IndexLookup-with source) stays
   IndexLookup-with (join og outer j left right) =
       visit (join og outer j left right) and-then λ n. join-sources effect og outer j right (IndexLookup-with left) (IndexLookup-with right) stays
+
+  -- sources before the node
+  abbrev pub ShortCircuit-with : Node → Rewritten
+  ShortCircuit-with (leaf og l) = step (rules .short-circuit (leaf og l))
+  ShortCircuit-with (over og o source) = over-source effect og o (ShortCircuit-with source) (λ n. step (rules .short-circuit n))
+  ShortCircuit-with (join og outer j left right) =
+      join-sources effect og outer j right (ShortCircuit-with left) (ShortCircuit-with right) (λ n. step (rules .short-circuit n))
+
+module _ (effect : Effect) (schema : Schema) where
+  infixl 10 _and-then_
+  open Effect effect using (Rewritten, stays, visit, _and-then_)
 
   abbrev pub HashJoin-with : Node → Rewritten
   HashJoin-with (leaf og l) = visit (leaf og l)
@@ -509,27 +532,20 @@ module _ (effect : Effect) (schema : Schema) where
       let k = hash-join (columns schema left) j in
       visit (join og outer k left right) and-then λ n. join-sources effect og outer k right (HashJoin-with left) (HashJoin-with right) stays
 
-  -- sources before the node
-  abbrev pub ShortCircuit-with : Node → Rewritten
-  ShortCircuit-with (leaf og l) = step (short-circuit schema (leaf og l))
-  ShortCircuit-with (over og o source) = over-source effect og o (ShortCircuit-with source) (λ n. step (short-circuit schema n))
-  ShortCircuit-with (join og outer j left right) =
-      join-sources effect og outer j right (ShortCircuit-with left) (ShortCircuit-with right) (λ n. step (short-circuit schema n))
-
 -- ======== The passes themselves
 
 module _ (schema : Schema) where
   abbrev pub FilterPushdown : Node → Node
-  FilterPushdown = FilterPushdown-with plain schema
+  FilterPushdown = FilterPushdown-with (toydb schema) plain
 
   abbrev pub IndexLookup : Node → Node
-  IndexLookup = IndexLookup-with plain schema
+  IndexLookup = IndexLookup-with (toydb schema) plain
 
   abbrev pub HashJoin : Node → Node
   HashJoin = HashJoin-with plain schema
 
   abbrev pub ShortCircuit : Node → Node
-  ShortCircuit = ShortCircuit-with plain schema
+  ShortCircuit = ShortCircuit-with (toydb schema) plain
 
 -- ======== OPTIMIZERS
 

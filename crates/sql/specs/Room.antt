@@ -13,7 +13,7 @@ use Rattle.sql.specs.Expression.{Expression, size, into-nnf, into-cnf}
 use Rattle.sql.specs.Plan.{Node, node-size}
 use Rattle.sql.specs.Answer.{Answer, done, refused, _>>=_}
 use Rattle.sql.specs.Effect.{Effect}
-use Rattle.sql.specs.Optimizer.{FilterPushdown-with, IndexLookup-with, ShortCircuit-with, Optimizer, pass-of, in-turn}
+use Rattle.sql.specs.Optimizer.{toydb, FilterPushdown-with, IndexLookup-with, ShortCircuit-with, Optimizer, pass-of, in-turn}
 use Rattle.sql.specs.Optimizer
 
 -- the cells that a sheet, and so a plan, can have
@@ -50,13 +50,13 @@ module _ (room : ℕ) (schema : Schema) where
       }
 
   abbrev pub FilterPushdown : ℕ → Node → Answer Node
-  FilterPushdown rest node = FilterPushdown-with refusing schema node rest
+  FilterPushdown rest node = FilterPushdown-with (toydb schema) refusing node rest
 
   abbrev pub IndexLookup : ℕ → Node → Answer Node
-  IndexLookup rest node = IndexLookup-with refusing schema node rest
+  IndexLookup rest node = IndexLookup-with (toydb schema) refusing node rest
 
   abbrev pub ShortCircuit : ℕ → Node → Answer Node
-  ShortCircuit rest node = ShortCircuit-with refusing schema node rest
+  ShortCircuit rest node = ShortCircuit-with (toydb schema) refusing node rest
 
   -- ConstantFolding and HashJoin put no more cells in the place of what they rewrite (crate room), so there is room for each of their steps.
   abbrev pub OPTIMIZERS : List Optimizer

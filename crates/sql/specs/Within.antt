@@ -5,19 +5,19 @@ use Rattle.sql.specs.Schema.{Schema}
 use Rattle.sql.specs.Plan.{Leaf, Node, leaf}
 use Rattle.sql.specs.Answer.{Answer, _>>=_}
 use Rattle.sql.specs.Effect.{go-on-with, each-source-with}
-use Rattle.sql.specs.Optimizer.{maybe-push-join-with, maybe-push-filter-with, push-filters-with, push-filters-from-with, scan-filter}
+use Rattle.sql.specs.Optimizer.{toydb, maybe-push-join-with, maybe-push-filter-with, push-filters-with, push-filters-from-with, scan-filter}
 use Rattle.sql.specs.Optimizer
 use Rattle.sql.specs.Room.{if-room, normal-forms-fit, step, refusing}
 
 module _ (room : ℕ) (schema : Schema) where
   abbrev pub maybe-push-join : ℕ → Node → Answer Node
-  maybe-push-join rest node = maybe-push-join-with (refusing room schema) schema node rest
+  maybe-push-join rest node = maybe-push-join-with (toydb schema) (refusing room schema) node rest
 
   abbrev pub maybe-push-filter : ℕ → ℕ → Node → Answer Node
-  maybe-push-filter n rest node = maybe-push-filter-with (refusing room schema) schema n node rest
+  maybe-push-filter n rest node = maybe-push-filter-with (toydb schema) (refusing room schema) n node rest
 
   abbrev pub push-filters : ℕ → ℕ → Node → Answer Node
-  push-filters n rest node = push-filters-with (refusing room schema) schema n node rest
+  push-filters n rest node = push-filters-with (toydb schema) (refusing room schema) n node rest
 
   abbrev pub go-on : (ℕ → Node → Answer Node) → ℕ → Node → Option Node → Answer Node
   go-on f rest node o = go-on-with (refusing room schema) (λ n r. f r n) node o rest
@@ -26,7 +26,7 @@ module _ (room : ℕ) (schema : Schema) where
   each-source f rest node = each-source-with (refusing room schema) (λ n r. f r n) node rest
 
   abbrev pub push-filters-from : ℕ → ℕ → Node → Answer Node
-  push-filters-from n rest node = push-filters-from-with (refusing room schema) schema n node rest
+  push-filters-from n rest node = push-filters-from-with (toydb schema) (refusing room schema) n node rest
 
   abbrev pub index-lookup : ℕ → ℕ → Leaf → Answer Node
   index-lookup og rest l = if-room (normal-forms-fit room schema (scan-filter l)) (leaf og l) >>= λ n. step room schema rest (Optimizer.index-lookup schema og l)

@@ -4,7 +4,7 @@ use mathlib.Core.Option.{Option}
 use Rattle.sql.specs.Schema.{Schema}
 use Rattle.sql.specs.Plan.{Node}
 use Rattle.sql.specs.Effect.{plain, go-on-with, each-source-with}
-use Rattle.sql.specs.Optimizer.{maybe-push-filter-with, push-filters-with, push-filters-from-with}
+use Rattle.sql.specs.Optimizer.{toydb, maybe-push-filter-with, push-filters-with, push-filters-from-with}
 
 abbrev pub go-on : (Node → Node) → Node → Option Node → Node
 go-on = go-on-with plain
@@ -14,10 +14,10 @@ map-sources = each-source-with plain
 
 module _ (schema : Schema) where
   abbrev pub maybe-push-filter : ℕ → Node → Node
-  maybe-push-filter = maybe-push-filter-with plain schema
+  maybe-push-filter = maybe-push-filter-with (toydb schema) plain
 
   abbrev pub push-filters : ℕ → Node → Node
-  push-filters = push-filters-with plain schema
+  push-filters = push-filters-with (toydb schema) plain
 
   abbrev pub push-filters-from : ℕ → Node → Node
-  push-filters-from = push-filters-from-with plain schema
+  push-filters-from = push-filters-from-with (toydb schema) plain

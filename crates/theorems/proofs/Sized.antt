@@ -14,7 +14,7 @@ use Rattle.sql.specs.Expression.{Expression, size, into-nnf, into-cnf}
 use Rattle.sql.specs.Plan.{Node, leaf, over, join, columns, over-size, join-size, node-size}
 use Rattle.sql.specs.Answer.{Answer, done, refused, _>>=_}
 use Rattle.sql.specs.Effect.{plain}
-use Rattle.sql.specs.Optimizer.{fold-leaf, fold-over, fold-join, push-filters-from-with, FilterPushdown-with, scan-filter, IndexLookup-with, hash-join, HashJoin-with, ShortCircuit-with, in-turn}
+use Rattle.sql.specs.Optimizer.{toydb, fold-leaf, fold-over, fold-join, push-filters-from-with, FilterPushdown-with, scan-filter, IndexLookup-with, hash-join, HashJoin-with, ShortCircuit-with, in-turn}
 use Rattle.sql.specs.Optimizer as Optimizer
 use Rattle.sql.specs.Room.{max-cells, if-room, normal-forms-fit, refusing}
 use Rattle.sql.specs.Room
@@ -130,11 +130,11 @@ module _ (room : ℕ) (schema : Schema) where
   listed =
       record { stays = λ n. refl; step = λ n. refl; formed = λ p n. refl; and-then = λ l n f g h k. k (l .plan) ∙ ap g h; beside = λ cells l n h. h }
 
-  from-sized : (k rest : ℕ) (n : Node) → Sized rest (Within.push-filters-from room schema k rest n) (push-filters-from-with listing schema k n)
-  from-sized k rest n = from-related (refusing room schema) listing _ sized schema k n rest
+  from-sized : (k rest : ℕ) (n : Node) → Sized rest (Within.push-filters-from room schema k rest n) (push-filters-from-with (toydb schema) listing k n)
+  from-sized k rest n = from-related (refusing room schema) listing _ sized (toydb schema) k n rest
 
-  pushdown-sized : (rest : ℕ) (n : Node) → Sized rest (Room.FilterPushdown room schema rest n) (FilterPushdown-with listing schema n)
-  pushdown-sized rest n = pushdown-related (refusing room schema) listing _ sized schema n rest
+  pushdown-sized : (rest : ℕ) (n : Node) → Sized rest (Room.FilterPushdown room schema rest n) (FilterPushdown-with (toydb schema) listing n)
+  pushdown-sized rest n = pushdown-related (refusing room schema) listing _ sized (toydb schema) n rest
 
   -- a higher bound on the recursion
   same-room : (s t : Bool) (a b : Node) → if-room s a ≡ if-room t b → s ≡ t
@@ -146,8 +146,8 @@ module _ (room : ℕ) (schema : Schema) where
   pub bound-sized : (k rest : ℕ) (n : Node) → node-size n ≤ k → fit (Sizes.push-filters-from schema k rest n) ≡ fit (Sizes.FilterPushdown schema rest n)
   bound-sized k rest n h =
       let p = nodes-cells n in
-      same-room (fit (Sizes.push-filters-from schema k rest n)) (fit (Sizes.FilterPushdown schema rest n)) (push-filters-from-with listing schema k n .plan)
-      (FilterPushdown-with listing schema n .plan) (sym (from-sized k rest n) ∙ (pushdown-bound room schema k rest n (omega arith) ∙ pushdown-sized rest n))
+      same-room (fit (Sizes.push-filters-from schema k rest n)) (fit (Sizes.FilterPushdown schema rest n)) (push-filters-from-with (toydb schema) listing k n .plan)
+      (FilterPushdown-with (toydb schema) listing n .plan) (sym (from-sized k rest n) ∙ (pushdown-bound room schema k rest n (omega arith) ∙ pushdown-sized rest n))
 
   -- ---- IndexLookup
 
@@ -170,7 +170,7 @@ module _ (room : ℕ) (schema : Schema) where
       → Sized rest r (listing ._and-then_ (listing .visit n) (λ m. l))
   visited rest n r l h k = then-sized rest (done n) (listing .visit n) (λ m. r) (λ m. l) (visit-sized rest n h) (λ e. k)
 
-  lookup-sized : (rest : ℕ) (n : Node) → rest + node-size n ≤ room → Sized rest (Room.IndexLookup room schema rest n) (IndexLookup-with listing schema n)
+  lookup-sized : (rest : ℕ) (n : Node) → rest + node-size n ≤ room → Sized rest (Room.IndexLookup room schema rest n) (IndexLookup-with (toydb schema) listing n)
   unfolding IndexLookup-with
   lookup-sized rest (leaf og l) h =
       let m = Optimizer.index-lookup schema og l in
@@ -178,12 +178,12 @@ module _ (room : ℕ) (schema : Schema) where
       (λ n. listing .look-up m) (forms-sized rest (scan-filter l) (leaf og l)) (λ e. step-sized rest m ∙ ap (λ (t : Bool). if-room t m) (stays rest m))
   lookup-sized rest (over og o source) h =
       let r = Room.IndexLookup room schema (rest + over-size o) source in
-      let l = listing .beside (over-size o) (IndexLookup-with listing schema source) in
+      let l = listing .beside (over-size o) (IndexLookup-with (toydb schema) listing source) in
       visited rest (over og o source) _ (listing ._and-then_ l (λ s. listing .stays (over og o s))) h
       (then-sized rest r l (λ s. done (over og o s)) (λ s. listing .stays (over og o s)) (lookup-sized (rest + over-size o) source (omega arith)) (λ e. refl))
   lookup-sized rest (join og outer j left right) h =
       let with-room = Room.IndexLookup room schema in
-      let g = IndexLookup-with listing schema in
+      let g = IndexLookup-with (toydb schema) listing in
       let cells = node-size right + join-size j in
       let m = g left .plan in
       let on-right = node-size m + join-size j in
@@ -213,7 +213,7 @@ module _ (room : ℕ) (schema : Schema) where
       let t = hash-smaller schema left in
       let l = HashJoin-with listing schema left .plan in
       let z : node-size l ≡ node-size (Optimizer.HashJoin schema left) =
-      ap node-size (hash-related listing plain _ listed schema (λ n. refl) left) in
+      ap node-size (hash-related listing plain _ listed (toydb schema) schema (λ n. refl) left) in
       let on-left = Sizes.HashJoin schema (rest + (node-size right + join-size k)) left in
       let on-right = Sizes.HashJoin schema (rest + (node-size l + join-size k)) right in
       left-out (step rest (join og outer k left right)) (on-left ++ (on-right ++ [])) (step-fits rest (join og outer k left right) (omega arith))
@@ -222,23 +222,23 @@ module _ (room : ℕ) (schema : Schema) where
 
   -- ---- ShortCircuit
 
-  circuit-sized : (rest : ℕ) (n : Node) → Sized rest (Room.ShortCircuit room schema rest n) (ShortCircuit-with listing schema n)
-  circuit-sized rest n = circuit-related (refusing room schema) listing _ sized schema n rest
+  circuit-sized : (rest : ℕ) (n : Node) → Sized rest (Room.ShortCircuit room schema rest n) (ShortCircuit-with (toydb schema) listing n)
+  circuit-sized rest n = circuit-related (refusing room schema) listing _ sized (toydb schema) n rest
 
   -- ---- passes 2, 3 and 5
 
   pub pushdown-is : (rest : ℕ) (n : Node)
       → Room.FilterPushdown room schema rest n ≡ if-room (fit (Sizes.FilterPushdown schema rest n)) (Optimizer.FilterPushdown schema n)
-  pushdown-is rest n = pushdown-sized rest n ∙ ap (if-room (fit (Sizes.FilterPushdown schema rest n))) (pushdown-related listing plain _ listed schema n)
+  pushdown-is rest n = pushdown-sized rest n ∙ ap (if-room (fit (Sizes.FilterPushdown schema rest n))) (pushdown-related listing plain _ listed (toydb schema) n)
 
   pub lookup-is : (rest : ℕ) (n : Node) → rest + node-size n ≤ room
       → Room.IndexLookup room schema rest n ≡ if-room (fit (Sizes.IndexLookup schema rest n)) (Optimizer.IndexLookup schema n)
   lookup-is rest n h =
-      lookup-sized rest n h ∙ ap (if-room (fit (Sizes.IndexLookup schema rest n))) (lookup-related listing plain _ listed schema (λ m. refl) (λ m. refl) n)
+      lookup-sized rest n h ∙ ap (if-room (fit (Sizes.IndexLookup schema rest n))) (lookup-related listing plain _ listed (toydb schema) (λ m. refl) (λ m. refl) n)
 
   pub circuit-is : (rest : ℕ) (n : Node)
       → Room.ShortCircuit room schema rest n ≡ if-room (fit (Sizes.ShortCircuit schema rest n)) (Optimizer.ShortCircuit schema n)
-  circuit-is rest n = circuit-sized rest n ∙ ap (if-room (fit (Sizes.ShortCircuit schema rest n))) (circuit-related listing plain _ listed schema n)
+  circuit-is rest n = circuit-sized rest n ∙ ap (if-room (fit (Sizes.ShortCircuit schema rest n))) (circuit-related listing plain _ listed (toydb schema) n)
 
 -- ---- one pass, and all five
 

@@ -13,7 +13,7 @@ use Rattle.sql.specs.Expression.{Expression, size, into-nnf, into-cnf}
 use Rattle.sql.specs.Plan.{Node, leaf, over, join, over-size, join-size, node-size}
 use Rattle.sql.specs.Answer.{Answer, done, refused}
 use Rattle.sql.specs.Effect.{Effect}
-use Rattle.sql.specs.Optimizer.{fold-leaf, fold-over, fold-join, push-filters-from-with, FilterPushdown-with, IndexLookup-with, HashJoin-with, ShortCircuit-with}
+use Rattle.sql.specs.Optimizer.{toydb, fold-leaf, fold-over, fold-join, push-filters-from-with, FilterPushdown-with, IndexLookup-with, HashJoin-with, ShortCircuit-with}
 use Rattle.sql.specs.Optimizer
 
 -- the two normal forms of a predicate
@@ -72,19 +72,19 @@ module _ (schema : Schema) where
   -- ======== The passes after it
 
   abbrev pub push-filters-from : ℕ → (rest : ℕ) → Node → List ℕ
-  push-filters-from n rest node = push-filters-from-with listing schema n node .sizes rest
+  push-filters-from n rest node = push-filters-from-with (toydb schema) listing n node .sizes rest
 
   abbrev pub FilterPushdown : (rest : ℕ) → Node → List ℕ
-  FilterPushdown rest node = FilterPushdown-with listing schema node .sizes rest
+  FilterPushdown rest node = FilterPushdown-with (toydb schema) listing node .sizes rest
 
   abbrev pub IndexLookup : (rest : ℕ) → Node → List ℕ
-  IndexLookup rest node = IndexLookup-with listing schema node .sizes rest
+  IndexLookup rest node = IndexLookup-with (toydb schema) listing node .sizes rest
 
   abbrev pub HashJoin : (rest : ℕ) → Node → List ℕ
   HashJoin rest node = HashJoin-with listing schema node .sizes rest
 
   abbrev pub ShortCircuit : (rest : ℕ) → Node → List ℕ
-  ShortCircuit rest node = ShortCircuit-with listing schema node .sizes rest
+  ShortCircuit rest node = ShortCircuit-with (toydb schema) listing node .sizes rest
 
   -- ======== One pass by its number, and all five.
 
