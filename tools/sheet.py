@@ -387,6 +387,13 @@ def lines(data):
         yield f"{i} {tag} {flag} {a} {b} {c}"
 
 
+def totals(data):
+    """The line under them: how many cells belong to expressions, are parts of nodes, are nodes, by their tags, and in all."""
+    tags = [data[at] for at in cells_at(data)]
+    expressions, nodes = sum(tag < 40 for tag in tags), sum(tag >= 50 for tag in tags)
+    return f"kinds {expressions} {len(tags) - expressions - nodes} {nodes} total {len(tags)}"
+
+
 def edition_of(data):
     """A sheet's edition."""
     return struct.unpack("<I", data[-8:-4])[0]
@@ -411,4 +418,4 @@ if __name__ == "__main__":
         sys.exit(__doc__)
     with open(sys.argv[2], "rb") as f:
         content = f.read()
-    print("\n".join(lines(content) if sys.argv[1] == "list" else [f"{i} {n}" for i, n in enumerate(origins(content))]))
+    print("\n".join([*lines(content), totals(content)] if sys.argv[1] == "list" else [f"{i} {n}" for i, n in enumerate(origins(content))]))

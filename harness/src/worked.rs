@@ -124,11 +124,20 @@ pub fn listing(cells: &[Cell], bytes: u64, columns: u64) -> String {
     for (i, c) in cells.iter().enumerate() {
         out += &format!("{i} {} {} {} {} {}\n", c.tag, c.flag, c.a, c.b, c.c);
     }
-    out
+    // W-210: cells by their tags, below 40, 40 to 49, 50 and above.
+    let mut kinds = [0; 3];
+    for c in cells {
+        kinds[match c.tag {
+            0..=39 => 0,
+            40..=49 => 1,
+            _ => 2,
+        }] += 1;
+    }
+    out + &format!("kinds {} {} {} total {}\n", kinds[0], kinds[1], kinds[2], kinds.iter().sum::<u32>())
 }
 
-/// P1's listing in document 01.
-const P1: &str = "cells 3 bytes 68 columns 1\n0 3 0 1 0 0\n1 45 0 1 0 0\n2 63 0 1 0 0\n";
+/// P1's listing in document 01, with document 02's totals.
+const P1: &str = "cells 3 bytes 68 columns 1\n0 3 0 1 0 0\n1 45 0 1 0 0\n2 63 0 1 0 0\nkinds 1 1 1 total 3\n";
 
 /// Runs all of them and prints what each side gives. False on a difference.
 pub fn worked(mut put: impl FnMut(String)) -> bool {

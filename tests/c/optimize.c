@@ -30,7 +30,7 @@ static void refused(reqshabu_answer a) {
     printf("refused %" PRIu64 " place %" PRIu64 "\n", a.number, a.place);
 }
 
-/* The cells of the sheet that an operation wrote: number, tag, flag, a, b, c. */
+/* The cells of the sheet that an operation wrote: number, tag, flag, a, b, c; and how many of each kind there are, by their tags. */
 static void list(reqshabu_answer a, const uint8_t *written) {
     if (a.number != 0) {
         refused(a);
@@ -38,8 +38,12 @@ static void list(reqshabu_answer a, const uint8_t *written) {
     }
     printf("cells %" PRIu64 " bytes %" PRIu64 " columns %" PRIu64 "\n", a.cells, a.length, a.columns);
     const uint8_t *cell = written + word(written + a.length - 12);
-    for (uint64_t i = 0; i < a.cells; i++, cell += 16)
+    unsigned kinds[3] = {0, 0, 0};
+    for (uint64_t i = 0; i < a.cells; i++, cell += 16) {
         printf("%" PRIu64 " %u %u %" PRIu32 " %" PRIu32 " %" PRIu32 "\n", i, cell[0], cell[1], word(cell + 4), word(cell + 8), word(cell + 12));
+        kinds[cell[0] < 40 ? 0 : cell[0] < 50 ? 1 : 2]++;
+    }
+    printf("kinds %u %u %u total %u\n", kinds[0], kinds[1], kinds[2], kinds[0] + kinds[1] + kinds[2]);
 }
 
 static size_t origin(const uint8_t *cell) {

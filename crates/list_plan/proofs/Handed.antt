@@ -108,16 +108,16 @@ module _ (s : List ℕ) (b : Bytes s) where
 
 -- ---- what is written for an outcome
 
-refused-lines : (n : ℕ) (o : Outcome) → 1 ≤ n → lines-by n o ≡ refusal-line n (o .numbers .place)
+pub refused-lines : (n : ℕ) (o : Outcome) → 1 ≤ n → lines-by n o ≡ refusal-line n (o .numbers .place)
 refused-lines zero o h = absurd (omega arith)
 refused-lines (suc n) o h = refl
 
-found-lines : (n : ℕ) (o : Outcome) → n ≡ 0 → lines-by n o ≡ listing (sheet-of o) (o .numbers .columns)
+pub found-lines : (n : ℕ) (o : Outcome) → n ≡ 0 → lines-by n o ≡ listing (sheet-of o) (o .numbers .columns)
 found-lines zero o h = refl
 found-lines (suc n) o h = absurd (omega arith)
 
 -- lines that are written from the first byte on, with room for them
-from-first : {out : List ℕ} {w : List ℕ} {r : ℕ} {out′ : List ℕ} (s : List ℕ) → w ≡ listed s → length out′ ≡ length out → length w ≤ 94291 → 94291 ≤ length out → Wrote out 0 w r out′ → Lines s r out′
+from-first : {out : List ℕ} {w : List ℕ} {r : ℕ} {out′ : List ℕ} (s : List ℕ) → w ≡ listed s → length out′ ≡ length out → length w ≤ 94323 → 94323 ≤ length out → Wrote out 0 w r out′ → Lines s r out′
 from-first {out} {w} {r} {out′} s e k h l a =
     let (n, t) = fits-to a (omega arith) (omega arith) in
     record { within = omega arith; counted = length-take-le r out′ (omega arith); are = t ∙ e }
@@ -136,7 +136,7 @@ module _ (s : List ℕ) (b : Bytes s) (sheet : List ℕ) (o : Outcome) (e : o �
   pub outcome-within : o .numbers .number ≡ 0 → o .numbers .length ≤ length (o .output)
   outcome-within h = subst (λ (x : Outcome). x .numbers .length ≤ length (x .output)) (sym e) (handed-within s b sheet (number-is h))
 
-  module _ {out : List ℕ} {r : ℕ} {out′ : List ℕ} (same : length out′ ≡ length out) (long : 94291 ≤ length out) where
+  module _ {out : List ℕ} {r : ℕ} {out′ : List ℕ} (same : length out′ ≡ length out) (long : 94323 ≤ length out) where
     pub refusal-listed : 1 ≤ o .numbers .number → Wrote out 0 (refusal-line (o .numbers .number) (o .numbers .place)) r out′ → Lines s r out′
     refusal-listed h a =
         from-first s (sym (refused-lines (o .numbers .number) o h) ∙ lines-are) same

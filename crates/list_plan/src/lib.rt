@@ -3,9 +3,9 @@ ghost use Prim.Native.Nat.{_≤_};
 ghost use lib.ListN.{length};
 ghost use Rattle.list_plan.specs.Listed.{Lines};
 
-// No listing is longer than 94,291 bytes, and no sheet than 45,332, so there is always room.
+// No listing is longer than 94,323 bytes, and no sheet than 45,332, so there is always room.
 pub fn list(s: &[u8], out: &mut [u8]) -> usize
-    requires { ⌜ 94291 ≤ length (now out) ⌝ }
+    requires { ⌜ 94323 ≤ length (now out) ⌝ }
     ensures { λ r. ⌜ Lines (now (s .entry)) r (now (out .exit)) ⌝ }
 {
     let mut sheet = [0u8; 45332];

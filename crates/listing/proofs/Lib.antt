@@ -1,3 +1,5 @@
 pub mod Decimal
+pub mod Counted
 pub mod Written
 pub mod Size
+pub mod ReadBack

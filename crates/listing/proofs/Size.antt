@@ -1,4 +1,4 @@
--- No listing is longer than 94,291 bytes: a header of at most 83, and at most 2,048 lines of at most 46.
+-- No listing is longer than 94,323 bytes: a header of at most 83, at most 2,048 lines of at most 46, and totals of at most 32.
 use Prim.Native.Nat.{ℕ, zero, suc, _+_, _*_, _/_, _%_, _≤_, _<_}
 use native.Mathlib.Nat.{div-lt-iff-lt-mul}
 use native.Mathlib.Omega.{arith}
@@ -12,12 +12,13 @@ use Rattle.sheet.specs.Bytes.{byte, word}
 use Rattle.sheet.specs.Parts.{cell-count, cells-at, record-at}
 use Rattle.sheet.specs.Cell.{Cell, cell}
 use Rattle.sheet.specs.Check.{cells-of}
-use Rattle.sheet.specs.Listing.{digits, decimal, line, header, cell-line, cell-lines, listing, refusal-line}
+use Rattle.sheet.specs.Listing.{digits, decimal, line, header, cell-line, cell-lines, is-expression, is-part, is-node, of-kind, totals-line, totals, listing, refusal-line}
 use Rattle.cells.proofs.Laws.{lt-or-ge}
 use Rattle.listing.proofs.Decimal.{last-digit, more-digits}
+use Rattle.listing.proofs.Counted.{each-counted, all-long}
 
 -- 10 to the power j
-abbrev tens : ℕ → ℕ
+abbrev pub tens : ℕ → ℕ
 tens zero = 1
 tens (suc j) = 10 * tens j
 
@@ -93,6 +94,15 @@ header-short cells bytes columns =
     (most 20 cells) in
     omega arith
 
+totals-short : (e p n : ℕ) → e + p + n ≤ 2048 → length (totals-line e p n) ≤ 32
+totals-short e p n h =
+    let sum = behind (e + p + n) 10 4 [] (few 20 (e + p + n) 3 (omega arith)) in
+    let nodes = behind n 32 4 (116 ∷ 111 ∷ 116 ∷ 97 ∷ 108 ∷ 32 ∷ (decimal (e + p + n) ++ (10 ∷ []))) (few 20 n 3 (omega arith)) in
+    let parts = behind p 32 4 (decimal n ++ (32 ∷ 116 ∷ 111 ∷ 116 ∷ 97 ∷ 108 ∷ 32 ∷ (decimal (e + p + n) ++ (10 ∷ [])))) (few 20 p 3 (omega arith)) in
+    let expressions =
+    behind e 32 4 (decimal p ++ (32 ∷ (decimal n ++ (32 ∷ 116 ∷ 111 ∷ 116 ∷ 97 ∷ 108 ∷ 32 ∷ (decimal (e + p + n) ++ (10 ∷ [])))))) (few 20 e 3 (omega arith)) in
+    omega arith
+
 small-cell : (s : List ℕ) → ((i : ℕ) → byte s i < 256) → (i : ℕ) → Small (cell s i)
 unfolding cell word
 small-cell s b i =
@@ -105,14 +115,16 @@ small-cell s b i =
       c-small = omega (arith, b (at + 12), b (at + 12 + 1), b (at + 12 + 2), b (at + 12 + 3));
     }
 
-pub listing-short : (s : List ℕ) (columns : ℕ) → ((i : ℕ) → byte s i < 256) → cell-count s ≤ 2048 → length (listing s columns) ≤ 94291
+pub listing-short : (s : List ℕ) (columns : ℕ) → ((i : ℕ) → byte s i < 256) → cell-count s ≤ 2048 → length (listing s columns) ≤ 94323
 unfolding listing cells-of
 listing-short s columns b h =
     omega (
       arith,
-      length-append (header (cell-count s) (length s) columns) (cell-lines 0 (cells-of s)),
+      length-append (header (cell-count s) (length s) columns) (cell-lines 0 (cells-of s) ++ totals (cells-of s)),
+      length-append (cell-lines 0 (cells-of s)) (totals (cells-of s)),
       header-short (cell-count s) (length s) columns,
       lines-short (cell s) (small-cell s b) (cell-count s) 0 (omega arith),
+      totals-short (of-kind is-expression (cells-of s)) (of-kind is-part (cells-of s)) (of-kind is-node (cells-of s)) (omega (arith, each-counted (cells-of s), all-long s)),
     )
 
 pub refusal-short : (number place : ℕ) → length (refusal-line number place) ≤ 56

@@ -9,12 +9,13 @@ use Rattle.sql.specs.Plan.{up-to}
 use Rattle.sheet.specs.Parts.{cell-count}
 use Rattle.sheet.specs.Cell.{Cell, cell}
 use Rattle.sheet.specs.Check.{cells-of}
-use Rattle.sheet.specs.Listing.{decimal, header, cell-line, cell-lines, listing}
+use Rattle.sheet.specs.Listing.{decimal, header, cell-line, cell-lines, is-expression, is-part, of-kind, totals-line, totals, listing}
 use Rattle.layout.specs.Layout.{as-cell, IsCell}
 use Rattle.layout.specs.declared.Cell as Code
 use Rattle.cells.specs.Room.{Wrote}
 use Rattle.cells.proofs.Laws.{then, nothing}
-use Rattle.listing.specs.Lines.{ended}
+use Rattle.listing.specs.declared.Kinds.{Kinds}
+use Rattle.listing.specs.Lines.{ended, IsKinds}
 use Rattle.listing.proofs.Decimal.{as-written}
 
 -- a number with the byte that ends it, and what is written after it
@@ -54,8 +55,20 @@ pub lines-all : {d : List ℕ} {at r : ℕ} {d′ : List ℕ} (s : List ℕ) (i 
 unfolding cells-of
 lines-all s i e w = as-written (ap (lines-to s) e) w
 
-pub listing-written : {d : List ℕ} {at m : ℕ} {d₁ : List ℕ} {r : ℕ} {d₂ : List ℕ} (s : List ℕ) (columns n : ℕ) → n ≡ cell-count s
-    → length d₁ ≡ length d → Wrote d at (header n (length s) columns) m d₁ → Wrote d₁ m (cell-lines 0 (cells-of s)) r d₂ → Wrote d at (listing s columns) r d₂
+-- the totals of a list of cells, by their counts
+pub totals-written : {d : List ℕ} {at r : ℕ} {d′ : List ℕ} (cells : List Cell) (k : Kinds) → IsKinds cells k
+    → Wrote d at (totals-line (k .expressions) (k .parts) (k .nodes)) r d′ → Wrote d at (totals cells) r d′
+totals-written cells k c w =
+    as-written
+    (ap (λ (e : ℕ). totals-line e (k .parts) (k .nodes)) (c .expressions-are)
+    ∙ ap (λ (p : ℕ). totals-line (of-kind is-expression cells) p (k .nodes)) (c .parts-are)
+    ∙ ap (λ (n : ℕ). totals-line (of-kind is-expression cells) (of-kind is-part cells) n) (c .nodes-are))
+    w
+
+pub listing-written : {d : List ℕ} {at m : ℕ} {d₁ : List ℕ} {l : ℕ} {d₂ : List ℕ} {r : ℕ} {d₃ : List ℕ} (s : List ℕ) (columns n : ℕ) → n ≡ cell-count s
+    → length d₁ ≡ length d → Wrote d at (header n (length s) columns) m d₁
+    → length d₂ ≡ length d₁ → Wrote d₁ m (cell-lines 0 (cells-of s)) l d₂
+    → Wrote d₂ l (totals (cells-of s)) r d₃ → Wrote d at (listing s columns) r d₃
 unfolding listing
-listing-written s columns n e k a b =
-    as-written (ap (λ (i : ℕ). header i (length s) columns ++ cell-lines 0 (cells-of s)) e) (then k a b)
+listing-written s columns n e k a j b c =
+    as-written (ap (λ (i : ℕ). header i (length s) columns ++ (cell-lines 0 (cells-of s) ++ totals (cells-of s))) e) (then k a (then j b c))

@@ -1,5 +1,5 @@
-// Document 01's listing of a sheet, as bytes in a lent slice: a header line, then a line for each cell, in unsigned decimal. What has no room ends past the
-// end of the slice (crate cells).
+// The listing of a sheet, as bytes in a lent slice: a header line, a line for each cell, and a line of totals, in unsigned decimal. What has no room ends past
+// the end of the slice (crate cells).
 ghost use mathlib.Core.Path.{_≡_};
 ghost use mathlib.Core.List.{[], _∷_, _++_};
 ghost use Prim.Native.Nat.{_+_, _*_, _≤_, _<_};
@@ -8,7 +8,7 @@ ghost use Rattle.sheet.specs.Check.{cells-of};
 ghost use Rattle.layout.specs.Layout.{Whole, as-cell};
 ghost use Rattle.sheet.specs.Listing;
 ghost use Rattle.cells.specs.Room.{Wrote};
-ghost use Rattle.listing.specs.Lines.{ended, Listed};
+ghost use Rattle.listing.specs.Lines.{ended, Listed, FewKinds, OneMore, IsKinds};
 
 // One byte after the first `at` bytes of d.
 fn put(d: &mut [u8], at: usize, b: u8) -> usize
@@ -105,6 +105,79 @@ fn header(cells: usize, bytes: usize, columns: usize, d: &mut [u8], at: usize) -
     number(columns, NEWLINE, d, f)
 }
 
+// How many cells there are of each kind.
+pub struct Kinds {
+    pub expressions: usize,
+    pub parts: usize,
+    pub nodes: usize,
+}
+
+// The lowest tag of a part of a node, and of a node.
+const FIRST_PART: u32 = 40;
+
+const FIRST_NODE: u32 = 50;
+
+// One cell more, by its tag.
+fn one_more(k: Kinds, tag: u32) -> Kinds
+    requires { ⌜ FewKinds k ⌝ }
+    ensures { λ r. ⌜ OneMore k tag r ⌝ }
+{
+    if tag < FIRST_PART {
+        return Kinds {
+            expressions: k.expressions + 1,
+            parts: k.parts,
+            nodes: k.nodes,
+        };
+    }
+    if tag < FIRST_NODE {
+        return Kinds {
+            expressions: k.expressions,
+            parts: k.parts + 1,
+            nodes: k.nodes,
+        };
+    }
+    Kinds {
+        expressions: k.expressions,
+        parts: k.parts,
+        nodes: k.nodes + 1,
+    }
+}
+
+// The cells of the sheet s, counted by kind.
+fn kinds_of(s: &[u8]) -> Kinds
+    requires { ⌜ Whole (now s) ⌝ }
+    ensures { λ r. ⌜ IsKinds (cells-of (now (s .entry))) r ⌝ }
+{
+    let p = layout::parts_of(s);
+    let count = p.cells.count;
+    let mut k = Kinds {
+        expressions: 0,
+        parts: 0,
+        nodes: 0,
+    };
+    let mut i: usize = 0;
+    while i < count {
+        let cell = cell_view::cell_of(s, i);
+        k = one_more(k, cell.tag);
+        i += 1;
+    }
+    k
+}
+
+// "kinds E P N total T" of the sheet s.
+fn totals(s: &[u8], d: &mut [u8], at: usize) -> usize
+    requires { ⌜ Whole (now s) ⌝ }
+    ensures { λ r. ⌜ Wrote (now (d .entry)) at (Listing.totals (cells-of (now (s .entry)))) r (now (d .exit)) ⌝ }
+{
+    let k = kinds_of(s);
+    let a = text(b"kinds ", d, at);
+    let b = number(k.expressions, SPACE, d, a);
+    let c = number(k.parts, SPACE, d, b);
+    let e = number(k.nodes, SPACE, d, c);
+    let f = text(b"total ", d, e);
+    number(k.expressions + k.parts + k.nodes, NEWLINE, d, f)
+}
+
 // The listing of a sheet whose plan has so many columns.
 pub fn listing(s: &[u8], columns: usize, d: &mut [u8], at: usize) -> usize
     requires { ⌜ Whole (now s) ⌝ }
@@ -112,7 +185,8 @@ pub fn listing(s: &[u8], columns: usize, d: &mut [u8], at: usize) -> usize
 {
     let p = layout::parts_of(s);
     let m = header(p.cells.count, s.len(), columns, d, at);
-    cell_lines(s, d, m)
+    let n = cell_lines(s, d, m);
+    totals(s, d, n)
 }
 
 // "refused N place P"

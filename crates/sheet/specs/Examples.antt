@@ -1,5 +1,6 @@
 -- Small sheets, worked out: what all five passes hand out for that of document 01's P1, and a listing. (What the program prints of P1: crate list_plan.)
 use Prim.Native.Nat.{ℕ}
+use mathlib.Core.Bool.{true, false}
 use mathlib.Core.List.{List, [], _∷_}
 use mathlib.Core.Path.{_≡_, refl}
 use lib.ListN.{replicate}
@@ -11,7 +12,7 @@ use Rattle.sheet.specs.Parts.{length-ok, edition-ok, parts-ok, bad-recor
 use Rattle.sheet.specs.Cell.{cell, cell-ok, bad-cell}
 use Rattle.sheet.specs.Tree.{read}
 use Rattle.sheet.specs.Operations.{Outcome, all-five}
-use Rattle.sheet.specs.Listing.{listing}
+use Rattle.sheet.specs.Listing.{listing, is-expression, is-part, is-node}
 
 -- Filter(Values(Row(1)), And(true, Not(false))), no text or tables: 148 bytes
 abbrev pub P1 : List ℕ
@@ -43,8 +44,15 @@ labelled-nothing =
 -- cells 2 bytes 52 columns 1
 -- 0 40 1 0 0 0
 -- 1 57 0 1 0 0
+-- kinds 0 1 1 total 2
 nothing-listed : listing labelled-nothing 1
     ≡ (99 ∷ 101 ∷ 108 ∷ 108 ∷ 115 ∷ 32 ∷ 50 ∷ 32 ∷ 98 ∷ 121 ∷ 116 ∷ 101 ∷ 115 ∷ 32 ∷ 53 ∷ 50 ∷ 32 ∷ 99 ∷ 111 ∷ 108 ∷ 117 ∷ 109 ∷ 110 ∷ 115 ∷
-    32 ∷ 49 ∷ 10 ∷ 48 ∷ 32 ∷ 52 ∷ 48 ∷ 32 ∷ 49 ∷ 32 ∷ 48 ∷ 32 ∷ 48 ∷ 32 ∷ 48 ∷ 10 ∷ 49 ∷ 32 ∷ 53 ∷ 55 ∷ 32 ∷ 48 ∷ 32 ∷ 49 ∷ 32 ∷ 48 ∷ 32 ∷ 48 ∷ 10 ∷ [])
+    32 ∷ 49 ∷ 10 ∷ 48 ∷ 32 ∷ 52 ∷ 48 ∷ 32 ∷ 49 ∷ 32 ∷ 48 ∷ 32 ∷ 48 ∷ 32 ∷ 48 ∷ 10 ∷ 49 ∷ 32 ∷ 53 ∷ 55 ∷ 32 ∷ 48 ∷ 32 ∷ 49 ∷ 32 ∷ 48 ∷ 32 ∷ 48 ∷ 10 ∷
+    107 ∷ 105 ∷ 110 ∷ 100 ∷ 115 ∷ 32 ∷ 48 ∷ 32 ∷ 49 ∷ 32 ∷ 49 ∷ 32 ∷ 116 ∷ 111 ∷ 116 ∷ 97 ∷ 108 ∷ 32 ∷ 50 ∷ 10 ∷ [])
 unfolding listing half word cell
 nothing-listed = refl
+
+-- The tags on either side of a border: expressions below 40, parts 40 to 49, nodes from 50 on.
+kinds-at-borders : (is-expression 39 ≡ true) × (is-expression 40 ≡ false) × (is-part 39 ≡ false) × (is-part 40 ≡ true)
+    × (is-part 49 ≡ true) × (is-part 50 ≡ false) × (is-node 49 ≡ false) × (is-node 50 ≡ true)
+kinds-at-borders = (refl, refl, refl, refl, refl, refl, refl, refl)

@@ -1,8 +1,8 @@
--- Document 01's listing of a sheet, as bytes: a header line, then a line for each cell, in unsigned decimal.
+-- The listing of a sheet, as bytes: a header line, then a line for each cell, in unsigned decimal (document 01), and a line of totals (document 02, W-210).
 use Prim.Native.Nat.{ℕ, zero, suc, _+_, _*_, _/_, _%_}
-use mathlib.Core.Bool.{Bool, true, false, cond}
+use mathlib.Core.Bool.{Bool, true, false, cond, _&&_}
 use mathlib.Core.List.{List, [], _∷_, _++_}
-use lib.Dec.{ltb}
+use lib.Dec.{ltb, leb}
 use lib.ListN.{length}
 use Rattle.sheet.specs.Parts.{cell-count}
 use Rattle.sheet.specs.Cell.{Cell}
@@ -45,10 +45,42 @@ header cells bytes columns =
     ++ ((space ∷ 98 ∷ 121 ∷ 116 ∷ 101 ∷ 115 ∷ space ∷ decimal bytes)
     ++ ((space ∷ 99 ∷ 111 ∷ 108 ∷ 117 ∷ 109 ∷ 110 ∷ 115 ∷ space ∷ decimal columns) ++ (newline ∷ [])))
 
+-- ---- the totals under the cell lines
+
+-- how many entries of a list pass a test
+abbrev pub count : {A : Type 0} → (A → Bool) → List A → ℕ
+count test [] = 0
+count test (x ∷ xs) = cond (test x) 1 0 + count test xs
+
+-- The three kinds of cells, by their tag: those of expressions, parts of nodes, and nodes.
+abbrev pub is-expression : ℕ → Bool
+is-expression tag = ltb tag 40
+
+abbrev pub is-part : ℕ → Bool
+is-part tag = leb 40 tag && ltb tag 50
+
+abbrev pub is-node : ℕ → Bool
+is-node tag = leb 50 tag
+
+-- how many cells are of a kind
+abbrev pub of-kind : (ℕ → Bool) → List Cell → ℕ
+of-kind kind cells = count (λ (k : Cell). kind (k .tag)) cells
+
+-- "kinds E P N total T", T being their sum
+abbrev pub totals-line : (expressions parts nodes : ℕ) → List ℕ
+totals-line expressions parts nodes =
+    (107 ∷ 105 ∷ 110 ∷ 100 ∷ 115 ∷ space ∷ decimal expressions)
+    ++ ((space ∷ decimal parts)
+    ++ ((space ∷ decimal nodes)
+    ++ ((space ∷ 116 ∷ 111 ∷ 116 ∷ 97 ∷ 108 ∷ space ∷ decimal (expressions + parts + nodes)) ++ (newline ∷ []))))
+
+abbrev pub totals : List Cell → List ℕ
+totals cells = totals-line (of-kind is-expression cells) (of-kind is-part cells) (of-kind is-node cells)
+
 -- the listing of a sheet whose plan has so many columns
 unfoldable pub listing : (sheet : List ℕ) → (columns : ℕ) → List ℕ
 unfolding digits cell-lines cells-of
-listing sheet columns = header (cell-count sheet) (length sheet) columns ++ cell-lines 0 (cells-of sheet)
+listing sheet columns = header (cell-count sheet) (length sheet) columns ++ (cell-lines 0 (cells-of sheet) ++ totals (cells-of sheet))
 
 -- "refused N place P"
 unfoldable pub refusal-line : (number place : ℕ) → List ℕ

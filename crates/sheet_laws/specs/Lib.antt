@@ -13,3 +13,4 @@ pub mod Same
 pub mod Handed
 pub mod Widest
 pub mod Examples
+pub mod Tags

@@ -5,7 +5,7 @@ use libc::STDOUT_FILENO;
 fn main() {
     let mut buffer = [0u8; 45333];
     let n = io::read_full(0, &mut buffer);
-    let mut lines = [0u8; 94291];
+    let mut lines = [0u8; 94323];
     let m = list_plan::list(&buffer[..n], &mut lines);
     io::write_all(STDOUT_FILENO, &lines[..m]);
 }

@@ -3,12 +3,12 @@
 use Prim.Native.Nat.{ℕ, zero, suc, _+_, _*_, _/_, _≤_, _<_}
 use native.Mathlib.Nat.{div-lt-iff-lt-mul, mod-lt, mod-add-div}
 use native.Mathlib.Omega.{arith}
-use borrow.Author.Tests.{leb-true, ltb-true, ltb-false, eqb-true}
+use borrow.Author.Tests.{leb-true, ltb-true, eqb-true}
 use mathlib.Core.Path.{_≡_, refl, sym, ap, _∙_, subst}
 use mathlib.Core.Bool.{Bool, true, false, cond}
 use mathlib.Core.List.{List, [], _∷_, _++_, append-assoc}
 use lib.Dec.{leb, ltb, eqb}
-use lib.ListN.{length, take, getD, length-append, List·getD-eq-default}
+use lib.ListN.{length, take, getD, length-append}
 use lib.Seq.{length-take-le, take-at}
 use Rattle.sql.specs.Answer.{done}
 use Rattle.sql.specs.Plan.{Node, node-size}
@@ -24,6 +24,7 @@ use Rattle.sheet_laws.specs.Content.{and-left, and-right}
 use Rattle.sheet_laws.specs.Accepted.{accepted}
 use Rattle.sheet_laws.specs.Layout.{none-failing}
 use Rattle.sheet_laws.specs.Plan.{Bytes, parts-of}
+use Rattle.sheet_laws.specs.Tags.{tag-small}
 use Rattle.sheet_laws.specs.Bytes.{byte-after, half-after, length-cell-bytes}
 use Rattle.rows.specs.Equalities.{all}
 use Rattle.sound.specs.Lists.{all-append, getD-of}
@@ -59,19 +60,11 @@ fields-small origins bytes tables m k (carried flags a b c) f h =
     let z = and-right (ltb (k .flag) flags) _ h in
     (omega arith, (let o = ltb-true (k .origin) origins (and-left (ltb (k .origin) origins) _ z) in omega arith))
 
--- tags are from 0 to 63
-tag-small : (origins bytes tables : ℕ) (k : Cell) → fields-ok origins bytes tables k (getD tags (k .tag) unknown) ≡ true → k .tag < 256
-tag-small origins bytes tables k h = go (ltb (k .tag) 64) refl
-  where
-    go : (t : Bool) → ltb (k .tag) 64 ≡ t → k .tag < 256
-    go true e = let p = ltb-true (k .tag) 64 e in omega arith
-    go false e = false-true (sym (ap (fields-ok origins bytes tables k) (List·getD-eq-default tags unknown {n = k .tag} (ltb-false (k .tag) 64 e))) ∙ h)
-
 cell-small : (origins bytes tables : ℕ) → origins ≤ 65536 → (k : Cell) → cell-ok origins bytes tables k ≡ true → Small k
 unfolding cell-ok tag-of
 cell-small origins bytes tables m k h =
     let f = and-left (fields-ok origins bytes tables k (getD tags (k .tag) unknown)) _ h in
-    (tag-small origins bytes tables k f, fields-small origins bytes tables m k (getD tags (k .tag) unknown) (few-at tags (k .tag) refl) f)
+    (omega (arith, tag-small origins bytes tables k f), fields-small origins bytes tables m k (getD tags (k .tag) unknown) (few-at tags (k .tag) refl) f)
 
 -- ---- what is written
 

@@ -33,7 +33,8 @@ A sheet of edition 2 says where its cells came from: behind each cell number sta
 conditions, and what each came from.
 
   -o OUT     writes the sheet that comes out to OUT, whole or not at all, instead of showing it
-  --list     shows cells as numbers, one line each: number tag flag a b c
+  --list     shows cells as numbers, one line each: number tag flag a b c; and how many belong to
+             expressions, are parts of nodes, are nodes, and in all: kinds E P N total T
   --dot      shows the plan as a graph for Graphviz: reqshabu explain --dot FILE | dot -Tsvg >plan.svg
   FILE -     standard input; OUT - is standard output
 

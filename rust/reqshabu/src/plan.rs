@@ -319,13 +319,16 @@ impl<'a> Plan<'a> {
         text_at(self.text, reference).unwrap_or_default()
     }
 
-    /// The cells as numbers, as the program sheet_list prints them: a header, then number, tag, flag, a, b and c of each cell.
+    /// The cells as numbers, as the program sheet_list prints them: a header, then number, tag, flag, a, b and c of each cell, and how many cells belong to
+    /// expressions, are parts of nodes, are nodes (by their tags: below 40, 40 to 49, 50 and above), and in all.
     pub fn list(&self) -> String {
         let mut text = format!("cells {} bytes {} columns {}\n", self.cells.len(), self.length, self.widths[self.root()]);
         for (i, Cell { tag, flag, a, b, c, .. }) in self.cells.iter().enumerate() {
             text += &format!("{i} {tag} {flag} {a} {b} {c}\n");
         }
-        text
+        let before = |tag: u8| self.cells.iter().filter(|cell| cell.tag < tag).count();
+        let (expressions, parts, total) = (before(40), before(50) - before(40), self.cells.len());
+        text + &format!("kinds {expressions} {parts} {} total {total}\n", total - before(50))
     }
 }
 

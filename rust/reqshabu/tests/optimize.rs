@@ -27,10 +27,10 @@ fn sheets() -> Vec<(String, Vec<u8>)> {
 }
 
 #[test]
-fn p1_is_document_01s_text() {
+fn p1_is_the_documents_text() {
     let mut output = output();
     let answer = optimize(&example("p1"), &mut output);
-    assert_eq!(listing(answer, &output), "cells 3 bytes 68 columns 1\n0 3 0 1 0 0\n1 45 0 1 0 0\n2 63 0 1 0 0\n");
+    assert_eq!(listing(answer, &output), "cells 3 bytes 68 columns 1\n0 3 0 1 0 0\n1 45 0 1 0 0\n2 63 0 1 0 0\nkinds 1 1 1 total 3\n");
 }
 
 #[test]
@@ -42,7 +42,7 @@ fn p7_after_pass_2() {
         6 0 0 0 0,3 0 5 0 0,12 0 0 0 0,6 0 0 0 0,3 0 5 0 0,12 0 0 0 0,10 0 0 0 0,62 1 0 0 0,\
         6 0 0 0 0,6 0 1 0 0,12 0 0 0 0,6 0 0 0 0,3 0 5 0 0,12 0 0 0 0,10 0 0 0 0,56 1 0 0 0";
     let lines: String = cells.split(',').enumerate().map(|(i, cell)| format!("{i} {cell}\n")).collect();
-    assert_eq!(listing(answer, &output), format!("cells 19 bytes 358 columns 2\n{lines}"));
+    assert_eq!(listing(answer, &output), format!("cells 19 bytes 358 columns 2\n{lines}kinds 15 1 3 total 19\n"));
 }
 
 #[test]

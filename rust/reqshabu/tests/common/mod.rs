@@ -103,7 +103,7 @@ pub fn example(name: &str) -> Vec<u8> {
     fs::read(Path::new(env!("CARGO_MANIFEST_DIR")).join("../../examples").join(name).with_extension("sheet")).unwrap()
 }
 
-/// What the listing program prints: a header and a line for each cell of the sheet written, or the refusal.
+/// What the listing program prints: a header, a line for each cell of the sheet written and the totals, or the refusal.
 pub fn listing(answer: Result<Written, Refusal>, output: &[u8]) -> String {
     let written = match answer {
         Ok(written) => written,
@@ -113,11 +113,14 @@ pub fn listing(answer: Result<Written, Refusal>, output: &[u8]) -> String {
     let word = |at: usize| u32::from_le_bytes(bytes[at..at + 4].try_into().unwrap());
     let mut text = format!("cells {} bytes {} columns {}\n", written.cells, written.length, written.columns);
     let start = word(bytes.len() - 12) as usize;
+    let mut kinds = [0; 3];
     for i in 0..written.cells as usize {
         let at = start + 16 * i;
+        kinds[usize::from(bytes[at] >= 40) + usize::from(bytes[at] >= 50)] += 1;
         text += &format!("{i} {} {} {} {} {}\n", bytes[at], bytes[at + 1], word(at + 4), word(at + 8), word(at + 12));
     }
-    text
+    let [expressions, parts, nodes] = kinds;
+    text + &format!("kinds {expressions} {parts} {nodes} total {}\n", expressions + parts + nodes)
 }
 
 /// Work on a thread with a stack of 1 MiB.
