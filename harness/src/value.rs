@@ -2,8 +2,9 @@
 //! and what value.rs and expression.rs evaluate to, on values of our own.
 //!
 //! Folding and the reader of rows use it. Floats are bit patterns. What Add,
-//! Divide, Subtract, Multiply, Negate and SquareRoot give gets the one NaN; Identity hands its value back as
-//! it is, so that a table's NaN of another pattern passes through.
+//! Divide, Subtract, Multiply, Negate and SquareRoot give gets the one NaN;
+//! Identity hands its value back as it is, so that a table's NaN of another
+//! pattern passes through.
 
 use std::cmp::Ordering;
 
