@@ -13,7 +13,7 @@ use lib.Seq.{drop-cons, drop-nil}
 use borrow.Author.Tests.{le-leb, lt-leb, leb-true}
 use Rattle.sheet_laws.specs.Content.{and-left, and-right}
 use Rattle.grammar.specs.Parts.{digit}
-use Rattle.condition_machine.specs.Lean.{World, world, to-mode, to-stage, counted, four-words, if-room, put-in, disjoin, compared, fill, operand, reopened, closes, ended, All, all, beside, begin, signed, number-ends, number, number-before, next-digit, within, placed, step, finish, at-end, run}
+use Rattle.condition_machine.specs.Lean.{World, world, to-mode, to-stage, counted, four-words, if-room, put-in, disjoin, compared, fill, operand, reopened, closes, ended, All, all, beside, begin, signed, number-tag, number-low, number-high, number-ends, number, number-before, next-digit, within, placed, step, finish, at-end, run}
 use Rattle.condition_machine.specs.declared.Machine.{Machine}
 use Rattle.condition_machine.proofs.Laws.{pick-lt, skip-lt, pick-eq, skip-eq, pick-b, skip-b}
 
@@ -39,11 +39,23 @@ close-last w v p r d e k h g f = f ∙ ap (λ (z : Machine). fill (world z d)) g
 pub end-last : (w : World) (p r : Machine) (d : List ℕ) → world p d ≡ disjoin w → r ≡ to-mode 0 p → world r d ≡ ended (disjoin w)
 end-last w p r d h g = ap (λ (z : Machine). world z d) g ∙ ap ended h
 
-pub number-last : (m p : Machine) (out : List ℕ) (bits s : ℕ) (v : World) → p ≡ to-mode 1 m → bits ≡ s
-    → v ≡ operand 3 (bits % 4294967296) (bits / 4294967296) (world p out) → v ≡ operand 3 (s % 4294967296) (s / 4294967296) (world (to-mode 1 m) out)
-number-last m p out bits s v h g f =
-    f ∙ ap (λ (b : ℕ). operand 3 (b % 4294967296) (b / 4294967296) (world p out)) g
-    ∙ ap (λ (z : Machine). operand 3 (s % 4294967296) (s / 4294967296) (world z out)) h
+pub number-is : (m p : Machine) (out : List ℕ) (tag a b : ℕ) (v : World) → p ≡ to-mode 1 m → tag ≡ number-tag (m .mode) → a ≡ number-low (m .mode) (m .value)
+    → b ≡ number-high (m .mode) (m .value) → v ≡ operand tag a b (world p out) → v ≡ number-ends (world m out)
+unfolding number-tag number-low number-high number-ends
+number-is m p out tag a b v e f g h k =
+    k ∙ (λ i. operand (f i) (g i) (h i) (world (e i) out)) ∙ go (eqb (m .mode) 6)
+  where
+    low : ℕ
+    low = signed (m .mode) (m .value) % 4294967296
+
+    high : ℕ
+    high = signed (m .mode) (m .value) / 4294967296
+
+    go : (t : Bool)
+        → operand (cond t 6 3) (cond t (m .value) low) (cond t 0 high) (world (to-mode 1 m) out)
+        ≡ cond t (operand 6 (m .value) 0 (world (to-mode 1 m) out)) (operand 3 low high (world (to-mode 1 m) out))
+    go true = refl
+    go false = refl
 
 pub string-last : (m p : Machine) (out : List ℕ) (a s : ℕ) (v : World) → p ≡ to-mode 0 m → a ≡ s → v ≡ operand 5 a 0 (world p out)
     → v ≡ operand 5 s 0 (world (to-mode 0 m) out)

@@ -183,15 +183,45 @@ fn signed(mode: usize, value: usize) -> usize
     18446744073709551615 - (value - 1)
 }
 
+// The cell of a number, a column's or an integer's: its tag, and its two words.
+fn number_tag(mode: usize) -> usize
+    ensures { λ r. ⌜ r ≡ Lean.number-tag mode ⌝ }
+{
+    if mode == 6 {
+        return 6;
+    }
+    3
+}
+
+fn number_low(mode: usize, value: usize) -> usize
+    ensures { λ r. ⌜ r ≡ Lean.number-low mode value ⌝ }
+{
+    if mode == 6 {
+        return value;
+    }
+    let bits = signed(mode, value);
+    bits % 4294967296
+}
+
+fn number_high(mode: usize, value: usize) -> usize
+    ensures { λ r. ⌜ r ≡ Lean.number-high mode value ⌝ }
+{
+    if mode == 6 {
+        return 0;
+    }
+    let bits = signed(mode, value);
+    bits / 4294967296
+}
+
+// One call of `operand`, with numbers chosen before it, so that the machine stays in registers.
 fn number_ends(m: Machine, out: &mut [u8]) -> Machine
     ensures { λ r. ⌜ world r (now (out .exit)) ≡ Lean.number-ends (world m (now (out .entry))) ⌝ }
 {
     let p = to_mode(m, 1);
-    if m.mode == 6 {
-        return operand(p, out, 6, m.value, 0);
-    }
-    let bits = signed(m.mode, m.value);
-    operand(p, out, 3, bits % 4294967296, bits / 4294967296)
+    let tag = number_tag(m.mode);
+    let a = number_low(m.mode, m.value);
+    let b = number_high(m.mode, m.value);
+    operand(p, out, tag, a, b)
 }
 
 fn greatest(mode: usize) -> usize

@@ -20,6 +20,7 @@ use Rattle.condition_machine.specs.Lean.{World, all}
 use Rattle.condition_laws.specs.Drawn.{Count, drawn}
 use Rattle.condition_laws.specs.Bytes.{pick-b, skip-b}
 use Rattle.condition_laws.specs.Runs.{Leaves, lean-reads}
+use Rattle.condition_laws.specs.Few.{condition-few}
 use Rattle.condition_laws.specs.Written.{condition-plain, counted-all, counted-over, written-all}
 
 pub too-long : (text out : List ℕ) → 8192 < length text → refuse out 2 0 ≡ condition text out
@@ -44,19 +45,23 @@ count-of e n o d h m = go (decLt 2048 (length (expression-cells e)))
         let all : drawn (expression-cells e) (0, d) .0 ≡ 0 + length (expression-cells e) = counted-all (expression-cells e) 0 d (omega arith) in
         (omega arith, omega (arith, is))
 
-module _ (text stack small : List ℕ) (l : length text ≤ 8192) (k : length stack ≡ 8192) (w : World) (ran : w ≡ Lean.run 0 text (all Lean.start stack small)) where
+-- A buffer with room for a cell a byte, or for 2,048, has room for all the cells that are handed out.
+pub record Room (text small : List ℕ) : Type 0 where
+  pub for-each : (n : ℕ) → n ≤ length text → n ≤ 2048 → 16 * n ≤ length small
+
+module _ (text stack small : List ℕ) (l : length text ≤ length stack) (k : length stack ≤ 8192) (w : World) (ran : w ≡ Lean.run 0 text (all Lean.start stack small)) where
   leaves : Leaves small (reading text) w
   leaves = subst (Leaves small (reading text)) (sym ran) (lean-reads small text stack l k)
 
   pub not-taken : (out : List ℕ) → w .0 .mode ≡ 24 → refuse out 22 (w .0 .value) ≡ condition text out
-  not-taken out s = go (reading text) leaves ∙ short text out l
+  not-taken out s = go (reading text) leaves ∙ short text out (omega arith)
     where
       go : (r : Reading) → Leaves small r w → refuse out 22 (w .0 .value) ≡ answered out r
       go (refused p) h = ap (refuse out 22) (h .1)
       go (taken e) h = let z : _≡_ {A = ℕ} 0 24 = sym (h .0) ∙ s in absurd (omega arith)
 
   pub too-many : (out : List ℕ) → (w .0 .mode ≡ 24 → ⊥) → 2048 < w .0 .cells → refuse out 14 0 ≡ condition text out
-  too-many out s m = go (reading text) leaves ∙ short text out l
+  too-many out s m = go (reading text) leaves ∙ short text out (omega arith)
     where
       go : (r : Reading) → Leaves small r w → refuse out 14 0 ≡ answered out r
       go (refused p) h = absurd (s (h .0))
@@ -71,7 +76,7 @@ module _ (text stack small : List ℕ) (l : length text ≤ 8192) (k : length st
               let all : drawn (expression-cells e) (0, small) .0 ≡ 0 + length (expression-cells e) = counted-all (expression-cells e) 0 small (omega arith) in absurd (omega (arith, is))
 
   pub no-room : (out : List ℕ) → (w .0 .mode ≡ 24 → ⊥) → w .0 .cells ≤ 2048 → length out < 16 * w .0 .cells → refuse out 15 (16 * w .0 .cells) ≡ condition text out
-  no-room out s m n = go (reading text) refl leaves ∙ short text out l
+  no-room out s m n = go (reading text) refl leaves ∙ short text out (omega arith)
     where
       go : (r : Reading) → reading text ≡ r → Leaves small r w → refuse out 15 (16 * w .0 .cells) ≡ answered out r
       go (refused p) e h = absurd (s (h .0))
@@ -83,12 +88,21 @@ module _ (text stack small : List ℕ) (l : length text ≤ 8192) (k : length st
           (pick-b {A = Outcome} _ _ _ (le-leb (length (expression-cells e)) 2048 few)
           ∙ ap (written out (tree-bytes e) (length (expression-cells e))) (lt-leb (length (tree-bytes e)) (length out) (omega arith)) ∙ ap (refuse out 15) (sym same))
 
+  pub fits : Room text small → (w .0 .mode ≡ 24 → ⊥) → w .0 .cells ≤ 2048 → 16 * w .0 .cells ≤ length small
+  fits room s m = go (reading text) refl leaves
+    where
+      go : (r : Reading) → reading text ≡ r → Leaves small r w → 16 * w .0 .cells ≤ length small
+      go (refused p) f h = absurd (s (h .0))
+      go (taken e) f h =
+          let (few, is) = count-of e (w .0 .cells) (w .1) small (h .1) m in
+          room .for-each (w .0 .cells) (omega (arith, condition-few text e (proved .exactly text e .0 f), is)) m
+
   -- The cells stand at the beginning of a buffer that has room for all of them, and are copied from there.
-  pub handed : (out d : List ℕ) → length small ≡ 32768 → (w .0 .mode ≡ 24 → ⊥) → w .0 .cells ≤ 2048 → 16 * w .0 .cells ≤ length out
+  pub handed : (out d : List ℕ) → 16 * w .0 .cells ≤ length small → (w .0 .mode ≡ 24 → ⊥) → w .0 .cells ≤ 2048 → 16 * w .0 .cells ≤ length out
       → d ≡ take (length (take (16 * w .0 .cells) (w .1))) (take (16 * w .0 .cells) (w .1)) ++ drop (length (take (16 * w .0 .cells) (w .1))) out
       → _≡_ {A = Outcome} (record { numbers = record { number = 0; place = 0; length = 16 * w .0 .cells; cells = w .0 .cells; columns = 0 }; output = d }) (condition text out)
   unfolding tree-bytes
-  handed out d large s m r copied = go (reading text) refl leaves ∙ short text out l
+  handed out d large s m r copied = go (reading text) refl leaves ∙ short text out (omega arith)
     where
       go : (r : Reading) → reading text ≡ r → Leaves small r w
           → _≡_ {A = Outcome} (record { numbers = record { number = 0; place = 0; length = 16 * w .0 .cells; cells = w .0 .cells; columns = 0 }; output = d }) (answered out r)

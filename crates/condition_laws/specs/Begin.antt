@@ -67,17 +67,17 @@ module _ (out₀ : List ℕ) (at v : ℕ) (stack : List ℕ) (behind : Bool) whe
 
   -- ---- parentheses
 
-  pub open-follows : (p : Position) → at < 8192 → Holds at p stack → Begins 40 p
+  pub open-follows : (p : Position) → at < length stack → Holds at p stack → Begins 40 p
   unfolding class Lean.begin
   open-follows (want slot st) l h =
       let deep : length st ≤ at = h .deep in
-      let room : length stack ≡ 8192 = h .room in
+      let room : length stack ≤ 8192 = h .room in
       let nots : slot .before .nots ≤ at = h .nots in
       let inner : Position = want (record { before = nothing-before; left = none }) (slot ∷ st) in
       let grown : List ℕ = set stack (length st) (slot-entry slot) in
       let holds : Holds (suc at) inner grown =
       record {
-        room = length-set stack (length st) (slot-entry slot) ∙ room;
+        room = omega (arith, length-set stack (length st) (slot-entry slot));
         kept = (getD-set-same stack (length st) (slot-entry slot) 0 (omega arith), kept-set stack (length st) (slot-entry slot) st (omega arith) (h .kept));
         deep = omega arith;
         nots = omega arith;
@@ -117,12 +117,13 @@ module _ (out₀ : List ℕ) (at v : ℕ) (stack : List ℕ) (behind : Bool) whe
       small-tag none = omega arith
       small-tag (some x) = small-sign (x .0)
 
-  closes-follows : (b : Before) (more : Bool) (e : Expression) (slot : Slot) (st : Stack) → at < 8192 → Holds at (have b more e (slot ∷ st)) stack
+  closes-follows : (b : Before) (more : Bool) (e : Expression) (slot : Slot) (st : Stack) → at < length stack → Holds at (have b more e (slot ∷ st)) stack
       → Lean.closes (getD stack (suc (length st) - 1) 0) (suc (length st) - 1) (at-position out₀ (behind-mode behind) v (have b more e (slot ∷ st)))
       ≡ at-position out₀ 0 0 (fill slot (whole b e) st)
   closes-follows b more e slot st l h =
       let k : ℕ = behind-mode behind in
       let light : slot .before .nots ≤ at = h .light .0 in
+      let room : length stack ≤ 8192 = h .room in
       let d : suc (length st) - 1 ≡ length st = omega arith in
       let x : ℕ = getD stack (suc (length st) - 1) 0 in
       let is : x ≡ slot-entry slot = ap (λ (i : ℕ). getD stack i 0) d ∙ h .kept .0 in
@@ -139,13 +140,12 @@ module _ (out₀ : List ℕ) (at v : ℕ) (stack : List ℕ) (behind : Bool) whe
       at-slot w o a n t d = world (record { mode = 0; value = 0; stage = 0; ors = o; ands = a; nots = n; left = t; depth = d; cells = w .0 .cells }) (w .1)
 
   -- the tests before a parenthesis is closed
-  close-passes : (b : Before) (more : Bool) (e : Expression) (slot : Slot) (st : Stack) → at < 8192 → Holds at (have b more e (slot ∷ st)) stack
+  close-passes : (b : Before) (more : Bool) (e : Expression) (slot : Slot) (st : Stack) → at < length stack → Holds at (have b more e (slot ∷ st)) stack
       → Lean.there (at-position out₀ (behind-mode behind) v (have b more e (slot ∷ st)) .0) ≡ true
       → Lean.close-one stack (at-position out₀ (behind-mode behind) v (have b more e (slot ∷ st))) ≡ at-position out₀ 0 0 (fill slot (whole b e) st)
   unfolding Lean.close-one
   close-passes b more e slot st l h t =
       let deep : suc (length st) ≤ at = h .deep in
-      let room : length stack ≡ 8192 = h .room in
       pick-b {A = World} _ _ _ t ∙ skip-b {A = World} _ _ _ (ne-eqb (suc (length st)) 0 (λ z. omega arith))
       ∙ skip-b {A = World} _ _ _ (le-ltb (length stack) (suc (length st)) (omega arith)) ∙ closes-follows b more e slot st l h
 
@@ -156,7 +156,7 @@ module _ (out₀ : List ℕ) (at v : ℕ) (stack : List ℕ) (behind : Bool) whe
       go none = (refl, refl)
       go (some l) = (refl, refl)
 
-  inner-closed : (b : Before) (more : Bool) (e : Expression) (slot : Slot) (st : Stack) → at < 8192 → Holds at (have b more e (slot ∷ st)) stack
+  inner-closed : (b : Before) (more : Bool) (e : Expression) (slot : Slot) (st : Stack) → at < length stack → Holds at (have b more e (slot ∷ st)) stack
       → Lean.there (at-position out₀ (behind-mode behind) v (have b more e (slot ∷ st)) .0) ≡ true
       → Sim out₀ (between false (fill slot (whole b e) st)) (suc at) (beside stack (Lean.close-one stack (at-position out₀ (behind-mode behind) v (have b more e (slot ∷ st)))))
   inner-closed b more e slot st l h t =
@@ -176,7 +176,7 @@ module _ (out₀ : List ℕ) (at v : ℕ) (stack : List ℕ) (behind : Bool) whe
       } in
       subst (λ (w : World). Sim out₀ (between false q) (suc at) (beside stack w)) (sym (close-passes b more e slot st l h t)) (sim-between false q 0 stack holds)
 
-  pub close-follows : (p : Position) → at < 8192 → Holds at p stack → Begins 41 p
+  pub close-follows : (p : Position) → at < length stack → Holds at p stack → Begins 41 p
   unfolding class Lean.begin
   close-follows (want slot st) l h = refl
   close-follows (have b true e []) l h = refl

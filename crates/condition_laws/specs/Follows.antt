@@ -35,7 +35,7 @@ Light n [] = Unit {0}
 Light n (slot ∷ st) = (slot .before .nots ≤ n) × Light n st
 
 pub record Holds (at : ℕ) (p : Position) (stack : List ℕ) : Type 0 where
-  pub room : length stack ≡ 8192
+  pub room : length stack ≤ 8192
   pub kept : Kept stack (stack-of p)
   pub deep : length (stack-of p) ≤ at
   pub nots : before-of p .nots ≤ at

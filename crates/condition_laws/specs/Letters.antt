@@ -7,6 +7,7 @@ use mathlib.Core.Bool.{Bool, true, false, cond}
 use mathlib.Core.List.{List, []}
 use mathlib.Core.Option.{Option, none, some}
 use lib.Dec.{leb, eqb}
+use lib.ListN.{length}
 use Rattle.sql.specs.Expression.{Expression}
 use Rattle.sheet_laws.specs.Content.{and-right}
 use Rattle.grammar.specs.Parts.{digit, Sign}
@@ -206,7 +207,7 @@ module _ (out₀ : List ℕ) (at v : ℕ) (stack : List ℕ) where
   unfolding class Lean.begin
   space-follows behind p h = sim-between false p v stack (hold h)
 
-  pub begin-follows : (b : ℕ) → Seen b → (behind : Bool) (p : Position) → at < 8192 → Holds at p stack → Begins out₀ at v stack behind b p
+  pub begin-follows : (b : ℕ) → Seen b → (behind : Bool) (p : Position) → at < length stack → Holds at p stack → Begins out₀ at v stack behind b p
   begin-follows b seen-space behind p l h = space-follows behind p h
   begin-follows b seen-quote behind p l h = quote-follows out₀ at v stack behind p h
   begin-follows b seen-opening behind p l h = open-follows out₀ at v stack behind p l h

@@ -7,4 +7,5 @@ pub mod Letters
 pub mod Step
 pub mod Runs
 pub mod Written
+pub mod Few
 pub mod Answers

@@ -4,14 +4,14 @@ use native.Mathlib.Omega.{arith}
 use native.Mathlib.Numerals.{add-one}
 use borrow.Author.Tests.{ne-eqb, eq-eqb}
 use mathlib.Core.Path.{_≡_, refl, sym, ap, _∙_, subst}
-use mathlib.Core.Bool.{true, false, cond}
+use mathlib.Core.Bool.{Bool, true, false, cond}
 use mathlib.Core.List.{List, [], _∷_}
 use mathlib.Core.Option.{Option, none, some, Option·some-injective, Option·none-ne-some}
-use lib.Dec.{eqb}
-use lib.ListN.{length}
+use lib.Dec.{leb, ltb, eqb}
+use lib.ListN.{length, set, length-set}
 use Rattle.sql.specs.Expression.{Expression}
 use Rattle.sheet.specs.Cells.{expression-cells}
-use Rattle.grammar.specs.Parts.{Sign}
+use Rattle.grammar.specs.Parts.{digit, Sign}
 use Rattle.grammar.specs.Machine.{nothing-before, Position, want, have, is, tree-of, plain, minus, hash, numbered, State, start, candidates, narrow, after-letter, step, finish, Reading, taken, refused, run, reading}
 use Rattle.condition_machine.specs.Lean as Lean
 use Rattle.condition_machine.specs.Lean.{World, world, All, all}
@@ -25,6 +25,48 @@ use Rattle.condition_laws.specs.Step.{number-ends, step-follows}
 abbrev pub Ends : List ℕ → Option Expression → World → Type 0
 Ends out₀ none w = w .0 .mode ≡ 24
 Ends out₀ (some e) w = (w .0 .mode ≡ 0) × (_≡_ {A = Count} (w .0 .cells, w .1) (drawn (expression-cells e) (0, out₀)))
+
+-- No step makes the stack longer or shorter.
+record Long (n : ℕ) (r : All) : Type 0 where
+  long : length (r .1) ≡ n
+
+record Long-world (n : ℕ) (w : World) : Type 0 where
+  long : length (w .1) ≡ n
+
+long-either : {n : ℕ} (t : Bool) (x y : All) → Long n x → Long n y → Long n (cond t x y)
+long-either true x y h g = h
+long-either false x y h g = g
+
+world-either : {n : ℕ} (t : Bool) (x y : World) → Long-world n x → Long-world n y → Long-world n (cond t x y)
+world-either true x y h g = h
+world-either false x y h g = g
+
+open-long : (w : World) → Long-world (length (w .1)) (Lean.open-one w)
+unfolding Lean.open-one
+open-long w =
+    world-either (eqb (w .0 .stage) 0) _ _
+    (world-either (leb (length (w .1)) (w .0 .depth)) (Lean.stuck (w .0), w .1) (Lean.inner (w .0 .depth) (w .0), set (w .1) (w .0 .depth) (Lean.entry (w .0))) (record { long = refl })
+    (record { long = length-set (w .1) (w .0 .depth) (Lean.entry (w .0)) }))
+    (record { long = refl })
+
+begin-long : (at b : ℕ) (r : All) → Long (length (r .1)) (Lean.begin at b r)
+unfolding Lean.begin
+begin-long at b r =
+    long-either (eqb b 32) _ _ (record { long = refl })
+    (long-either (eqb b 39) _ _ (record { long = refl })
+    (long-either (eqb b 40) _ _ (record { long = open-long (r .0, r .1) .long }) (long-either (eqb b 41) _ _ (record { long = refl }) (record { long = refl }))))
+
+number-long : (at b : ℕ) (r : All) → Long (length (r .1)) (Lean.number at b r)
+unfolding Lean.number
+number-long at b r =
+    long-either (digit b) _ _ (record { long = refl }) (begin-long at b (Lean.number-ends (r .0, r .2) .0, r .1, Lean.number-ends (r .0, r .2) .1))
+
+step-long : (at b : ℕ) (r : All) → Long (length (r .1)) (Lean.step at b r)
+unfolding Lean.step
+step-long at b r =
+    long-either (ltb (r .0 .mode) 2) _ _ (begin-long at b r)
+    (long-either (ltb (r .0 .mode) 4) _ _ (record { long = refl })
+    (long-either (ltb (r .0 .mode) 7) _ _ (number-long at b r) (long-either (ltb (r .0 .mode) 8) _ _ (record { long = refl }) (record { long = refl }))))
 
 module _ (out₀ : List ℕ) where
   -- stuck, where parentheses are open
@@ -130,12 +172,12 @@ module _ (out₀ : List ℕ) where
   not-stuck at s r (sim-number hash n slot st stack h m) e = let z : _≡_ {A = ℕ} 6 24 = e in omega arith
   not-stuck at s r (sim-string from t slot st stack h f) e = let z : _≡_ {A = ℕ} 7 24 = e in omega arith
 
-  run-follows : (text : List ℕ) (at : ℕ) (s : State) (r : All) → at + length text ≤ 8192 → Sim out₀ s at r → Leaves (run at text s) (Lean.run at text r)
+  run-follows : (text : List ℕ) (at : ℕ) (s : State) (r : All) → at + length text ≤ length (r .1) → Sim out₀ s at r → Leaves (run at text s) (Lean.run at text r)
   unfolding run Lean.run
   run-follows [] at s r l h = end-leaves at (finish s) (Lean.finish (r .0, r .2)) (finish-follows at s r h)
   run-follows (b ∷ text) at s r l h =
-      let small : at < 8192 = omega arith in
-      let fits : suc at + length text ≤ 8192 = omega arith in
+      let small : at < length (r .1) = omega arith in
+      let fits : suc at + length text ≤ length (Lean.step at b r .1) = omega (arith, step-long at b r .long) in
       go (step at b s) (step-follows out₀ at b s r small h) (λ next. run-follows text (suc at) next (Lean.step at b r) fits)
     where
       go : (o : Option State) → Steps out₀ o (suc at) (Lean.step at b r)
@@ -149,11 +191,11 @@ module _ (out₀ : List ℕ) where
           ∙ ap (λ (i : ℕ). Lean.run i text (Lean.step at b r)) (add-one at)))
           (later next d)
 
-  start-holds : (stack : List ℕ) → length stack ≡ 8192 → Holds 0 (want (record { before = nothing-before; left = none }) []) stack
+  start-holds : (stack : List ℕ) → length stack ≤ 8192 → Holds 0 (want (record { before = nothing-before; left = none }) []) stack
   start-holds stack h = record { room = h; kept = tt; deep = omega arith; nots = omega arith; light = tt }
 
-  -- The code's definition by numbers, from the start, on any stack of 8,192 entries.
-  pub lean-reads : (text stack : List ℕ) → length text ≤ 8192 → length stack ≡ 8192 → Leaves (reading text) (Lean.run 0 text (all Lean.start stack out₀))
+  -- The code's definition by numbers, from the start, on any stack that has an entry for each byte.
+  pub lean-reads : (text stack : List ℕ) → length text ≤ length stack → length stack ≤ 8192 → Leaves (reading text) (Lean.run 0 text (all Lean.start stack out₀))
   unfolding reading drawn
   lean-reads text stack l h =
       run-follows text 0 start (all Lean.start stack out₀) (omega arith) (sim-between false (want (record { before = nothing-before; left = none }) []) 0 stack (start-holds stack h))

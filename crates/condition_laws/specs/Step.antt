@@ -136,16 +136,17 @@ module _ (out₀ : List ℕ) (at v : ℕ) (stack : List ℕ) where
   node-step after-o b p = refl
   node-step after-i b p = refl
 
-  word-ends : (k : Node) (w : Word) (p q : Position) → at < 8192 → Holds at p stack → feed p (word w) ≡ some q → (x : World) → x ≡ Lean.word (last-mode out₀ w) (at-position out₀ 1 v p)
+  word-ends : (k : Node) (w : Word) (p q : Position) → at < length stack → Holds at p stack → feed p (word w) ≡ some q → (x : World) → x ≡ Lean.word (last-mode out₀ w) (at-position out₀ 1 v p)
       → Sim out₀ (between true q) (suc at) (beside stack x)
   word-ends k w p q l h e x f =
       let n : before-of p .nots ≤ at = h .nots in
+      let room : length stack ≤ 8192 = h .room in
       let same = word-same w p q e in
       let m : before-of q .nots ≤ suc (before-of p .nots) = same .one-more in
       subst (λ (z : World). Sim out₀ (between true q) (suc at) (beside stack z)) (sym (f ∙ word-follows out₀ w p q v (omega arith) e))
       (sim-between true q v stack (next-holds at p q stack (same .stack-kept) (omega arith) h))
 
-  letter-brings : (k : Node) (p q : Position) → at < 8192 → Holds at p stack → feed p (word (word-at k)) ≡ some q
+  letter-brings : (k : Node) (p q : Position) → at < length stack → Holds at p stack → feed p (word (word-at k)) ≡ some q
       → Sim out₀ (after-letters (rest-of k) q []) (suc at) (beside stack (on-letter k (at-position out₀ (node-mode k) v p)))
   letter-brings after-t p q l h e = sim-word after-tr p q v stack (hold h) e
   letter-brings after-tr p q l h e = sim-word after-tru p q v stack (hold h) e
@@ -163,7 +164,7 @@ module _ (out₀ : List ℕ) (at v : ℕ) (stack : List ℕ) where
   letter-brings after-o p q l h e = word-ends after-o OR p q l h e _ refl
   letter-brings after-i p q l h e = word-ends after-i IS p q l h e _ refl
 
-  word-step : (k : Node) (b : ℕ) (p q : Position) → at < 8192 → Holds at p stack → feed p (word (word-at k)) ≡ some q
+  word-step : (k : Node) (b : ℕ) (p q : Position) → at < length stack → Holds at p stack → feed p (word (word-at k)) ≡ some q
       → Steps out₀ (step at b (in-word (first-of k) (rest-of k) q [])) (suc at) (Lean.step at b (stands out₀ stack (node-mode k) v p))
   unfolding step
   word-step k b p q l h e = go (eqb b (first-of k)) refl
@@ -371,7 +372,7 @@ module _ (out₀ : List ℕ) (at n : ℕ) (stack : List ℕ) (k : Sort) (slot : 
       go none = record { room = h .room; kept = h .kept; deep = h .deep; nots = h .nots; light = h .light }
       go (some l) = record { room = h .room; kept = h .kept; deep = h .deep; nots = h .nots; light = h .light }
 
-  number-step : (b : ℕ) → at < 8192 → Holds at (want slot st) stack
+  number-step : (b : ℕ) → at < length stack → Holds at (want slot st) stack
       → Steps out₀ (step at b (in-number k n slot st)) (suc at) (Lean.step at b (stands out₀ stack (number-mode k) n (want slot st)))
   unfolding step Lean.number
   number-step b l h = go (digit b) refl
@@ -424,7 +425,7 @@ module _ (out₀ : List ℕ) (at from : ℕ) (stack : List ℕ) (s : List ℕ) (
 
 -- ---- any state
 
-pub step-follows : (out₀ : List ℕ) (at b : ℕ) (s : State) (r : All) → at < 8192 → Sim out₀ s at r → Steps out₀ (step at b s) (suc at) (Lean.step at b r)
+pub step-follows : (out₀ : List ℕ) (at b : ℕ) (s : State) (r : All) → at < length (r .1) → Sim out₀ s at r → Steps out₀ (step at b s) (suc at) (Lean.step at b r)
 unfolding step Lean.step
 step-follows out₀ at b s r l (sim-between true p v stack h) = begin-follows out₀ at v stack b (seen b) true p l h
 step-follows out₀ at b s r l (sim-between false p v stack h) = begin-follows out₀ at v stack b (seen b) false p l h

@@ -2,16 +2,16 @@
 -- Assumes nothing.
 use Prim.Native.Nat.{ℕ, suc, _+_, _-_, _*_, _≤_, _<_}
 use native.Mathlib.Omega.{arith}
-use mathlib.Core.Path.{_≡_, sym, ap, _∙_}
+use mathlib.Core.Path.{_≡_, refl, sym, ap, _∙_}
 use mathlib.Core.Bool.{Bool, true, false, cond}
 use mathlib.Core.List.{List, _++_, append-assoc}
 use lib.Dec.{leb, ltb, eqb}
 use lib.ListN.{length, length-append}
-use borrow.Author.Tests.{lt-ltb, le-ltb, le-leb, lt-leb, eq-eqb, ne-eqb}
+use borrow.Author.Tests.{lt-ltb, le-ltb, le-leb, lt-leb, eq-eqb, ne-eqb, eqb-true}
 use Rattle.sheet.specs.Bytes.{bytes}
 use Rattle.encode.specs.Encode.{written}
 use Rattle.encode.proofs.Written.{chain, length-bytes}
-use Rattle.condition_machine.specs.Lean.{World, world, to-stage, counted, four-words, if-room, put-in, put-times, put-and, put-or, compared, fill, operand}
+use Rattle.condition_machine.specs.Lean.{World, world, to-stage, counted, four-words, if-room, put-in, Adds, if-before, put-times, put-and, put-or, conjoin, disjoin, compared, filled, fill}
 use Rattle.condition_machine.specs.declared.Machine.{Machine}
 
 -- ---- which side of a test
@@ -69,55 +69,94 @@ unfolding if-room
 room out n tag a b h e f g k =
     four out (16 * n) tag a b (omega arith) e f g k ∙ sym (skip-lt (length out) (16 * n + 16) out (written out (16 * n) (four-words tag a b)) h)
 
-module _ (tag a b : ℕ) (m : Machine) (out : List ℕ) where
-  pub put-full : 2048 ≤ m .cells → world (counted 2049 m) out ≡ put-in tag a b (world m out)
+module _ (tag a b n : ℕ) (out : List ℕ) where
+  pub next-full : 2048 ≤ n → Adds n out 2049 out (put-in tag a b)
   unfolding put-in
-  put-full h = sym (pick-le {A = World} 2048 (m .cells) _ _ h)
+  next-full h = record { adds = λ m e. sym (pick-le {A = World} 2048 (m .cells) _ _ (omega (arith, e))) }
 
-  pub put-next : {d : List ℕ} → m .cells < 2048 → d ≡ if-room out (m .cells) (four-words tag a b)
-      → world (counted (m .cells + 1) m) d ≡ put-in tag a b (world m out)
+  pub next-counted : {d : List ℕ} → n < 2048 → d ≡ if-room out n (four-words tag a b) → Adds n out (n + 1) d (put-in tag a b)
   unfolding put-in
-  put-next h e = ap (world (counted (m .cells + 1) m)) e ∙ sym (skip-le {A = World} 2048 (m .cells) _ _ h)
+  next-counted {d} h e =
+      record {
+        adds = λ m g.
+            ap (λ (k : ℕ). world (counted (k + 1) m) d) (sym g) ∙ ap (world (counted (m .cells + 1) m)) (e ∙ ap (λ (k : ℕ). if-room out k (four-words tag a b)) (sym g))
+            ∙ sym (skip-le {A = World} 2048 (m .cells) _ _ (omega (arith, g)));
+      }
+
+-- nothing is added
+pub adds-none : (n : ℕ) (out : List ℕ) (m : Machine) → m .cells ≡ n → world (counted n m) out ≡ world m out
+adds-none n out m e = ap (λ (k : ℕ). world (counted k m) out) (sym e)
+
+module _ (n before tag : ℕ) (out : List ℕ) where
+  pub joined-none : before ≡ 0 → Adds n out n out (if-before before tag)
+  unfolding if-before
+  joined-none h = record { adds = λ m e. adds-none n out m e ∙ sym (pick-eq {A = World} before 0 _ _ h) }
+
+  pub joined-some : (r : ℕ) (d : List ℕ) → (before ≡ 0 → ⊥) → Adds n out r d (put-in tag 0 0) → Adds n out r d (if-before before tag)
+  unfolding if-before
+  joined-some r d h a = record { adds = λ m e. a .adds m e ∙ sym (skip-eq {A = World} before 0 _ _ h) }
 
 -- ---- NOTs in turn
 
-pub times-start : (n : ℕ) (w : World) → put-times (n - 0) w ≡ put-times n w
-times-start n w = let e : n - 0 ≡ n = omega arith in ap (λ (k : ℕ). put-times k w) e
+-- The NOTs that are left lead to the same end, for any machine with so many cells at the start.
+pub record Negating (n : ℕ) (out : List ℕ) (nots i k : ℕ) (d : List ℕ) : Type 0 where
+  pub leads : (m : Machine) → m .cells ≡ n → put-times (nots - i) (world (counted k m) d) ≡ put-times nots (world m out)
 
-pub times-next : (n i : ℕ) (w v u : World) → i < n → v ≡ put-in 30 0 0 w → put-times (n - i) w ≡ u → put-times (n - (i + 1)) v ≡ u
-unfolding put-times
-times-next n i w v u h e k =
-    let s : n - i ≡ suc (n - (i + 1)) = omega arith in
-    ap (put-times (n - (i + 1))) e ∙ ap (λ (j : ℕ). put-times j w) (sym s) ∙ k
+pub negating-start : (n : ℕ) (out : List ℕ) (nots : ℕ) → Negating n out nots 0 n out
+negating-start n out nots =
+    record { leads = λ m e. let z : nots - 0 ≡ nots = omega arith in ap (λ (k : ℕ). put-times k (world (counted n m) out)) z ∙ ap (put-times nots) (adds-none n out m e) }
 
-pub times-end : (n i : ℕ) (w u : World) → n ≤ i → put-times (n - i) w ≡ u → w ≡ u
+pub negating-next : (n : ℕ) (out : List ℕ) (nots i k j : ℕ) (d d′ : List ℕ) → i < nots → Adds k d j d′ (put-in 30 0 0) → Negating n out nots i k d → Negating n out nots (i + 1) j d′
 unfolding put-times
-times-end n i w u h k = let z : n - i ≡ 0 = omega arith in ap (λ (j : ℕ). put-times j w) (sym z) ∙ k
+negating-next n out nots i k j d d′ h a g =
+    record {
+      leads = λ m e.
+          let s : nots - i ≡ suc (nots - (i + 1)) = omega arith in
+          ap (put-times (nots - (i + 1))) (a .adds (counted k m) refl) ∙ ap (λ (t : ℕ). put-times t (world (counted k m) d)) (sym s) ∙ g .leads m e;
+    }
+
+pub negating-end : (n : ℕ) (out : List ℕ) (nots i k : ℕ) (d : List ℕ) → nots ≤ i → Negating n out nots i k d → Adds n out k d (put-times nots)
+unfolding put-times
+negating-end n out nots i k d h g =
+    record { adds = λ m e. let z : nots - i ≡ 0 = omega arith in ap (λ (t : ℕ). put-times t (world (counted k m) d)) (sym z) ∙ g .leads m e }
 
 -- ---- And and Or
 
-pub and-none : (p : Machine) (d : List ℕ) (w : World) → world p d ≡ w → p .ands ≡ 0 → world p d ≡ put-and w
-unfolding put-and
-and-none p d w e h = sym (pick-eq {A = World} (p .ands) 0 (world p d) _ h) ∙ ap put-and e
+pub and-joined : (m : Machine) (out d₁ d : List ℕ) (k n : ℕ) → Adds (m .cells) out k d₁ (put-times (m .nots)) → Adds k d₁ n d (if-before (m .ands) 10)
+    → world (counted n m) d ≡ conjoin (world m out)
+unfolding if-before put-and
+and-joined m out d₁ d k n a b = b .adds (counted k m) refl ∙ ap put-and (a .adds m refl)
 
-pub and-some : (p : Machine) (d : List ℕ) (w v : World) → world p d ≡ w → (p .ands ≡ 0 → ⊥) → v ≡ put-in 10 0 0 (world p d) → v ≡ put-and w
-unfolding put-and
-and-some p d w v e h k = k ∙ sym (skip-eq {A = World} (p .ands) 0 (world p d) _ h) ∙ ap put-and e
-
-pub or-none : (p : Machine) (d : List ℕ) (w : World) → world p d ≡ w → p .ors ≡ 0 → world p d ≡ put-or w
-unfolding put-or
-or-none p d w e h = sym (pick-eq {A = World} (p .ors) 0 (world p d) _ h) ∙ ap put-or e
-
-pub or-some : (p : Machine) (d : List ℕ) (w v : World) → world p d ≡ w → (p .ors ≡ 0 → ⊥) → v ≡ put-in 11 0 0 (world p d) → v ≡ put-or w
-unfolding put-or
-or-some p d w v e h k = k ∙ sym (skip-eq {A = World} (p .ors) 0 (world p d) _ h) ∙ ap put-or e
+pub or-joined : (m p : Machine) (out d₁ d : List ℕ) (n : ℕ) → world p d₁ ≡ conjoin (world m out) → Adds (p .cells) d₁ n d (if-before (p .ors) 11)
+    → world (counted n p) d ≡ disjoin (world m out)
+unfolding if-before put-or
+or-joined m p out d₁ d n e b = b .adds p refl ∙ ap put-or e
 
 -- ---- an operand
 
-pub fill-alone : (m : Machine) (d : List ℕ) → m .left ≡ 0 → world (to-stage 1 m) d ≡ fill (world m d)
-unfolding fill
-fill-alone m d h = sym (pick-eq {A = World} (m .left) 0 _ _ h)
+pub filled-alone : (left : ℕ) → left ≡ 0 → 1 ≡ filled left
+unfolding filled
+filled-alone left h = sym (pick-eq {A = ℕ} left 0 1 2 h)
 
-pub fill-beside : (m : Machine) (d : List ℕ) (v : World) → (m .left ≡ 0 → ⊥) → v ≡ put-in (m .left) 0 0 (world m d) → compared v ≡ fill (world m d)
-unfolding fill
-fill-beside m d v h k = ap compared k ∙ sym (skip-eq {A = World} (m .left) 0 _ _ h)
+pub filled-beside : (left : ℕ) → (left ≡ 0 → ⊥) → 2 ≡ filled left
+unfolding filled
+filled-beside left h = sym (skip-eq {A = ℕ} left 0 1 2 h)
+
+-- the machine behind an operand
+abbrev behind : (stage left cells : ℕ) → Machine → Machine
+behind stage left cells m =
+    record { mode = m .mode; value = m .value; stage = stage; ors = m .ors; ands = m .ands; nots = m .nots; left = left; depth = m .depth; cells = cells }
+
+pub fill-is : (m : Machine) (out d : List ℕ) (k stage : ℕ) → Adds (m .cells) out k d (if-before (m .left) (m .left)) → stage ≡ filled (m .left)
+    → world (behind stage 0 k m) d ≡ fill (world m out)
+unfolding if-before filled fill
+fill-is m out d k stage a e = go (eqb (m .left) 0) refl
+  where
+    go : (t : Bool) → eqb (m .left) 0 ≡ t → world (behind stage 0 k m) d ≡ fill (world m out)
+    go true h =
+        let zero-left : m .left ≡ 0 = eqb-true (m .left) 0 h in
+        ap (λ (s : ℕ). world (behind s 0 k m) d) (e ∙ pick-b {A = ℕ} (eqb (m .left) 0) 1 2 h) ∙ ap (λ (l : ℕ). world (behind 1 l k m) d) (sym zero-left)
+        ∙ ap (λ (w : World). world (to-stage 1 (w .0)) (w .1)) (a .adds m refl ∙ pick-b {A = World} (eqb (m .left) 0) _ _ h) ∙ sym (pick-b {A = World} (eqb (m .left) 0) _ _ h)
+    go false h =
+        ap (λ (s : ℕ). world (behind s 0 k m) d) (e ∙ skip-b {A = ℕ} (eqb (m .left) 0) 1 2 h)
+        ∙ ap compared (a .adds m refl ∙ skip-b {A = World} (eqb (m .left) 0) _ _ h) ∙ sym (skip-b {A = World} (eqb (m .left) 0) _ _ h)

@@ -1,5 +1,6 @@
 -- The machine with numbers in the trees' place, and the output that it writes cells to, as total functions. The code equals these, function by function.
 use Prim.Native.Nat.{ℕ, zero, suc, _+_, _-_, _*_, _/_, _%_}
+use mathlib.Core.Path.{_≡_}
 use mathlib.Core.Bool.{Bool, true, cond}
 use mathlib.Core.List.{List, [], _∷_, _++_}
 use lib.Dec.{leb, ltb, eqb}
@@ -50,6 +51,15 @@ unfolding four-words if-room
 put-in tag a b w =
     cond (leb 2048 (w .0 .cells)) (counted 2049 (w .0), w .1) (counted (w .0 .cells + 1) (w .0), if-room (w .1) (w .0 .cells) (four-words tag a b))
 
+-- What a function on numbers does with the cells of any machine that has n: r, and the output d.
+pub record Adds (n : ℕ) (out : List ℕ) (r : ℕ) (d : List ℕ) (f : World → World) : Type 0 where
+  pub adds : (m : Machine) → m .cells ≡ n → world (counted r m) d ≡ f (world m out)
+
+-- the cell of an operator of two sides, where something stands before it
+unfoldable pub if-before : (before tag : ℕ) → World → World
+unfolding put-in
+if-before before tag w = cond (eqb before 0) w (put-in tag 0 0 w)
+
 unfoldable pub put-times : ℕ → World → World
 unfolding put-in
 put-times zero w = w
@@ -89,6 +99,10 @@ compared w = (
   },
   w .1,
 )
+
+-- the stage behind an operand that stands alone, or to the right of a comparison
+unfoldable pub filled : ℕ → ℕ
+filled left = cond (eqb left 0) 1 2
 
 unfoldable pub fill : World → World
 unfolding put-in
@@ -278,6 +292,18 @@ begin at b s =
 -- The 64 bits of an integer, in two's complement.
 unfoldable pub signed : (mode value : ℕ) → ℕ
 signed mode value = cond (eqb mode 4) value (cond (eqb value 0) 0 (18446744073709551615 - (value - 1)))
+
+-- the cell of a number in each mode: its tag, and its two words
+unfoldable pub number-tag : ℕ → ℕ
+number-tag mode = cond (eqb mode 6) 6 3
+
+unfoldable pub number-low : (mode value : ℕ) → ℕ
+unfolding signed
+number-low mode value = cond (eqb mode 6) value (signed mode value % 4294967296)
+
+unfoldable pub number-high : (mode value : ℕ) → ℕ
+unfolding signed
+number-high mode value = cond (eqb mode 6) 0 (signed mode value / 4294967296)
 
 unfoldable pub number-ends : World → World
 unfolding signed fill put-in

@@ -6,7 +6,7 @@ ghost use Prim.Native.Nat.{_+_, _≤_, _<_};
 ghost use lib.ListN.{length};
 ghost use Rattle.sheet.specs.Bytes.{bytes};
 ghost use Rattle.encode.specs.Encode.{written};
-ghost use Rattle.condition_machine.specs.Lean.{world};
+ghost use Rattle.condition_machine.specs.Lean.{world, Adds};
 ghost use Rattle.condition_machine.specs.Lean;
 
 // Where the machine is. `mode`: 0 between parts, 1 there directly behind a word, number or column, 2 and 3 behind a minus and behind #, 4 to 6 in the digits
@@ -53,68 +53,92 @@ fn put_cell(out: &mut [u8], n: usize, tag: usize, a: usize, b: usize) -> usize
     put_word(out, s, 0)
 }
 
-// The next cell. Cells are counted up to 2,049, one more than there may be.
+// How many cells there are with the next one, which is number n. They are counted up to 2,049, one more than there may be. What writes cells takes and hands
+// out numbers, not the machine, so that this stays in registers.
+fn next_cell(n: usize, out: &mut [u8], tag: usize, a: usize, b: usize) -> usize
+    ensures { λ r. ⌜ Adds n (now (out .entry)) r (now (out .exit)) (Lean.put-in tag a b) ⌝ }
+{
+    if 2048 <= n {
+        return 2049;
+    }
+    put_cell(out, n, tag, a, b);
+    n + 1
+}
+
 pub fn put(m: Machine, out: &mut [u8], tag: usize, a: usize, b: usize) -> Machine
     ensures { λ r. ⌜ world r (now (out .exit)) ≡ Lean.put-in tag a b (world m (now (out .entry))) ⌝ }
 {
-    let n = m.cells;
+    let k = next_cell(m.cells, out, tag, a, b);
     let mut r = m;
-    if 2048 <= n {
-        r.cells = 2049;
-        return r;
-    }
-    put_cell(out, n, tag, a, b);
-    r.cells = n + 1;
+    r.cells = k;
     r
 }
 
-// The cells of the NOTs before what is read; with that of the And there, for an AND behind it; and with that of the Or, for an OR, parenthesis or the end.
-fn put_nots(m: Machine, out: &mut [u8]) -> Machine
-    ensures { λ r. ⌜ world r (now (out .exit)) ≡ Lean.put-nots (world m (now (out .entry))) ⌝ }
+// The cells with that of an operator of two sides, if something stands before it.
+fn joined(n: usize, out: &mut [u8], before: u32, tag: usize) -> usize
+    ensures { λ r. ⌜ Adds n (now (out .entry)) r (now (out .exit)) (Lean.if-before before tag) ⌝ }
 {
-    let n = m.nots;
-    let mut r = m;
+    if before == 0 {
+        return n;
+    }
+    next_cell(n, out, tag, 0, 0)
+}
+
+// The cells with those of so many NOTs.
+fn negated(n: usize, out: &mut [u8], nots: u32) -> usize
+    ensures { λ r. ⌜ Adds n (now (out .entry)) r (now (out .exit)) (Lean.put-times nots) ⌝ }
+{
+    let mut k = n;
     let mut i: u32 = 0;
-    while i < n {
-        r = put(r, out, 30, 0, 0);
+    while i < nots {
+        k = next_cell(k, out, 30, 0, 0);
         i += 1;
     }
-    r
+    k
 }
 
+// The cells of the NOTs before what is read, with that of the And there, for an AND behind it; and with that of the Or, for an OR, parenthesis or the end.
 pub fn conjoin(m: Machine, out: &mut [u8]) -> Machine
     ensures { λ r. ⌜ world r (now (out .exit)) ≡ Lean.conjoin (world m (now (out .entry))) ⌝ }
 {
-    let p = put_nots(m, out);
-    if p.ands == 0 {
-        return p;
-    }
-    put(p, out, 10, 0, 0)
+    let k = negated(m.cells, out, m.nots);
+    let n = joined(k, out, m.ands, 10);
+    let mut r = m;
+    r.cells = n;
+    r
 }
 
 pub fn disjoin(m: Machine, out: &mut [u8]) -> Machine
     ensures { λ r. ⌜ world r (now (out .exit)) ≡ Lean.disjoin (world m (now (out .entry))) ⌝ }
 {
     let p = conjoin(m, out);
-    if p.ors == 0 {
-        return p;
+    let n = joined(p.cells, out, p.ors, 11);
+    let mut r = p;
+    r.cells = n;
+    r
+}
+
+// The stage behind an operand: alone, or the right side of a comparison.
+fn filled(left: u32) -> usize
+    ensures { λ r. ⌜ r ≡ Lean.filled left ⌝ }
+{
+    if left == 0 {
+        return 1;
     }
-    put(p, out, 11, 0, 0)
+    2
 }
 
 // The operand whose cells are there stands in its place.
 pub fn fill(m: Machine, out: &mut [u8]) -> Machine
     ensures { λ r. ⌜ world r (now (out .exit)) ≡ Lean.fill (world m (now (out .entry))) ⌝ }
 {
-    if m.left == 0 {
-        let mut r = m;
-        r.stage = 1;
-        return r;
-    }
     let tag = m.left as usize;
-    let mut r = put(m, out, tag, 0, 0);
+    let k = joined(m.cells, out, m.left, tag);
+    let stage = filled(m.left);
+    let mut r = m;
+    r.cells = k;
     r.left = 0;
-    r.stage = 2;
+    r.stage = stage;
     r
 }
 

@@ -99,9 +99,9 @@ fn word(m: Machine, mode: usize, out: &mut [u8]) -> Machine
 }
 
 // The letter that comes next in a word, and whether it is the last.
-const NEXT: [usize; 15] = [82, 85, 69, 65, 76, 83, 69, 76, 76, 84, 78, 78, 68, 82, 83];
+const NEXT: [u8; 15] = [82, 85, 69, 65, 76, 83, 69, 76, 76, 84, 78, 78, 68, 82, 83];
 
-const LAST: [usize; 15] = [0, 0, 1, 0, 0, 0, 1, 0, 1, 1, 1, 0, 1, 1, 1];
+const LAST: [u8; 15] = [0, 0, 1, 0, 0, 0, 1, 0, 1, 1, 1, 0, 1, 1, 1];
 
 // Behind N, which NULL, NOT and NAN begin with.
 fn letter_o(m: Machine) -> Machine
@@ -140,16 +140,22 @@ fn letter_of_n(m: Machine, b: usize) -> Machine
     stuck(m)
 }
 
+fn wide(b: u8) -> usize
+    ensures { λ r. ⌜ r ≡ b ⌝ }
+{
+    b as usize
+}
+
 // In a word of which a letter is read, apart from N.
 fn letter_in(m: Machine, mode: usize, b: usize, out: &mut [u8]) -> Machine
     requires { ⌜ (8 ≤ mode) × (mode ≤ 22) ⌝ }
     ensures { λ r. ⌜ world r (now (out .exit)) ≡ Lean.letter-in mode b (world m (now (out .entry))) ⌝ }
 {
-    let next = NEXT[mode - 8];
+    let next = wide(NEXT[mode - 8]);
     if next != b {
         return stuck(m);
     }
-    let last = LAST[mode - 8];
+    let last = wide(LAST[mode - 8]);
     if last != 1 {
         return to_mode(m, mode + 1);
     }

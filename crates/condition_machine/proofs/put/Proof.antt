@@ -1,23 +1,19 @@
-use native.Mathlib.Omega.{arith}
-use Rattle.condition_machine.proofs.Laws.{put-full, put-next}
+use mathlib.Core.Path.{refl}
 use borrow.Author.Needs.{needs}
 use Rattle.condition_machine.proofs.put.Statement.{statement}
 use Rattle.condition_machine.proofs.put.Tie as tie
+use Rattle.condition_machine.proofs.put.Reads as reads
+use Rattle.condition_machine.proofs.put.Lts as lts
+use Rattle.condition_machine.proofs.next_cell.Reads as next-cell-reads
 
-returns : tie.Need-returns
-returns c = put-full (c .before .before .args .tag) (c .before .before .args .a) (c .before .before .args .b) (c .before .before .args .m) (c .before .before .args .out .now) (c .if1 .taken)
-
-put-cell-requires : tie.Need-put-cell-requires
-put-cell-requires c κs = search needs
-
-add-r : tie.Need-add-r
-add-r c = search needs
+next-cell-requires : tie.Need-next-cell-requires
+next-cell-requires c κs = search needs
 
 same-length : tie.Need-same-length
 same-length c = search needs
 
-returns-2 : tie.Need-returns-2
-returns-2 c = put-next (c .before .before .before .before .before .before .args .tag) (c .before .before .before .before .before .before .args .a) (c .before .before .before .before .before .before .args .b) (c .before .before .before .before .before .before .args .m) (c .before .before .before .before .before .before .args .out .now) (omega arith) (c .before .before .put-cell .ensures)
+returns : tie.Need-returns
+returns c = c .before .before .next-cell .ensures .adds (c .before .before .before .before .before .args .m) refl
 
 pub put-spec : {M : Type 1} → statement M
-put-spec = tie.close (tie.spec returns put-cell-requires add-r same-length returns-2)
+put-spec = tie.close (tie.spec next-cell-requires same-length returns)
