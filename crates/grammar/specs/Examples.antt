@@ -1,9 +1,9 @@
 -- Texts read, worked out: the corners of document 02's W-211, and derivations in the grammar itself.
-use Prim.Native.Nat.{ℕ}
+use Prim.Native.Nat.{ℕ, zero, suc}
 use native.Mathlib.Omega.{arith}
 use mathlib.Core.Path.{_≡_, refl}
 use mathlib.Core.Bool.{true, false}
-use mathlib.Core.List.{[], _∷_}
+use mathlib.Core.List.{List, [], _∷_, _++_}
 use lib.IntN.{pos, negsuc}
 use lib.ListN.{replicate}
 use Rattle.value.specs.Value.{datum, null, boolean, integer, string}
@@ -142,6 +142,10 @@ leading-zeros : reading (ascii "007") ≡ taken (int 7)
 unfolding reading
 leading-zeros = refl
 
+minus-and-zeros : reading (ascii "-007") ≡ taken (constant 0 (datum (integer (negsuc 6))))
+unfolding reading
+minus-and-zeros = refl
+
 minus-behind-a-sign : reading (ascii "1<-1") ≡ taken (binary 0 (Binary.function LessThan) (int 1) (constant 0 (datum (integer (negsuc 0)))))
 unfolding reading
 minus-behind-a-sign = refl
@@ -169,6 +173,10 @@ parentheses-alone = refl
 null-is-null : reading (ascii "NULL IS NULL") ≡ taken (unary 0 (Unary.function IsNull) (constant 0 null))
 unfolding reading
 null-is-null = refl
+
+two-spaces : reading (ascii "1 IS  NULL") ≡ taken (unary 0 (Unary.function IsNull) (int 1))
+unfolding reading
+two-spaces = refl
 
 ranks : reading (ascii "NOT 1 = 2 AND 3 OR 4") ≡ taken (or 0 (and 0 (not 0 (binary 0 Equal (int 1) (int 2))) (int 3)) (int 4))
 unfolding reading
@@ -234,3 +242,17 @@ no-condition = refl
 too-little-room : condition (ascii "'a'") (replicate 15 255) ≡ refuse (replicate 15 255) 15 16
 unfolding condition
 too-little-room = refl
+
+-- a stretch of text so many times, and what stands behind it
+times : ℕ → List ℕ → List ℕ → List ℕ
+times zero s r = r
+times (suc n) s r = s ++ times n s r
+
+-- 2,049 cells: 14 before 15, and 22 before 14
+too-many-cells : condition (times 1024 (ascii "1 OR ") (ascii "1")) [] ≡ refuse [] 14 0
+unfolding condition times
+too-many-cells = refl
+
+no-condition-of-too-many : condition (times 1025 (ascii "1 OR ") (ascii "!")) [] ≡ refuse [] 22 5125
+unfolding condition times
+no-condition-of-too-many = refl

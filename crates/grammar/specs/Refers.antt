@@ -16,11 +16,19 @@ use Rattle.grammar.specs.Grammar.{part-tree, Rank, Reads, simple, in-par
 
 -- ---- the statement
 
--- Each string of an expression has the bytes of the text that it refers to.
+-- A string stands in the text between two quotes, and its reference says where: behind the first, an empty one too. So the text section has its bytes there.
+pub record Stands (text : List ℕ) (r : ℕ) (s : List ℕ) : Type 0 where
+  pub before : List ℕ
+  pub behind : List ℕ
+  pub quoted : text ≡ before ++ (39 ∷ (s ++ (39 ∷ behind)))
+  pub refers : r ≡ suc (length before) + 65536 * length s
+  pub bytes : bytes-at text r ≡ s
+
+-- So does each string of an expression.
 abbrev pub Refers-datum : List ℕ → Datum → Type 0
 Refers-datum text (integer z) = Unit {0}
 Refers-datum text (float b) = Unit {0}
-Refers-datum text (string r s) = bytes-at text r ≡ s
+Refers-datum text (string r s) = Stands text r s
 
 abbrev pub Refers-value : List ℕ → Value → Type 0
 Refers-value text (truth t) = Unit {0}
@@ -38,7 +46,7 @@ abbrev Refers-part : List ℕ → Part → Type 0
 Refers-part text (word w) = Unit {0}
 Refers-part text (Part.integer z) = Unit {0}
 Refers-part text (Part.column c) = Unit {0}
-Refers-part text (Part.string r s) = bytes-at text r ≡ s
+Refers-part text (Part.string r s) = Stands text r s
 Refers-part text (sign o) = Unit {0}
 Refers-part text opening = Unit {0}
 Refers-part text closing = Unit {0}
@@ -63,7 +71,13 @@ part-refers (a-negative s d m) pre r h l = tt
 part-refers (a-column s d m) pre r h l = tt
 part-refers (a-string {at = at} s n) pre r h l =
     let l′ : suc (length pre) < 65536 = omega arith in
-    ap (λ (i : ℕ). bytes-at (pre ++ (39 ∷ ((s ++ (39 ∷ [])) ++ r))) (suc i + 65536 * length s)) (sym h) ∙ string-refers pre s r l′
+    record {
+      before = pre;
+      behind = r;
+      quoted = ap (λ (t : List ℕ). pre ++ (39 ∷ t)) (append-assoc s (39 ∷ []) r);
+      refers = ap (λ (i : ℕ). suc i + 65536 * length s) (sym h);
+      bytes = ap (λ (i : ℕ). bytes-at (pre ++ (39 ∷ ((s ++ (39 ∷ [])) ++ r))) (suc i + 65536 * length s)) (sym h) ∙ string-refers pre s r l′;
+    }
 part-refers (a-sign o) pre r h l = tt
 part-refers a-parenthesis pre r h l = tt
 part-refers its-end pre r h l = tt

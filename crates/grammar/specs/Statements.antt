@@ -17,5 +17,5 @@ pub record Statements : Type 0 where
   pub one-tree : (text : List ℕ) (e f : Expression) → Condition text e → Condition text f → e ≡ f
   -- Every other text is refused, at this place and no other.
   pub the-place : (text : List ℕ) (place : ℕ) → (reading text ≡ refused place) ↔ (Place text place × ((e : Expression) → ¬ Condition text e))
-  -- "the typed text serving as text section": the strings of a text within the limit refer to their bytes in it
+  -- "the typed text serving as text section": the strings of a text within the limit stand in it where they refer to, between their quotes
   pub strings : (text : List ℕ) (e : Expression) → length text ≤ 8192 → Condition text e → Refers text e
