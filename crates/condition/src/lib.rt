@@ -1,49 +1,98 @@
-// Conditions typed as text: parts and the whole text, one step a byte.
+// Conditions typed as text: what each part does to the machine, and the whole text, a part at a time.
 
 use condition_machine::Machine;
+use condition_machine::conjoin;
 use condition_machine::disjoin;
 use condition_machine::fill;
 use condition_machine::operand;
+use condition_machine::put;
 use condition_machine::stuck;
 use condition_machine::to_mode;
-use condition_words::first_letter;
-use condition_words::letter;
-use condition_words::wanted;
+use condition_parts::Part;
+use condition_parts::next_part;
 ghost use mathlib.Core.Path.{_≡_};
 ghost use Prim.Native.Nat.{_≤_, _<_};
 ghost use lib.ListN.{length};
 ghost use Rattle.condition_machine.specs.Lean.{world, all};
 ghost use Rattle.condition_machine.specs.Lean;
-ghost use Rattle.grammar.specs.Parts as Parts;
+ghost use Rattle.condition_parts.specs.Reads.{sign-tag, fed-word, fed};
 
-// ---- between parts
+// ---- words
 
-fn digit(b: usize) -> bool
-    ensures { λ r. ⌜ r ≡ Parts.digit b ⌝ }
+fn behind_and(m: Machine, out: &mut [u8]) -> Machine
+    ensures { λ r. ⌜ world r (now (out .exit)) ≡ Lean.behind-and (world m (now (out .entry))) ⌝ }
 {
-    if b < 48 {
-        return false;
-    }
-    b <= 57
+    let mut r = conjoin(m, out);
+    r.ands = 1;
+    r.nots = 0;
+    r.stage = 0;
+    r
 }
 
-// A word, number or column begins, if a space stands before it.
-fn begin_solid(m: Machine, b: usize) -> Machine
-    ensures { λ r. ⌜ r ≡ Lean.begin-solid b m ⌝ }
+fn behind_or(m: Machine, out: &mut [u8]) -> Machine
+    ensures { λ r. ⌜ world r (now (out .exit)) ≡ Lean.behind-or (world m (now (out .entry))) ⌝ }
 {
-    if m.mode == 1 {
-        return stuck(m);
+    let mut r = disjoin(m, out);
+    r.ors = 1;
+    r.ands = 0;
+    r.nots = 0;
+    r.stage = 0;
+    r
+}
+
+// Behind IS NULL and IS NAN.
+fn behind_is(m: Machine, out: &mut [u8], tag: usize) -> Machine
+    ensures { λ r. ⌜ world r (now (out .exit)) ≡ Lean.behind-is tag (world m (now (out .entry))) ⌝ }
+{
+    let mut r = put(m, out, tag, 0, 0);
+    r.stage = 2;
+    r
+}
+
+fn one_more_not(m: Machine) -> Machine
+    ensures { λ r. ⌜ r ≡ Lean.one-more-not m ⌝ }
+{
+    let mut r = m;
+    if 8192 <= m.nots {
+        return r;
     }
-    if digit(b) {
-        return wanted(m, 4, b - 48);
+    r.nots = m.nots + 1;
+    r
+}
+
+// Behind a word that is no constant.
+fn fed_word(m: Machine, kind: usize, tag: usize, out: &mut [u8]) -> Machine
+    ensures { λ r. ⌜ world r (now (out .exit)) ≡ fed-word kind tag (world m (now (out .entry))) ⌝ }
+{
+    if kind == 2 {
+        return one_more_not(m);
     }
-    if b == 45 {
-        return wanted(m, 2, 0);
+    if kind == 3 {
+        return behind_and(m, out);
     }
-    if b == 35 {
-        return wanted(m, 3, 0);
+    if kind == 4 {
+        return behind_or(m, out);
     }
-    first_letter(m, b)
+    if kind == 6 {
+        return behind_is(m, out, tag);
+    }
+    let mut r = m;
+    r.stage = 3;
+    r
+}
+
+// ---- signs and parentheses
+
+fn sign_tag(kind: usize) -> u32
+    ensures { λ r. ⌜ r ≡ sign-tag kind ⌝ }
+{
+    if kind == 9 {
+        return 12;
+    }
+    if kind == 10 {
+        return 14;
+    }
+    13
 }
 
 fn sign(m: Machine, tag: u32) -> Machine
@@ -57,21 +106,6 @@ fn sign(m: Machine, tag: u32) -> Machine
     r.stage = 0;
     r.left = tag;
     r
-}
-
-fn begin_sign(m: Machine, b: usize) -> Machine
-    ensures { λ r. ⌜ r ≡ Lean.begin-sign b m ⌝ }
-{
-    if b == 61 {
-        return sign(m, 12);
-    }
-    if b == 60 {
-        return sign(m, 14);
-    }
-    if b == 62 {
-        return sign(m, 13);
-    }
-    begin_solid(m, b)
 }
 
 // An opening parenthesis: what stands before it is kept on the stack. Each is a byte of the text, so there is room.
@@ -148,207 +182,32 @@ fn close_one(m: Machine, stack: &[u64], out: &mut [u8]) -> Machine
     fill(r, out)
 }
 
-// The state after byte number `at` of the text, b, between parts.
-fn begin(m: Machine, at: usize, b: usize, stack: &mut [u64], out: &mut [u8]) -> Machine
-    requires { ⌜ at < 8192 ⌝ }
-    ensures { λ r. ⌜ all r (now (stack .exit)) (now (out .exit)) ≡ Lean.begin at b (all m (now (stack .entry)) (now (out .entry))) ⌝ }
-{
-    if b == 32 {
-        return to_mode(m, 0);
-    }
-    if b == 39 {
-        return wanted(m, 7, at + 1);
-    }
-    if b == 40 {
-        return open_one(m, stack);
-    }
-    if b == 41 {
-        return close_one(m, stack, out);
-    }
-    begin_sign(m, b)
-}
-
-// ---- numbers and strings
-
-// The 64 bits of an integer, in two's complement.
-fn signed(mode: usize, value: usize) -> usize
-    ensures { λ r. ⌜ r ≡ Lean.signed mode value ⌝ }
-{
-    if mode == 4 {
-        return value;
-    }
-    if value == 0 {
-        return 0;
-    }
-    18446744073709551615 - (value - 1)
-}
-
-// The cell of a number, a column's or an integer's: its tag, and its two words.
-fn number_tag(mode: usize) -> usize
-    ensures { λ r. ⌜ r ≡ Lean.number-tag mode ⌝ }
-{
-    if mode == 6 {
-        return 6;
-    }
-    3
-}
-
-fn number_low(mode: usize, value: usize) -> usize
-    ensures { λ r. ⌜ r ≡ Lean.number-low mode value ⌝ }
-{
-    if mode == 6 {
-        return value;
-    }
-    let bits = signed(mode, value);
-    bits % 4294967296
-}
-
-fn number_high(mode: usize, value: usize) -> usize
-    ensures { λ r. ⌜ r ≡ Lean.number-high mode value ⌝ }
-{
-    if mode == 6 {
-        return 0;
-    }
-    let bits = signed(mode, value);
-    bits / 4294967296
-}
-
-// One call of `operand`, with numbers chosen before it, so that the machine stays in registers.
-fn number_ends(m: Machine, out: &mut [u8]) -> Machine
-    ensures { λ r. ⌜ world r (now (out .exit)) ≡ Lean.number-ends (world m (now (out .entry))) ⌝ }
-{
-    let p = to_mode(m, 1);
-    let tag = number_tag(m.mode);
-    let a = number_low(m.mode, m.value);
-    let b = number_high(m.mode, m.value);
-    operand(p, out, tag, a, b)
-}
-
-fn greatest(mode: usize) -> usize
-    ensures { λ r. ⌜ r ≡ Lean.greatest mode ⌝ }
-{
-    if mode == 4 {
-        return 9223372036854775807;
-    }
-    if mode == 5 {
-        return 9223372036854775808;
-    }
-    4294967295
-}
-
-fn more_digit(m: Machine, d: usize) -> Machine
-    requires { ⌜ d < 10 ⌝ }
-    ensures { λ r. ⌜ r ≡ Lean.more-digit d m ⌝ }
-{
-    if 922337203685477580 < m.value {
-        return stuck(m);
-    }
-    let v = m.value * 10 + d;
-    let most = greatest(m.mode);
-    if most < v {
-        return stuck(m);
-    }
-    let mut r = m;
-    r.value = v;
-    r
-}
-
-fn begun(m: Machine, b: usize) -> Machine
-    requires { ⌜ m .mode < 4 ⌝ }
-    ensures { λ r. ⌜ r ≡ Lean.begun b m ⌝ }
-{
-    if !digit(b) {
-        return stuck(m);
-    }
-    let mut r = m;
-    r.mode = m.mode + 3;
-    r.value = b - 48;
-    r
-}
-
-// The number that ends before this byte, if one does.
-fn number_before(m: Machine, b: usize, out: &mut [u8]) -> Machine
-    ensures { λ r. ⌜ world r (now (out .exit)) ≡ Lean.number-before b (world m (now (out .entry))) ⌝ }
-{
-    if m.mode < 4 {
-        return m;
-    }
-    if 6 < m.mode {
-        return m;
-    }
-    if digit(b) {
-        return m;
-    }
-    number_ends(m, out)
-}
-
-fn next_digit(m: Machine, b: usize) -> Machine
-    ensures { λ r. ⌜ r ≡ Lean.next-digit b m ⌝ }
-{
-    if !digit(b) {
-        return stuck(m);
-    }
-    more_digit(m, b - 48)
-}
-
-// A string's reference, at its second quote.
-fn reference(from: usize, at: usize) -> usize
-    requires { ⌜ at < 8192 ⌝ }
-    ensures { λ r. ⌜ r ≡ Lean.reference from at ⌝ }
-{
-    if at < from {
-        return 0;
-    }
-    from + 65536 * (at - from)
-}
-
-fn string(m: Machine, at: usize, b: usize, out: &mut [u8]) -> Machine
-    requires { ⌜ at < 8192 ⌝ }
-    ensures { λ r. ⌜ world r (now (out .exit)) ≡ Lean.string at b (world m (now (out .entry))) ⌝ }
-{
-    if b != 39 {
-        return m;
-    }
-    let p = to_mode(m, 0);
-    let a = reference(m.value, at);
-    operand(p, out, 5, a, 0)
-}
-
 // ---- the whole text
 
-fn wide(b: u8) -> usize
-    ensures { λ r. ⌜ r ≡ b ⌝ }
+// The machine after a part.
+fn fed(m: Machine, p: Part, stack: &mut [u64], out: &mut [u8]) -> Machine
+    ensures { λ r. ⌜ all r (now (stack .exit)) (now (out .exit)) ≡ fed p (all m (now (stack .entry)) (now (out .entry))) ⌝ }
 {
-    b as usize
-}
-
-// The state after byte number `at` of the text, b, in a part.
-fn within(m: Machine, at: usize, b: usize, out: &mut [u8]) -> Machine
-    requires { ⌜ (at < 8192) × (2 ≤ m .mode) ⌝ }
-    ensures { λ r. ⌜ world r (now (out .exit)) ≡ Lean.within at b (world m (now (out .entry))) ⌝ }
-{
-    if m.mode < 4 {
-        return begun(m, b);
+    let mut q = m;
+    q.mode = p.mode;
+    q.value = p.value;
+    if p.kind == 12 {
+        return q;
     }
-    if m.mode < 7 {
-        return next_digit(m, b);
+    if p.kind == 1 {
+        return operand(q, out, p.tag, p.a, p.b);
     }
-    if m.mode < 8 {
-        return string(m, at, b, out);
+    if p.kind < 7 {
+        return fed_word(q, p.kind, p.tag, out);
     }
-    letter(m, b, out)
-}
-
-// The state after byte number `at` of the text, b. `begin` is called here alone, so that the machine stays in registers from byte to byte.
-fn step(m: Machine, at: usize, b: usize, stack: &mut [u64], out: &mut [u8]) -> Machine
-    requires { ⌜ at < 8192 ⌝ }
-    ensures { λ r. ⌜ all r (now (stack .exit)) (now (out .exit)) ≡ Lean.step at b (all m (now (stack .entry)) (now (out .entry))) ⌝ }
-{
-    let p = number_before(m, b, out);
-    if p.mode < 2 {
-        return begin(p, at, b, stack, out);
+    if p.kind == 7 {
+        return open_one(q, stack);
     }
-    within(p, at, b, out)
+    if p.kind == 8 {
+        return close_one(q, stack, out);
+    }
+    let tag = sign_tag(p.kind);
+    sign(q, tag)
 }
 
 // A condition that ends here.
@@ -365,22 +224,6 @@ fn ends(m: Machine, out: &mut [u8]) -> Machine
     to_mode(p, 0)
 }
 
-fn finish(m: Machine, out: &mut [u8]) -> Machine
-    ensures { λ r. ⌜ world r (now (out .exit)) ≡ Lean.finish (world m (now (out .entry))) ⌝ }
-{
-    if m.mode < 2 {
-        return ends(m, out);
-    }
-    if m.mode < 4 {
-        return stuck(m);
-    }
-    if m.mode < 7 {
-        let p = number_ends(m, out);
-        return ends(p, out);
-    }
-    stuck(m)
-}
-
 // The machine with a place in its value.
 fn placed(m: Machine, place: usize) -> Machine
     ensures { λ r. ⌜ r ≡ Lean.placed place m ⌝ }
@@ -388,6 +231,22 @@ fn placed(m: Machine, place: usize) -> Machine
     let mut r = m;
     r.value = place;
     r
+}
+
+fn wide(b: u8) -> usize
+    ensures { λ r. ⌜ r ≡ b ⌝ }
+{
+    b as usize
+}
+
+// The machine stuck at a place.
+fn stuck_at(m: Machine, place: usize) -> Machine
+    ensures { λ r. ⌜ r ≡ Lean.valued 24 place m ⌝ }
+{
+    let mut s = m;
+    s.mode = 24;
+    s.value = place;
+    s
 }
 
 // The machine after the whole text, with its cells written where there is room; or stuck, with the place.
@@ -409,15 +268,17 @@ pub fn run(text: &[u8], stack: &mut [u64], out: &mut [u8]) -> Machine
     let mut i: usize = 0;
     while i < text.len() {
         let b = wide(text[i]);
-        m = step(m, i, b, stack, out);
-        if m.mode == 24 {
-            return placed(m, i);
+        let room = stack.len();
+        let p = next_part(text, i, b, m, room);
+        if p.kind == 0 {
+            return stuck_at(m, p.at);
         }
-        i += 1;
+        m = fed(m, p, stack, out);
+        i = p.at;
     }
-    let p = finish(m, out);
-    if p.mode == 24 {
-        return placed(p, i);
+    let e = ends(m, out);
+    if e.mode == 24 {
+        return placed(e, i);
     }
-    p
+    e
 }
