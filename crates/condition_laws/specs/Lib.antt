@@ -9,3 +9,4 @@ pub mod Runs
 pub mod Written
 pub mod Few
 pub mod Answers
+pub mod Early

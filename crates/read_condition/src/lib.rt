@@ -5,6 +5,7 @@ ghost use Prim.Native.Nat.{_≤_};
 ghost use lib.ListN.{length};
 ghost use Rattle.grammar.specs.Operation.{condition};
 ghost use Rattle.condition_laws.specs.Answers.{Room};
+ghost use Rattle.condition_laws.specs.Early.{Early};
 ghost use Rattle.checker.specs.Checker.{outcome};
 
 // The cells are written to a buffer, and copied from there: a refusal leaves the output as it was. The stack has an entry for each byte, the buffer room for a
@@ -80,7 +81,23 @@ fn in_8192(text: &[u8], out: &mut [u8]) -> Answer
     read_in(text, &mut stack, &mut cells, out)
 }
 
-pub fn read_condition(text: &[u8], out: &mut [u8]) -> Answer
+// The place of a text that is stuck in its first k bytes, or k and more: a long one that is wrong at its beginning is answered before large buffers are cleared.
+fn early(text: &[u8], k: usize) -> usize
+    requires { ⌜ (k ≤ length (now text)) × (k ≤ 128) × (length (now text) ≤ 8192) ⌝ }
+    ensures { λ r. ⌜ Early (now (text .entry)) k r ⌝ }
+{
+    let mut none = [0u8; 1];
+    let a = in_128(&text[..k], &mut none);
+    if a.number != 22 {
+        return k;
+    }
+    a.place
+}
+
+// In buffers for a text of this size; a long one is first tried so many times at its beginning. It calls itself behind that, and so keeps a small frame: LLVM puts
+// no callee with a large frame into a function that calls itself.
+fn read_sized(text: &[u8], tries: usize, out: &mut [u8]) -> Answer
+    requires { ⌜ length (now text) ≤ 8192 ⌝ }
     ensures { λ a. ⌜ outcome a (now (out .exit)) ≡ condition (now (text .entry)) (now (out .entry)) ⌝ }
 {
     let n = text.len();
@@ -93,11 +110,24 @@ pub fn read_condition(text: &[u8], out: &mut [u8]) -> Answer
     if n <= 512 {
         return in_512(text, out);
     }
+    if tries != 0 {
+        let place = early(text, 64);
+        if place < 64 {
+            return checker::refusal(22, place);
+        }
+        return read_sized(text, tries - 1, out);
+    }
     if n <= 2048 {
         return in_2048(text, out);
     }
-    if 8192 < n {
+    in_8192(text, out)
+}
+
+pub fn read_condition(text: &[u8], out: &mut [u8]) -> Answer
+    ensures { λ a. ⌜ outcome a (now (out .exit)) ≡ condition (now (text .entry)) (now (out .entry)) ⌝ }
+{
+    if 8192 < text.len() {
         return checker::refusal(2, 0);
     }
-    in_8192(text, out)
+    read_sized(text, 1, out)
 }
