@@ -139,5 +139,5 @@ abbrev pub worked-plans : List Worked
 worked-plans = P1 ∷ P2 ∷ P3 ∷ P4 ∷ P5 ∷ P6 ∷ P7 ∷ P8 ∷ P9 ∷ P10 ∷ []
 
 pub all-worked : map (λ (w : Worked). w .given) worked-plans ≡ map (λ (w : Worked). w .said) worked-plans
-unfolding listed half word bytes length-ok edition-ok parts-ok bad-record bad-cell cell-ok cell read integer-of-bits integer-bits into-cnf into-cnf-vec Optimizer.maybe-push-join Optimizer.index-lookup Room.maybe-push-join Room.maybe-push-filter Room.push-filters-from Room.FilterPushdown Room.index-lookup Room.IndexLookup Room.short-circuit Room.ShortCircuit compare-integers compare-floats checked add-integers divide-integers Ieee.eq Ieee.lt Ieee.div Ieee.ofInt Ieee.round Ieee.ofBits Ieee.toBits
+unfolding listed half word bytes length-ok edition-ok parts-ok bad-record bad-cell cell-ok cell read integer-of-bits integer-bits into-cnf into-cnf-vec Optimizer.maybe-push-join Optimizer.index-lookup Optimizer.maybe-push-filter-with Optimizer.push-filters-from-with Optimizer.FilterPushdown-with Optimizer.IndexLookup-with compare-integers compare-floats checked add-integers divide-integers Ieee.eq Ieee.lt Ieee.div Ieee.ofInt Ieee.round Ieee.ofBits Ieee.toBits
 all-worked = refl

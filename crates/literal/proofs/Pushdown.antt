@@ -12,8 +12,10 @@ use Rattle.sql.specs.Expression.{logical, Equal, function, Expression, constant
 use Rattle.sql.specs.Expression as Defined
 use Rattle.sql.specs.Plan.{Leaf, scan, lookup, nothing, values, filter, other, nested-loop, hash, Node, leaf, over, join, node-size}
 use Rattle.sql.specs.Plan as Defined-plan
-use Rattle.sql.specs.Optimizer.{pushed-or-back, push-part, ref-left, ref-right, cons-if, for-left, for-right, for-both, equijoin, is-number, or-else, last-lookup, copied, copy-up, copy-down, flat-map, push-left, push-right, map-optional, go-on}
+use Rattle.sql.specs.Optimizer.{pushed-or-back, push-part, ref-left, ref-right, cons-if, for-left, for-right, for-both, equijoin, is-number, or-else, last-lookup, copied, copy-up, copy-down, flat-map, push-left, push-right, map-optional}
+use Rattle.sql.specs.Without.{go-on}
 use Rattle.sql.specs.Optimizer as Optimizer
+use Rattle.sql.specs.Without
 use Rattle.literal.specs.Rust.{Run, Ok, _>>=_, expect, _⇒_, _∣_, _else_, push, get, enumerate, cons-some, filter-map, for-each, try-fold, look-up}
 use Rattle.literal.specs.Expression.{and-on, walk, into-cnf-vec, and-vec, is-column-lookup, replace-column, shift-column}
 use Rattle.literal.specs.Plan.{columns}
@@ -354,27 +356,27 @@ module _ (schema : Schema) where
 
   -- ---- push_filters and maybe_push_filter
 
-  filter-same : (k : ℕ) (n : Node) → nodes n ≤ k → maybe-push-filter schema k n ≡ Ok (Optimizer.maybe-push-filter schema k n)
-  unfolding Optimizer.maybe-push-filter
+  filter-same : (k : ℕ) (n : Node) → nodes n ≤ k → maybe-push-filter schema k n ≡ Ok (Without.maybe-push-filter schema k n)
+  unfolding Optimizer.maybe-push-filter-with
   filter-same zero n h = absurd (let p = nodes-positive n in omega arith)
   filter-same (suc k) (leaf og l) h = refl
   filter-same (suc k) (over og (filter p) source) h =
       ap (λ (b : Option Expression × Node). (b .0 ⇒ λ back. Ok (over og (filter back) (b .1))) else push-filters-by schema (maybe-push-filter schema k) (b .1)) (into-same og p source)
       ∙ go (Optimizer.push-into og p source) refl (filter-same k)
     where
-      go : (o : Option Node) → Optimizer.push-into og p source ≡ o → ((n : Node) → nodes n ≤ k → maybe-push-filter schema k n ≡ Ok (Optimizer.maybe-push-filter schema k n))
+      go : (o : Option Node) → Optimizer.push-into og p source ≡ o → ((n : Node) → nodes n ≤ k → maybe-push-filter schema k n ≡ Ok (Without.maybe-push-filter schema k n))
           → ((back p source o .0 ⇒ λ b. Ok (over og (filter b) (back p source o .1))) else push-filters-by schema (maybe-push-filter schema k) (back p source o .1))
-          ≡ Ok (go-on (λ pushed. Optimizer.maybe-push-join schema (Optimizer.maybe-push-filter schema k pushed)) (over og (filter p) source) o)
+          ≡ Ok (go-on (λ pushed. Optimizer.maybe-push-join schema (Without.maybe-push-filter schema k pushed)) (over og (filter p) source) o)
       go none e below = refl
       go (some pushed) e below =
           let c = nodes-into og p source pushed e in
-          ap (λ (x : Run Node). x >>= maybe-push-join schema) (below pushed (omega arith)) ∙ push-join-same (Optimizer.maybe-push-filter schema k pushed)
+          ap (λ (x : Run Node). x >>= maybe-push-join schema) (below pushed (omega arith)) ∙ push-join-same (Without.maybe-push-filter schema k pushed)
   filter-same (suc k) (over og (other o) source) h = refl
   filter-same (suc k) (join og outer j left right) h = refl
 
   pub push-same : (n : Node) → push-filters schema n ≡ Ok (push-filters-of schema n)
   push-same n =
-      ap (λ (x : Run Node). x >>= maybe-push-join schema) (filter-same (node-size n) n (nodes-cells n)) ∙ push-join-same (Optimizer.maybe-push-filter schema (node-size n) n)
+      ap (λ (x : Run Node). x >>= maybe-push-join schema) (filter-same (node-size n) n (nodes-cells n)) ∙ push-join-same (Without.maybe-push-filter schema (node-size n) n)
 
   -- ---- the pass
 

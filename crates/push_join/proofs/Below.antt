@@ -15,7 +15,7 @@ use Rattle.sql.specs.Expression.{Expression, Unary, Not, function, IsNull, IsNa
 use Rattle.sql.specs.Plan.{unlabelled, unqualified, qualified, scan, lookup, nothing, values, filter, other, nested-loop, hash, Node, leaf, over, join, columns, node-size}
 use Rattle.sql.specs.Optimizer.{push-into, pushed-or-back, push-part, for-left, for-right, for-both, equijoin, push-left, push-right, split}
 use Rattle.sql.specs.Answer.{Answer, done, refused}
-use Rattle.sql.specs.Room
+use Rattle.sql.specs.Within
 use Rattle.sheet.specs.Cell.{Cell}
 use Rattle.sheet.specs.Content.{Content, cell-of, marked, constant-cell, column-cell, unary-cell, binary-cell, label-cell, item-cell, key-cell, target-cell, agg-cell, row-cell, aggregate-cell, filter-cell, hash-join-cell, index-lookup-cell, key-lookup-cell, limit-cell, offset-cell, nested-loop-join-cell, nothing-cell, order-cell, projection-cell, remap-cell, scan-cell, values-cell}
 use Rattle.sheet.specs.Cells.{present}
@@ -480,7 +480,7 @@ held-below records x t lo tail g og outer p l r e =
 
 -- beside Passes
 pub passes-below : {records x : List ℕ} {t lo tail k : ℕ} {x′ : List ℕ} → PassAt records x t lo tail → length x′ ≡ length x
-    → Passes Room.maybe-push-join records x t lo tail k x′ → Passes Room.maybe-push-join records x t lo tail k x′ × Passes-below x lo tail k x′
+    → Passes Within.maybe-push-join records x t lo tail k x′ → Passes Within.maybe-push-join records x t lo tail k x′ × Passes-below x lo tail k x′
 passes-below {records} {x} {t} {lo} {tail} {k} {x′} g e f = (f, below)
   where
     go : (cells : ℕ) → length x ≤ cell-words * cells → k ≤ length x → (pre post : List ℕ) (p : Node) → length pre ≡ lo → length post ≡ tail → (answer : Answer Node)
@@ -494,5 +494,5 @@ passes-below {records} {x} {t} {lo} {tail} {k} {x′} g e f = (f, below)
     below : Passes-below x lo tail k x′
     below cells i h =
         let d = g .held in
-        go cells i h (d .pre) (d .post) (d .p) (d .holds .low) (d .holds .high) (Room.maybe-push-join (d .room) (g .schema) (d .rest) (d .p))
+        go cells i h (d .pre) (d .post) (d .p) (d .holds .low) (d .holds .high) (Within.maybe-push-join (d .room) (g .schema) (d .rest) (d .p))
         (f (g .schema) (g .text) (g .tables) (g .given) (d .room) (d .rest) (d .shares) (d .pre) (d .post) (d .p) (d .fit) (d .holds))

@@ -334,5 +334,5 @@ numbered =
     ∷ []
 
 pub all-numbered : map (λ (w : Shown × Shown). w .0) numbered ≡ map (λ (w : Shown × Shown). w .1) numbered
-unfolding into-cnf into-cnf-vec Optimizer.maybe-push-join Optimizer.index-lookup Room.maybe-push-join Room.maybe-push-filter Room.push-filters-from Room.FilterPushdown Room.index-lookup Room.IndexLookup Room.short-circuit Room.ShortCircuit compare-integers compare-floats checked add-integers Ieee.eq Ieee.lt Ieee.div Ieee.ofInt Ieee.round Ieee.ofBits Ieee.toBits
+unfolding into-cnf into-cnf-vec Optimizer.maybe-push-join Optimizer.index-lookup Optimizer.maybe-push-filter-with Optimizer.push-filters-from-with Optimizer.FilterPushdown-with Optimizer.IndexLookup-with compare-integers compare-floats checked add-integers Ieee.eq Ieee.lt Ieee.div Ieee.ofInt Ieee.round Ieee.ofBits Ieee.toBits
 all-numbered = refl

@@ -1,5 +1,6 @@
 -- optimizer.rs: the five optimizers, as functions on plans, each under its Rust name. They know no limit of size: Room.antt has them with document 01's
--- limit (and where that doesn't refuse, they do the same: crate room). Crate literal ties the recursion here to the Rust's `transform`.
+-- limit (and where that doesn't refuse, they do the same: crate room). The recursions of passes 2 to 5 stand behind the rules, once for every effect
+-- (Effect.antt). Crate literal ties them, with no effect, to the Rust's `transform`.
 use Prim.Native.Nat.{ℕ, zero, suc, _+_, _-_}
 use mathlib.Core.Bool.{Bool, true, false, not, _&&_, _||_, cond}
 use mathlib.Core.List.{List, [], _∷_, _++_, map}
@@ -10,13 +11,8 @@ use Rattle.value.specs.Value.{Truth, False, Unknown, True, Value, truth, datum,
 use Rattle.sql.specs.Schema.{Table, Schema, table-of, column-of}
 use Rattle.sql.specs.Expression.{Marked, Logical, And, Or, Unary, Binary, logical, Equal, function, Expression, constant, column, unary, binary, and, origin, size, bind, evaluate, contains-column, replace-column, shift-column-down, shift-column-up, into-cnf-vec, and-vec, is-column, is-column-lookup, into-column-values}
 use Rattle.sql.specs.Plan.{Label, unlabelled, unqualified, qualified, Access, by-key, by-index, Leaf, scan, lookup, nothing, values, Other, limit, offset, order, projection, remap, aggregate, Over, filter, other, Join, nested-loop, hash, Node, leaf, over, join, node-origin, columns, column-labels, row-size, item-size, key-size, node-size}
+use Rattle.sql.specs.Effect.{Effect, plain, go-on-with, over-source, join-sources, each-source-with}
 use Rattle.sql.specs.Answer.{Answer, done, refused, _>>=_, at-place}
-
--- A transform is applied to the sources of a node.
-abbrev pub map-sources : (Node → Node) → Node → Node
-map-sources f (leaf og l) = leaf og l
-map-sources f (over og o source) = over og o (f source)
-map-sources f (join og outer j left right) = join og outer j (f left) (f right)
 
 -- ======== ConstantFolding
 
@@ -272,9 +268,11 @@ split og n outer cnf left right =
     let r = push-part og (map-optional (shift-column-down n) (and-vec og (push-right n cnf))) right in
     join og outer (nested-loop (and-vec og (for-both n cnf ++ (l .1 ++ map (shift-column-up n) (r .1))))) (l .0) (r .0)
 
-abbrev pub go-on : (Node → Node) → Node → Option Node → Node
-go-on f node none = node
-go-on f node (some pushed) = f pushed
+abbrev pub join-predicate : Node → Option Expression
+join-predicate (leaf og l) = none
+join-predicate (over og o source) = none
+join-predicate (join og outer (nested-loop predicate) left right) = predicate
+join-predicate (join og outer (hash left-column right-column) left right) = none
 
 module _ (schema : Schema) where
   unfoldable pub maybe-push-join : Node → Node
@@ -283,28 +281,6 @@ module _ (schema : Schema) where
   maybe-push-join (join og outer (nested-loop none) left right) = join og outer (nested-loop none) left right
   maybe-push-join (join og outer (nested-loop (some predicate)) left right) = split og (columns schema left) outer (into-cnf-vec predicate) left right
   maybe-push-join (join og outer (hash left-column right-column) left right) = join og outer (hash left-column right-column) left right
-
-  -- A Filter that its source takes is gone, and push_filters goes on with the source: maybe_push_filter, then the join rule. The number bounds the
-  -- nodes of the plan, which are one fewer after each merge.
-  unfoldable pub maybe-push-filter : ℕ → Node → Node
-  maybe-push-filter zero node = node
-  maybe-push-filter (suc n) (leaf og l) = leaf og l
-  maybe-push-filter (suc n) (over og (filter predicate) source) =
-      go-on (λ pushed. maybe-push-join (maybe-push-filter n pushed)) (over og (filter predicate) source) (push-into og predicate source)
-  maybe-push-filter (suc n) (over og (other o) source) = over og (other o) source
-  maybe-push-filter (suc n) (join og outer j left right) = join og outer j left right
-
-  abbrev pub push-filters : ℕ → Node → Node
-  push-filters n node = maybe-push-join (maybe-push-filter n node)
-
-  -- a node, then the sources of what it became
-  unfoldable pub push-filters-from : ℕ → Node → Node
-  push-filters-from zero node = node
-  push-filters-from (suc n) node = map-sources (push-filters-from n) (push-filters (suc n) node)
-
-  -- No plan has more nodes than cells.
-  unfoldable pub FilterPushdown : Node → Node
-  FilterPushdown node = push-filters-from (node-size node) node
 
 -- ======== IndexLookup
 
@@ -354,11 +330,11 @@ module _ (schema : Schema) where
   index-lookup og (nothing labels) = leaf og (nothing labels)
   index-lookup og (values rows) = leaf og (values rows)
 
-  -- Only a leaf is rewritten, and what it becomes holds no scan.
-  unfoldable pub IndexLookup : Node → Node
-  IndexLookup (leaf og l) = index-lookup og l
-  IndexLookup (over og o source) = over og o (IndexLookup source)
-  IndexLookup (join og outer j left right) = join og outer j (IndexLookup left) (IndexLookup right)
+abbrev pub scan-filter : Leaf → Option Expression
+scan-filter (scan table alias predicate) = predicate
+scan-filter (lookup access table alias constants) = none
+scan-filter (nothing labels) = none
+scan-filter (values rows) = none
 
 -- ======== HashJoin
 
@@ -372,11 +348,6 @@ abbrev pub hash-join : ℕ → Join → Join
 hash-join n (nested-loop none) = nested-loop none
 hash-join n (nested-loop (some predicate)) = hash-pair n predicate (equijoin predicate)
 hash-join n (hash left-column right-column) = hash left-column right-column
-
-abbrev pub HashJoin : Schema → Node → Node
-HashJoin schema (leaf og l) = leaf og l
-HashJoin schema (over og o source) = over og o (HashJoin schema source)
-HashJoin schema (join og outer j left right) = join og outer (hash-join (columns schema left) j) (HashJoin schema left) (HashJoin schema right)
 
 -- ======== ShortCircuit
 
@@ -492,11 +463,73 @@ module _ (schema : Schema) where
   abbrev pub short-circuit : Node → Node
   short-circuit node = empty-or-node (is-empty (remove-useless node)) (remove-useless node)
 
+-- ======== The recursions of the four passes after ConstantFolding, for every effect
+
+module _ (effect : Effect) (schema : Schema) where
+  infixl 10 _and-then_
+  open Effect effect using (Rewritten, stays, step, visit, look-up, formed, _and-then_)
+
+  abbrev pub maybe-push-join-with : Node → Rewritten
+  maybe-push-join-with node = formed (join-predicate node) node and-then λ n. step (maybe-push-join schema n)
+
+  -- A Filter that its source takes is gone, and push_filters goes on with the source: maybe_push_filter, then the join rule. The number bounds the
+  -- nodes of the plan, which are one fewer after each merge.
+  unfoldable pub maybe-push-filter-with : ℕ → Node → Rewritten
+  maybe-push-filter-with zero node = stays node
+  maybe-push-filter-with (suc n) (leaf og l) = stays (leaf og l)
+  maybe-push-filter-with (suc n) (over og (filter predicate) source) =
+      go-on-with effect (λ pushed. step pushed and-then maybe-push-filter-with n and-then maybe-push-join-with) (over og (filter predicate) source)
+      (push-into og predicate source)
+  maybe-push-filter-with (suc n) (over og (other o) source) = stays (over og (other o) source)
+  maybe-push-filter-with (suc n) (join og outer j left right) = stays (join og outer j left right)
+
+  abbrev pub push-filters-with : ℕ → Node → Rewritten
+  push-filters-with n node = maybe-push-filter-with n node and-then maybe-push-join-with
+
+  -- a node, then the sources of what it became
+  unfoldable pub push-filters-from-with : ℕ → Node → Rewritten
+  push-filters-from-with zero node = stays node
+  push-filters-from-with (suc n) node = push-filters-with (suc n) node and-then each-source-with effect (push-filters-from-with n)
+
+  -- No plan has more nodes than cells.
+  unfoldable pub FilterPushdown-with : Node → Rewritten
+  FilterPushdown-with node = push-filters-from-with (node-size node) node
+
+  -- Only a leaf is rewritten, and what it becomes holds no scan. A scan's normal forms are made also where no lookup is found and the original filter stays.
+  unfoldable pub IndexLookup-with : Node → Rewritten
+  IndexLookup-with (leaf og l) = formed (scan-filter l) (leaf og l) and-then λ n. look-up (index-lookup schema og l)
+  IndexLookup-with (over og o source) = visit (over og o source) and-then λ n. over-source effect og o (IndexLookup-with source) stays
+  IndexLookup-with (join og outer j left right) =
+      visit (join og outer j left right) and-then λ n. join-sources effect og outer j right (IndexLookup-with left) (IndexLookup-with right) stays
+
+  abbrev pub HashJoin-with : Node → Rewritten
+  HashJoin-with (leaf og l) = visit (leaf og l)
+  HashJoin-with (over og o source) = visit (over og o source) and-then λ n. over-source effect og o (HashJoin-with source) stays
+  HashJoin-with (join og outer j left right) =
+      let k = hash-join (columns schema left) j in
+      visit (join og outer k left right) and-then λ n. join-sources effect og outer k right (HashJoin-with left) (HashJoin-with right) stays
+
   -- sources before the node
+  abbrev pub ShortCircuit-with : Node → Rewritten
+  ShortCircuit-with (leaf og l) = step (short-circuit schema (leaf og l))
+  ShortCircuit-with (over og o source) = over-source effect og o (ShortCircuit-with source) (λ n. step (short-circuit schema n))
+  ShortCircuit-with (join og outer j left right) =
+      join-sources effect og outer j right (ShortCircuit-with left) (ShortCircuit-with right) (λ n. step (short-circuit schema n))
+
+-- ======== The passes themselves
+
+module _ (schema : Schema) where
+  abbrev pub FilterPushdown : Node → Node
+  FilterPushdown = FilterPushdown-with plain schema
+
+  abbrev pub IndexLookup : Node → Node
+  IndexLookup = IndexLookup-with plain schema
+
+  abbrev pub HashJoin : Node → Node
+  HashJoin = HashJoin-with plain schema
+
   abbrev pub ShortCircuit : Node → Node
-  ShortCircuit (leaf og l) = short-circuit (leaf og l)
-  ShortCircuit (over og o source) = short-circuit (over og o (ShortCircuit source))
-  ShortCircuit (join og outer j left right) = short-circuit (join og outer j (ShortCircuit left) (ShortCircuit right))
+  ShortCircuit = ShortCircuit-with plain schema
 
 -- ======== OPTIMIZERS
 

@@ -182,15 +182,15 @@ record Computed (s : List ℕ) (front least most least-five most-five : ℕ) : T
   five : within least-five most-five (optimized s) ≡ true
 
 P1-computed : Computed P1 0 5 8 3 3
-unfolding plan schema half word length-ok edition-ok parts-ok bad-record bad-cell cell-ok cell read integer-of-bits integer-bits Sizes.maybe-push-filter Sizes.push-filters-from Optimizer.maybe-push-join Optimizer.maybe-push-filter Optimizer.push-filters-from Optimizer.FilterPushdown Optimizer.index-lookup Optimizer.IndexLookup
+unfolding plan schema half word length-ok edition-ok parts-ok bad-record bad-cell cell-ok cell read integer-of-bits integer-bits Optimizer.maybe-push-filter-with Optimizer.push-filters-from-with Optimizer.maybe-push-join Optimizer.FilterPushdown-with Optimizer.index-lookup Optimizer.IndexLookup-with
 P1-computed = record { are-small = refl; fronts = refl; each = refl; five = refl }
 
 one-cell-computed : Computed one-cell 0 1 1 1 1
-unfolding plan schema half word length-ok edition-ok parts-ok bad-record bad-cell cell-ok cell read integer-of-bits integer-bits Sizes.maybe-push-filter Sizes.push-filters-from Optimizer.maybe-push-join Optimizer.maybe-push-filter Optimizer.push-filters-from Optimizer.FilterPushdown Optimizer.index-lookup Optimizer.IndexLookup
+unfolding plan schema half word length-ok edition-ok parts-ok bad-record bad-cell cell-ok cell read integer-of-bits integer-bits Optimizer.maybe-push-filter-with Optimizer.push-filters-from-with Optimizer.maybe-push-join Optimizer.FilterPushdown-with Optimizer.index-lookup Optimizer.IndexLookup-with
 one-cell-computed = record { are-small = refl; fronts = refl; each = refl; five = refl }
 
 busy-computed : Computed busy 32 0 13 0 13 × (within 14 14 (plan busy) ≡ true)
-unfolding plan schema half word length-ok edition-ok parts-ok table-ok column-ok bad-record bad-cell cell-ok cell read integer-of-bits integer-bits into-cnf into-cnf-vec Sizes.maybe-push-filter Sizes.push-filters-from Optimizer.maybe-push-join Optimizer.maybe-push-filter Optimizer.push-filters-from Optimizer.FilterPushdown Optimizer.index-lookup Optimizer.IndexLookup
+unfolding plan schema half word length-ok edition-ok parts-ok table-ok column-ok bad-record bad-cell cell-ok cell read integer-of-bits integer-bits into-cnf into-cnf-vec Optimizer.maybe-push-filter-with Optimizer.push-filters-from-with Optimizer.maybe-push-join Optimizer.FilterPushdown-with Optimizer.index-lookup Optimizer.IndexLookup-with
 busy-computed = (record { are-small = refl; fronts = refl; each = refl; five = refl }, refl)
 
 module _ {s : List ℕ} {front least most least-five most-five : ℕ} (c : Computed s front least most least-five most-five) where

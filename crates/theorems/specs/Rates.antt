@@ -105,5 +105,5 @@ plans =
     ∷ []
 
 plans-answered : map (λ e. Room.optimize max-cells keyed (e .0)) plans ≡ map (λ e. e .1) plans
-unfolding plans into-cnf into-cnf-vec Optimizer.maybe-push-join Optimizer.index-lookup Room.maybe-push-join Room.maybe-push-filter Room.push-filters-from Room.FilterPushdown Room.index-lookup Room.IndexLookup Room.short-circuit Room.ShortCircuit checked subtract-integers multiply-integers Ieee.ofInt Ieee.toBits Ieee754.read Ieee754.units Ieee754.root-bits
+unfolding plans into-cnf into-cnf-vec Optimizer.maybe-push-join Optimizer.index-lookup Optimizer.maybe-push-filter-with Optimizer.push-filters-from-with Optimizer.FilterPushdown-with Optimizer.IndexLookup-with checked subtract-integers multiply-integers Ieee.ofInt Ieee.toBits Ieee754.read Ieee754.units Ieee754.root-bits
 plans-answered = refl
