@@ -3,7 +3,7 @@ use layout::Found;
 use scope::Scope;
 ghost use mathlib.Core.Path.{_≡_};
 ghost use mathlib.Core.Option.{none};
-ghost use Rattle.sheet.specs.Cell.{bad-cell};
+ghost use Rattle.sheet.specs.Content.{bad-cell};
 ghost use Rattle.sheet.specs.Check;
 ghost use Rattle.sheet.specs.Check.{checked, cells-checked};
 ghost use Rattle.layout.specs.Layout.{Whole};

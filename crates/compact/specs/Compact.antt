@@ -4,7 +4,7 @@ use mathlib.Core.Bool.{Bool, true, false, cond}
 use mathlib.Core.List.{List, [], _∷_, _++_, map}
 use lib.Dec.{leb}
 use lib.ListN.{length}
-use Rattle.value.specs.Meaning.{bytes-at}
+use Rattle.value.specs.Encoding.{bytes-at}
 use Rattle.sql.specs.Answer.{Answer, done, refused}
 use Rattle.sql.specs.Plan.{Node}
 use Rattle.sheet.specs.Bytes.{bytes}

@@ -5,7 +5,7 @@ use mathlib.Core.Logic.{_≢_}
 use mathlib.Core.Bool.{true, false, cond}
 use mathlib.Core.List.{List, [], _∷_, _++_, map}
 use lib.ListN.{length, take, drop}
-use Rattle.value.specs.Meaning.{bytes-at}
+use Rattle.value.specs.Encoding.{bytes-at}
 use Rattle.sql.specs.Answer.{done, refused}
 use Rattle.sql.specs.Plan.{Node}
 use Rattle.sheet.specs.Parts.{edition}

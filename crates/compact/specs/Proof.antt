@@ -11,7 +11,7 @@ use lib.Dec.{leb}
 use lib.ListN.{length, take, drop, getD}
 use lib.Seq.{take-append-seam, length-take-le}
 use Rattle.value.specs.Value.{integer, float, string, Value, truth, datum}
-use Rattle.value.specs.Meaning.{bytes-at}
+use Rattle.value.specs.Encoding.{bytes-at}
 use Rattle.sql.specs.Answer.{Answer, done, refused}
 use Rattle.sql.specs.Schema.{Column, Table, Schema}
 use Rattle.sql.specs.Plan.{Node, columns, node-size}

@@ -9,7 +9,7 @@ use mathlib.Core.List.{List, [], _∷_, _++_, map, append-assoc}
 use lib.Dec.{leb}
 use lib.ListN.{length, take, drop, length-append, length-map, take-append-drop}
 use lib.Seq.{length-take-le}
-use Rattle.value.specs.Meaning.{bytes-at}
+use Rattle.value.specs.Encoding.{bytes-at}
 use Rattle.sql.specs.Answer.{Answer, done, refused}
 use Rattle.sql.specs.Plan.{Node, columns, node-size}
 use Rattle.sheet.specs.Bytes.{bytes, word}

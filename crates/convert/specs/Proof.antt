@@ -11,7 +11,8 @@ use Rattle.sql.specs.Answer.{Answer, done, refused}
 use Rattle.sql.specs.Plan.{Node}
 use Rattle.sheet.specs.Bytes.{byte}
 use Rattle.sheet.specs.Parts.{tables-at, columns-at, cells-at, edition, table-count, cell-count}
-use Rattle.sheet.specs.Cell.{Cell, cell, cell-ok, origins, bad-cell}
+use Rattle.sheet.specs.Cell.{Cell, cell}
+use Rattle.sheet.specs.Content.{cell-ok, origins, bad-cell}
 use Rattle.sheet.specs.Cells.{cells}
 use Rattle.sheet.specs.Check.{Numbers, text, schema, plan, checked, check}
 use Rattle.sheet.specs.Operations.{Outcome}

@@ -4,11 +4,12 @@ use Prim.Native.Nat.{ℕ, _+_, _*_}
 use mathlib.Core.Path.{_≡_, refl}
 use mathlib.Core.List.{List, [], _∷_, _++_, map}
 use lib.ListN.{length, replicate}
-use Rattle.value.specs.Meaning.{integer-bits, integer-of-bits}
+use Rattle.value.specs.Encoding.{integer-bits, integer-of-bits}
 use Rattle.sql.specs.Optimizer
 use Rattle.sheet.specs.Bytes.{bytes, word, half}
 use Rattle.sheet.specs.Parts.{length-ok, edition-ok, parts-ok, bad-record}
-use Rattle.sheet.specs.Cell.{Cell, cell, cell-ok, bad-cell}
+use Rattle.sheet.specs.Cell.{Cell, cell}
+use Rattle.sheet.specs.Content.{cell-ok, bad-cell}
 use Rattle.sheet.specs.Tree.{read}
 use Rattle.sheet.specs.Check.{Numbers, check, refusal}
 use Rattle.sheet.specs.Write.{cells-bytes}

@@ -11,7 +11,7 @@ use lib.Seq.{take-append-seam, drop-append-seam}
 use Rattle.sql.specs.Answer.{Answer, done, refused, _>>=_}
 use Rattle.sql.specs.Schema.{Schema}
 use Rattle.sql.specs.Plan.{Node, columns, node-size}
-use Rattle.sql.specs.Optimizer.{Optimizer}
+use Rattle.sql.specs.Optimizer.{Pass}
 use Rattle.sql.specs.Room
 use Rattle.sheet.specs.Bytes.{bytes, word}
 use Rattle.sheet.specs.Parts.{tables-at, columns-at, cells-at, edition}
@@ -61,7 +61,7 @@ numbered-zero i (k ∷ ks) = ap (λ l. remarked (λ og. 0) k ∷ l) (numbered-ze
 no-refusal : {A : Type 0} (k : ℕ) → 1 ≤ k → k ≡ 0 → A
 no-refusal k p e = absurd (omega arith)
 
-module _ (s : List ℕ) (b : Bytes s) (out : List ℕ) (f : Optimizer) (hands-out : (n m : Node) → plan s ≡ done n → f n ≡ done m → Handed-out s n m) where
+module _ (s : List ℕ) (b : Bytes s) (out : List ℕ) (f : Pass) (hands-out : (n m : Node) → plan s ≡ done n → f n ≡ done m → Handed-out s n m) where
   -- ---- in its own edition
 
   stays-in : ((n : Node) → Refused-by (From-to 11 14) (f n)) → hand-out s out (plan s >>= f) .numbers .number ≡ 0 → edition (sheet-of (hand-out s out (plan s >>= f))) ≡ edition s
@@ -129,7 +129,7 @@ module _ (s : List ℕ) (b : Bytes s) (out : List ℕ) (f : Optimizer) (hands-ou
     hand-out-down (refused number place) h = refuse-down out number place
 
     -- f makes of the plan what g makes of it with its origins set to zero.
-    outcome-down : (g : Optimizer) → ((n : Node) → plan s ≡ done n → g (zeroed n) ≡ map-answer zeroed (f n)) → hand-out d out (plan d >>= g) ≡ down-outcome (hand-out s out (plan s >>= f))
+    outcome-down : (g : Pass) → ((n : Node) → plan s ≡ done n → g (zeroed n) ≡ map-answer zeroed (f n)) → hand-out d out (plan d >>= g) ≡ down-outcome (hand-out s out (plan s >>= f))
     outcome-down g k = ap (hand-out d out) (ap (λ (r : Answer Node). r >>= g) (plan-down s b two) ∙ go (plan s) refl) ∙ hand-out-down (plan s >>= f) refl
       where
         go : (r : Answer Node) → plan s ≡ r → (map-answer zeroed r >>= g) ≡ map-answer zeroed (r >>= f)

@@ -10,7 +10,8 @@ use Rattle.sql.specs.Expression.{Marked, Expression, constant, column, unary, b
 use Rattle.sql.specs.Plan.{Label, Node}
 use Rattle.sql.specs.Optimizer.{map-optional}
 use Rattle.sheet.specs.Cell.{Cell}
-use Rattle.sheet.specs.Content.{Content, Reader, readers, content-of, marked, constant-cell, column-cell, unary-cell, binary-cell, label-cell, item-cell, key-cell, target-cell, agg-cell, row-cell, aggregate-cell, filter-cell, hash-join-cell, index-lookup-cell, key-lookup-cell, limit-cell, offset-cell, nested-loop-join-cell, nothing-cell, order-cell, projection-cell, remap-cell, scan-cell, values-cell}
+use Rattle.sheet.specs.Content.{Content, Reader, readers, content-of, constant-cell, column-cell, unary-cell, binary-cell, label-cell, item-cell, key-cell, target-cell, agg-cell, row-cell, aggregate-cell, filter-cell, hash-join-cell, index-lookup-cell, key-lookup-cell, limit-cell, offset-cell, nested-loop-join-cell, nothing-cell, order-cell, projection-cell, remap-cell, scan-cell, values-cell}
+use Rattle.sheet.specs.AsCell.{marked}
 use Rattle.sheet.specs.Tree.{Tree, expression-tree, label-tree, item-tree, key-tree, target-tree, agg-tree, row-tree, node-tree, bind, an-expression, value-of, a-constant, a-label, an-item, a-key, a-target, an-agg, a-row, a-node, Stack, pop, children, child, if-any, reduce, after, Read, lacking, stack, read}
 use Rattle.sheet.specs.Check.{sole-node, one-plan}
 use Rattle.origins.specs.Origins.{map-origins, map-mark, map-row, map-part, map-aggregate, map-node-origins, map-answer}

@@ -10,7 +10,7 @@ use Rattle.sql.specs.Plan.{Node, columns, node-size}
 use Rattle.sheet.specs.Bytes.{word, bytes}
 use Rattle.sheet.specs.Parts.{tables-at, columns-at, cells-at, edition, cell-count, record-at}
 use Rattle.sheet.specs.Cell.{Cell}
-use Rattle.sheet.specs.Content.{marked}
+use Rattle.sheet.specs.AsCell.{marked}
 use Rattle.sheet.specs.Cells.{cells}
 use Rattle.sheet.specs.Check.{Numbers, schema, plan, checked, check}
 use Rattle.sheet.specs.Write.{cell-bytes, cells-bytes, trailer, sheet-with, write}

@@ -142,7 +142,7 @@ leading-zeros : reading (ascii "007") ≡ taken (int 7)
 unfolding reading
 leading-zeros = refl
 
-minus-behind-a-sign : reading (ascii "1<-1") ≡ taken (binary 0 (Binary.function LessThan) (int 1) (constant 0 (datum (integer (negsuc 0)))))
+minus-behind-a-sign : reading (ascii "1<-1") ≡ taken (binary 0 (Binary.function2 LessThan) (int 1) (constant 0 (datum (integer (negsuc 0)))))
 unfolding reading
 minus-behind-a-sign = refl
 
@@ -166,7 +166,7 @@ parentheses-alone : reading (ascii "( (1) )") ≡ taken (int 1)
 unfolding reading
 parentheses-alone = refl
 
-null-is-null : reading (ascii "NULL IS NULL") ≡ taken (unary 0 (Unary.function IsNull) (constant 0 null))
+null-is-null : reading (ascii "NULL IS NULL") ≡ taken (unary 0 (Unary.function1 IsNull) (constant 0 null))
 unfolding reading
 null-is-null = refl
 
@@ -199,7 +199,7 @@ derived-negation =
     }
 
 -- A string behind its first quote: byte 2, of 1 byte.
-derived-string : Condition (ascii "('a'IS NAN)OR TRUE") (or 0 (unary 0 (Unary.function IsNaN) (constant 0 (datum (string 65538 (97 ∷ []))))) (constant 0 (boolean true)))
+derived-string : Condition (ascii "('a'IS NAN)OR TRUE") (or 0 (unary 0 (Unary.function1 IsNaN) (constant 0 (datum (string 65538 (97 ∷ []))))) (constant 0 (boolean true)))
 derived-string =
     record {
       parts = opening ∷ Part.string 65538 (97 ∷ []) ∷ word IS ∷ word NAN ∷ closing ∷ word OR ∷ word TRUE ∷ [];

@@ -7,7 +7,7 @@ use mathlib.Core.Path.{_≡_, refl}
 use lib.IntN.{pos}
 use lib.Ieee
 use Rattle.value.specs.Value.{True, Value, truth, datum, integer, null, Result, ok}
-use Rattle.value.specs.Meaning.{integer-bits, integer-of-bits}
+use Rattle.value.specs.Encoding.{integer-bits, integer-of-bits}
 use Rattle.value.specs.Comparison.{compare-integers, compare-floats}
 use Rattle.value.specs.Arithmetic.{checked, add-integers, divide-integers}
 use Rattle.sql.specs.Expression.{Expression, constant, and, or, not, evaluate, into-nnf, into-cnf, into-cnf-vec}
@@ -19,7 +19,8 @@ use Rattle.sql.specs.Room.{max-cells}
 use Rattle.sql.specs.Samples.{keyed, scanned, one-row, number, double, equals, plus, divided-by, A, B, C, D}
 use Rattle.sheet.specs.Bytes.{half, word, bytes}
 use Rattle.sheet.specs.Parts.{length-ok, edition-ok, parts-ok, bad-record}
-use Rattle.sheet.specs.Cell.{cell, cell-ok, bad-cell}
+use Rattle.sheet.specs.Cell.{cell}
+use Rattle.sheet.specs.Content.{cell-ok, bad-cell}
 use Rattle.sheet.specs.Tree.{read}
 use Rattle.sheet.specs.Examples as Sheets
 use Rattle.list_plan.specs.Listed.{listed}

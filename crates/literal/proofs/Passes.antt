@@ -9,7 +9,7 @@ use lib.Dec.{eqb, ltb, eqb·zero-suc}
 use lib.ListN.{length}
 use Rattle.value.specs.Value.{False, Unknown, True, Value, truth, datum}
 use Rattle.sql.specs.Schema.{Column, Schema, table-of, column-of}
-use Rattle.sql.specs.Expression.{Marked, logical, Equal, function, Expression, constant, column, unary, binary}
+use Rattle.sql.specs.Expression.{Marked, logical, Equal, function2, Expression, constant, column, unary, binary}
 use Rattle.sql.specs.Expression as Defined
 use Rattle.sql.specs.Plan.{Label, unlabelled, unqualified, qualified, Access, by-key, by-index, Leaf, scan, lookup, nothing, values, limit, offset, order, projection, remap, aggregate, filter, other, nested-loop, hash, Node, leaf, over, join, node-origin, up-to, node-size}
 use Rattle.sql.specs.Plan as Defined-plan
@@ -333,7 +333,7 @@ module _ (schema : Schema) where
   hash-join-same (join og outer (nested-loop (some (binary o Equal (column i a) (binary k f x z)))) left right) = refl
   hash-join-same (join og outer (nested-loop (some (binary o Equal (unary i f x) y))) left right) = refl
   hash-join-same (join og outer (nested-loop (some (binary o Equal (binary i f x z) y))) left right) = refl
-  hash-join-same (join og outer (nested-loop (some (binary o (function f) x y))) left right) = refl
+  hash-join-same (join og outer (nested-loop (some (binary o (function2 f) x y))) left right) = refl
 
   hash-fits : (k : ℕ) (n : Node) → nodes n ≤ suc k → Fits nodes k (hash-join-node n)
   hash-fits k (leaf og l) h = omega arith

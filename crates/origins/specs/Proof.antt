@@ -9,7 +9,7 @@ use Rattle.sql.specs.Schema.{Schema}
 use Rattle.sql.specs.Expression.{Expression, size, into-nnf, into-cnf}
 use Rattle.sql.specs.Plan.{Leaf, scan, lookup, nothing, values, Over, filter, other, Join, nested-loop, hash, Node, leaf, over, join, over-size, join-size, node-size}
 use Rattle.sql.specs.Answer.{Answer, done, refused, _>>=_}
-use Rattle.sql.specs.Optimizer.{push-into, map-optional, Optimizer, in-turn, join-predicate, scan-filter}
+use Rattle.sql.specs.Optimizer.{push-into, map-optional, Pass, in-turn, join-predicate, scan-filter}
 use Rattle.sql.specs.Optimizer as Optimizer
 use Rattle.sql.specs.Room
 use Rattle.sql.specs.Room.{if-room}
@@ -183,11 +183,11 @@ pub passes-commute : PassesCommute
 passes-commute room schema k h n = pass-map h room schema k n
 
 -- optimizers in turn, each of which commutes
-data All-commute : List Optimizer → Type 0 where
+data All-commute : List Pass → Type 0 where
   no-more : All-commute []
-  and-then : {f : Optimizer} {fs : List Optimizer} → Commutes f → All-commute fs → All-commute (f ∷ fs)
+  and-then : {f : Pass} {fs : List Pass} → Commutes f → All-commute fs → All-commute (f ∷ fs)
 
-in-turn-commutes : {fs : List Optimizer} → All-commute fs → Commutes (in-turn fs)
+in-turn-commutes : {fs : List Pass} → All-commute fs → Commutes (in-turn fs)
 in-turn-commutes no-more h n = refl
 in-turn-commutes (and-then {f} {fs} k r) h n = after h f (in-turn fs) (k h) (in-turn-commutes r h) n
 
@@ -198,7 +198,7 @@ five-commute room schema =
     (and-then (passes-commute room schema 4) (and-then (passes-commute room schema 5) no-more)))))
 
 -- What commutes makes no origin: if the plan given is its own image, so is the result.
-commutes-keeps : (optimizer : Optimizer) → Commutes optimizer → Keeps optimizer
+commutes-keeps : (optimizer : Pass) → Commutes optimizer → Keeps optimizer
 commutes-keeps optimizer k h n m same is =
     done-same (sym (ap (map-answer (map-node-origins h)) is) ∙ (sym (k h n) ∙ (ap optimizer same ∙ is)))
 

@@ -17,7 +17,7 @@ use Rattle.sql.specs.Optimizer as Optimizer
 use Rattle.sql.specs.Optimizer.{join-predicate}
 use Rattle.sql.specs.Room.{if-room, normal-forms-fit, step}
 use Rattle.sql.specs.Within
-use Rattle.sheet.specs.Content.{bit}
+use Rattle.sheet.specs.AsCell.{bit}
 use Rattle.sheet.specs.Cells.{present}
 use Rattle.cells.specs.declared.Cell.{Cell}
 use Rattle.cells.specs.Cells.{cell-words, cell-at}

@@ -10,7 +10,7 @@ use Rattle.sql.specs.Schema.{Schema}
 use Rattle.sql.specs.Expression.{Expression, size, into-nnf, into-cnf}
 use Rattle.sql.specs.Plan.{Node, node-size}
 use Rattle.sql.specs.Answer.{Answer, done, refused, _>>=_}
-use Rattle.sql.specs.Optimizer.{Optimizer, in-turn}
+use Rattle.sql.specs.Optimizer.{Pass, in-turn}
 use Rattle.sql.specs.Optimizer as Optimizer
 use Rattle.sql.specs.Room.{if-room, normal-forms-fit, refusing}
 use Rattle.sql.specs.Room
@@ -82,20 +82,20 @@ module _ (room more : ℕ) (larger : room ≤ more) (schema : Schema) where
   pass-larger (suc (suc (suc (suc (suc zero))))) n m h = circuit-larger 0 n m h
   pass-larger (suc (suc (suc (suc (suc (suc k)))))) n m h = h
 
-  turn : (f g : Optimizer) (fs gs : List Optimizer) → ((n : Node) → Follows (f n) (g n)) → ((n : Node) → Follows (in-turn fs n) (in-turn gs n))
+  turn : (f g : Pass) (fs gs : List Pass) → ((n : Node) → Follows (f n) (g n)) → ((n : Node) → Follows (in-turn fs n) (in-turn gs n))
       → (n : Node) → Follows (in-turn (f ∷ fs) n) (in-turn (g ∷ gs) n)
   turn f g fs gs h k n = follows-then (f n) (g n) (in-turn fs) (in-turn gs) (h n) k
 
-  abbrev from-5 : ℕ → List Optimizer
+  abbrev from-5 : ℕ → List Pass
   from-5 r = Room.ShortCircuit r schema 0 ∷ []
 
-  abbrev from-4 : ℕ → List Optimizer
+  abbrev from-4 : ℕ → List Pass
   from-4 r = (λ n. done (Optimizer.HashJoin schema n)) ∷ from-5 r
 
-  abbrev from-3 : ℕ → List Optimizer
+  abbrev from-3 : ℕ → List Pass
   from-3 r = Room.IndexLookup r schema 0 ∷ from-4 r
 
-  abbrev from-2 : ℕ → List Optimizer
+  abbrev from-2 : ℕ → List Pass
   from-2 r = Room.FilterPushdown r schema 0 ∷ from-3 r
 
   pub optimize-larger : (n : Node) → Follows (Room.optimize room schema n) (Room.optimize more schema n)

@@ -8,7 +8,7 @@ use Rattle.sql.specs.Schema.{Schema}
 use Rattle.sql.specs.Plan.{Node, node-size}
 use Rattle.sql.specs.Answer.{done, refused, _>>=_}
 use Rattle.sql.specs.Effect.{plain}
-use Rattle.sql.specs.Optimizer.{Optimizer, in-turn}
+use Rattle.sql.specs.Optimizer.{Pass, in-turn}
 use Rattle.sql.specs.Optimizer as Optimizer
 use Rattle.sql.specs.Room.{if-room, normal-forms-fit, refusing}
 use Rattle.sql.specs.Room
@@ -61,11 +61,11 @@ module _ (room : ℕ) (schema : Schema) where
   pass-same (suc (suc (suc (suc (suc (suc k)))))) n m h = h
 
 -- optimizers in turn, each of which does what another one does
-data Follow : List Optimizer → List Optimizer → Type 0 where
+data Follow : List Pass → List Pass → Type 0 where
   no-more : Follow [] []
-  and-then : {f g : Optimizer} {fs gs : List Optimizer} → ((n m : Node) → f n ≡ done m → g n ≡ done m) → Follow fs gs → Follow (f ∷ fs) (g ∷ gs)
+  and-then : {f g : Pass} {fs gs : List Pass} → ((n m : Node) → f n ≡ done m → g n ≡ done m) → Follow fs gs → Follow (f ∷ fs) (g ∷ gs)
 
-in-turn-same : {fs gs : List Optimizer} → Follow fs gs → (n m : Node) → in-turn fs n ≡ done m → in-turn gs n ≡ done m
+in-turn-same : {fs gs : List Pass} → Follow fs gs → (n m : Node) → in-turn fs n ≡ done m → in-turn gs n ≡ done m
 in-turn-same no-more n m h = h
 in-turn-same (and-then {f} {g} {fs} {gs} k r) n m h =
     let a = after (f n) (in-turn fs) m h in

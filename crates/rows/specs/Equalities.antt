@@ -7,9 +7,9 @@ use lib.Dec.{eqb}
 use lib.ListN.{getD}
 use Rattle.value.specs.Value.{False, Unknown, True, integer, float, string, Value, truth, datum, null, Result, ok, err}
 use Rattle.value.specs.Comparison.{equal}
-use Rattle.sql.specs.Expression.{Binary, logical, Equal, function, Expression, constant, column, unary, binary, Row, is-column}
+use Rattle.sql.specs.Expression.{Binary, logical, Equal, function2, Expression, constant, column, unary, binary, Row, is-column}
 use Rattle.sql.specs.Plan.{Leaf, scan, lookup, nothing, values, limit, offset, order, projection, remap, aggregate, Over, filter, other, Join, nested-loop, hash, Node, leaf, over, join, columns}
-use Rattle.sql.specs.Optimizer.{flat-map}
+use Rattle.sql.specs.Lists.{flat-map}
 use Rattle.rows.specs.Database.{Database}
 use Rattle.rows.specs.Reading.{is-true, joined-rows, expressions, read}
 
@@ -25,7 +25,7 @@ of-columns row (some c) (some d) = (getD row c null, getD row d null) ∷ []
 abbrev pub of-binary : Row → Binary → Expression → Expression → List Compared
 of-binary row (logical o) l r = []
 of-binary row Equal l r = of-columns row (is-column l) (is-column r)
-of-binary row (function f) l r = []
+of-binary row (function2 f) l r = []
 
 -- And and Or evaluate both their sides, so an expression's every part is met.
 abbrev pub of-expression : Row → Expression → List Compared

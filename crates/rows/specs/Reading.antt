@@ -10,7 +10,7 @@ use Rattle.value.specs.Undefined.{is-unknown, is-nan-datum}
 use Rattle.sql.specs.Schema.{Schema, table-of}
 use Rattle.sql.specs.Expression.{Marked, Expression, column, binary, Equal, Row, bind, evaluate}
 use Rattle.sql.specs.Plan.{Label, Access, by-key, by-index, Leaf, scan, lookup, nothing, values, Other, limit, offset, order, projection, remap, aggregate, Over, filter, other, Join, nested-loop, hash, Node, leaf, over, join, columns, values-columns, remap-columns, remap-source, up-to}
-use Rattle.sql.specs.Optimizer.{cons-if, keep}
+use Rattle.sql.specs.Lists.{cons-if, keep}
 use Rattle.rows.specs.Database.{unmarked, unmarked-aggregate, Database}
 
 -- ---- lists of what may fail

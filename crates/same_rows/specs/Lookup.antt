@@ -9,7 +9,8 @@ use lib.Dec.{eqb}
 use Rattle.sql.specs.Schema.{table-of, column-of}
 use Rattle.sql.specs.Expression.{Expression, Row, into-cnf-vec, and-vec, is-column-lookup, into-column-values}
 use Rattle.sql.specs.Plan.{by-key, by-index, Leaf, scan, lookup, nothing, values, filter, Node, leaf, over, join}
-use Rattle.sql.specs.Optimizer.{keep, Found, filtered, has-index, with-index, found-here, find-lookup, access, lookup-or-scan, index-lookup, IndexLookup, IndexLookup-with}
+use Rattle.sql.specs.Optimizer.{Found, filtered, has-index, with-index, found-here, find-lookup, access, lookup-or-scan, index-lookup, IndexLookup, IndexLookup-with}
+use Rattle.sql.specs.Lists.{keep}
 use Rattle.rows.specs.Database.{Database}
 use Rattle.rows.specs.Reading.{looked-up, lookup-column}
 use Rattle.rows.specs.Equalities.{all}

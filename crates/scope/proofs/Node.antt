@@ -13,7 +13,8 @@ use Rattle.sql.specs.Schema.{Schema}
 use Rattle.sql.specs.Expression.{Marked, Expression, size}
 use Rattle.sql.specs.Plan.{Label, by-key, by-index, Leaf, scan, lookup, nothing, values, limit, offset, order, projection, remap, aggregate, Over, filter, other, Join, nested-loop, hash, leaf-columns, other-columns, leaf-size, over-size, join-size, optional-size, row-size, sum}
 use Rattle.sheet.specs.Cell.{Cell}
-use Rattle.sheet.specs.Content.{cell-of, item-cell, key-cell, agg-cell, label-cell, constant-cell, marked}
+use Rattle.sheet.specs.Content.{item-cell, key-cell, agg-cell, label-cell, constant-cell}
+use Rattle.sheet.specs.AsCell.{cell-of, marked}
 use Rattle.sheet.specs.Cells.{all-cells, expression-cells, optional-cells, constant-cells, label-cells, target-cells, item-cells, key-cells, agg-cells, row-cells, leaf-cells, other-cells, over-cells, join-cells}
 use Rattle.sheet.specs.Scope.{first-of, unless, in-each, column-outside, optional-outside, expressions-outside, table-columns, leaf-outside, over-outside, join-outside}
 use Rattle.node_scope.specs.Own.{is-node, sources, column-out, columns-read, node-outside, node-columns}

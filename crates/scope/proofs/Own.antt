@@ -11,10 +11,11 @@ use lib.Dec.{eqb}
 use lib.ListN.{length, length-append}
 use borrow.Author.Tests.{not-true}
 use Rattle.value.specs.Value.{False, Unknown, True, integer, float, string, Value, truth, datum}
-use Rattle.sql.specs.Expression.{Marked, Expression, constant, column, unary, binary, size, Unary, Not, function, IsNull, IsNaN, Identity, Negate, SquareRoot, Binary, logical, Equal, And, Or, GreaterThan, LessThan, Add, Divide, Subtract, Multiply}
+use Rattle.sql.specs.Expression.{Marked, Expression, constant, column, unary, binary, size, Unary, Not, function1, function2, IsNull, IsNaN, Identity, Negate, SquareRoot, Binary, logical, Equal, And, Or, GreaterThan, LessThan, Add, Divide, Subtract, Multiply}
 use Rattle.sql.specs.Plan.{Label, unlabelled, unqualified, qualified, sum, row-size, values-columns, remap-columns}
 use Rattle.sheet.specs.Cell.{Cell}
-use Rattle.sheet.specs.Content.{constant-as-cell, unary-tag, binary-tag, labelled, target-as-cell, cell-of, constant-cell, unary-cell, binary-cell, marked}
+use Rattle.sheet.specs.Content.{constant-cell, unary-cell, binary-cell}
+use Rattle.sheet.specs.AsCell.{constant-as-cell, unary-tag, binary-tag, labelled, target-as-cell, cell-of, marked}
 use Rattle.sheet.specs.Cells.{all-cells, expression-cells, row-cells, target-cells}
 use Rattle.sheet.specs.Scope.{first-of, unless, in-each, column-outside, expressions-outside, equally-long}
 use Rattle.node_scope.specs.Own.{is-node, column-below, column-out, first-row, rows-have, target-end, targets-end}
@@ -83,22 +84,22 @@ constant-tag (datum (string r t)) = refl
 
 unary-is : (o : Unary) → quiet-tag (unary-tag o) ≡ true
 unary-is Not = refl
-unary-is (function IsNull) = refl
-unary-is (function IsNaN) = refl
-unary-is (function Identity) = refl
-unary-is (function Negate) = refl
-unary-is (function SquareRoot) = refl
+unary-is (function1 IsNull) = refl
+unary-is (function1 IsNaN) = refl
+unary-is (function1 Identity) = refl
+unary-is (function1 Negate) = refl
+unary-is (function1 SquareRoot) = refl
 
 binary-is : (o : Binary) → quiet-tag (binary-tag o) ≡ true
 binary-is (logical And) = refl
 binary-is (logical Or) = refl
 binary-is Equal = refl
-binary-is (function GreaterThan) = refl
-binary-is (function LessThan) = refl
-binary-is (function Add) = refl
-binary-is (function Divide) = refl
-binary-is (function Subtract) = refl
-binary-is (function Multiply) = refl
+binary-is (function2 GreaterThan) = refl
+binary-is (function2 LessThan) = refl
+binary-is (function2 Add) = refl
+binary-is (function2 Divide) = refl
+binary-is (function2 Subtract) = refl
+binary-is (function2 Multiply) = refl
 
 pub constant-quiet : (og : ℕ) (v : Value) → Quiet (marked og (cell-of (constant-cell v)))
 constant-quiet og v = quiet _ (constant-tag v)

@@ -5,7 +5,7 @@ use mathlib.Core.List.{List, [], _∷_}
 use mathlib.Core.Option.{none}
 use Rattle.sql.specs.Plan.{by-key, by-index, Leaf, scan, lookup, nothing, values, Node, leaf, over, join}
 use Rattle.sheet.specs.Parts.{tables-at, table-count}
-use Rattle.sheet.specs.Cell.{bad-cell}
+use Rattle.sheet.specs.Content.{bad-cell}
 use Rattle.sheet.specs.Cells.{cells}
 use Rattle.sheet.specs.Tree.{node-tree, stack, read}
 use Rattle.sheet.specs.Check.{text, schema, cells-of}

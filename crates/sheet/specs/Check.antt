@@ -9,7 +9,8 @@ use Rattle.sql.specs.Answer.{Answer, done, refused, _>>=_}
 use Rattle.sql.specs.Schema.{Kind, Boolean, Integer, Float, String, Column, Table, Schema}
 use Rattle.sql.specs.Plan.{Node, columns, up-to}
 use Rattle.sheet.specs.Parts.{tables-at, table-count, cell-count, length-ok, edition-ok, parts-ok, table-name, first-column, columns-of, key-of, column-name, kind-of, index-mark, bad-record}
-use Rattle.sheet.specs.Cell.{Cell, cell, tag-of, bad-cell, bad-number}
+use Rattle.sheet.specs.Cell.{Cell, cell}
+use Rattle.sheet.specs.Content.{tag-of, bad-cell, bad-number}
 use Rattle.sheet.specs.Tree.{Tree, expression-tree, label-tree, item-tree, key-tree, target-tree, agg-tree, row-tree, node-tree, Stack, Read, lacking, stack, read}
 use Rattle.sheet.specs.Scope.{outside, target-repeated}
 
@@ -21,14 +22,14 @@ text s = take (tables-at s) s
 abbrev pub kinds : List Kind
 kinds = Boolean ∷ Integer ∷ Float ∷ String ∷ []
 
-abbrev pub column : List ℕ → ℕ → Column
-column s i = record { name = column-name s i; kind = getD kinds (kind-of s i) Boolean; index = eqb (index-mark s i) 1 }
+abbrev pub sheet-column : List ℕ → ℕ → Column
+sheet-column s i = record { name = column-name s i; kind = getD kinds (kind-of s i) Boolean; index = eqb (index-mark s i) 1 }
 
-abbrev pub table : List ℕ → ℕ → Table
-table s i = record { name = table-name s i; primary-key = key-of s i; columns = map (column s) (up-to (first-column s i) (columns-of s i)) }
+abbrev pub sheet-table : List ℕ → ℕ → Table
+sheet-table s i = record { name = table-name s i; primary-key = key-of s i; columns = map (sheet-column s) (up-to (first-column s i) (columns-of s i)) }
 
 unfoldable pub schema : List ℕ → Schema
-schema s = map (table s) (up-to 0 (table-count s))
+schema s = map (sheet-table s) (up-to 0 (table-count s))
 
 unfoldable pub cells-of : List ℕ → List Cell
 cells-of s = map (cell s) (up-to 0 (cell-count s))

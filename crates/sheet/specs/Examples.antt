@@ -4,11 +4,12 @@ use mathlib.Core.Bool.{true, false}
 use mathlib.Core.List.{List, [], _∷_}
 use mathlib.Core.Path.{_≡_, refl}
 use lib.ListN.{replicate}
-use Rattle.value.specs.Meaning.{integer-bits, integer-of-bits}
+use Rattle.value.specs.Encoding.{integer-bits, integer-of-bits}
 use Rattle.sql.specs.Optimizer
 use Rattle.sheet.specs.Bytes.{half, word, bytes}
 use Rattle.sheet.specs.Parts.{length-ok, edition-ok, parts-ok, bad-record}
-use Rattle.sheet.specs.Cell.{cell, cell-ok, bad-cell}
+use Rattle.sheet.specs.Cell.{cell}
+use Rattle.sheet.specs.Content.{cell-ok, bad-cell}
 use Rattle.sheet.specs.Tree.{read}
 use Rattle.sheet.specs.Operations.{Outcome, all-five}
 use Rattle.sheet.specs.Listing.{listing, is-expression, is-part, is-node}

@@ -12,9 +12,9 @@ use Rattle.sql.specs.Answer.{done}
 use Rattle.sql.specs.Plan.{Node, node-size, up-to}
 use Rattle.sheet.specs.Bytes.{byte, word}
 use Rattle.sheet.specs.Parts.{edition, tables-at, cells-at, cell-count, table-count, record-at}
-use Rattle.sheet.specs.Cell.{cell, cell-ok, origins, bad-cell}
+use Rattle.sheet.specs.Cell.{cell}
 use Rattle.sheet.specs.Cells.{cells}
-use Rattle.sheet.specs.Content.{Content}
+use Rattle.sheet.specs.Content.{Content, cell-ok, origins, bad-cell}
 use Rattle.sheet.specs.Tree.{node-tree}
 use Rattle.sheet.specs.Check.{text, cells-of, plan}
 use Rattle.sheet_laws.specs.Size.{node-length}

@@ -13,7 +13,8 @@ use Rattle.sql.specs.Expression.{column}
 use Rattle.sql.specs.Plan.{scan, nested-loop, Node, leaf, join, columns, node-size}
 use Rattle.sql.specs.Answer.{done}
 use Rattle.sheet.specs.Parts.{table-count}
-use Rattle.sheet.specs.Cell.{Cell, origins}
+use Rattle.sheet.specs.Cell.{Cell}
+use Rattle.sheet.specs.Content.{origins}
 use Rattle.sheet.specs.Cells.{expression-cells, leaf-cells, join-cells, cells}
 use Rattle.sheet.specs.Scope.{first-of, unless, outside, target-repeated}
 use Rattle.sheet.specs.Check.{text, schema, plan}

@@ -7,7 +7,7 @@ use lib.ListN.{length, take}
 use Rattle.sql.specs.Plan.{Node, columns, node-size}
 use Rattle.sql.specs.Answer.{Answer, done}
 use Rattle.sheet.specs.Parts.{table-count}
-use Rattle.sheet.specs.Cell.{origins}
+use Rattle.sheet.specs.Content.{origins}
 use Rattle.sheet.specs.Check.{text, schema, cells-of, plan}
 use Rattle.sheet_laws.specs.Accepted.{accepted}
 use Rattle.sheet_laws.specs.Plan.{Bytes, parts-of, text-length, plan-cells, plan-fits, plan-origins, origins-some}

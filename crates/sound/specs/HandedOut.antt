@@ -9,7 +9,7 @@ use Rattle.sql.specs.Plan.{Node, columns, node-size}
 use Rattle.sql.specs.Answer.{done}
 use Rattle.sql.specs.Room
 use Rattle.sheet.specs.Parts.{table-count}
-use Rattle.sheet.specs.Cell.{origins}
+use Rattle.sheet.specs.Content.{origins}
 use Rattle.sheet.specs.Check.{text, schema, plan, check, Numbers}
 use Rattle.sheet.specs.Write.{write}
 use Rattle.sheet_laws.specs.Accepted.{accepted}

@@ -12,7 +12,8 @@ use Rattle.value.specs.Value.{Value}
 use Rattle.sql.specs.Schema.{Schema}
 use Rattle.sql.specs.Expression.{Expression, shift-column-down, shift-column-up, into-cnf-vec, and-vec, is-column-lookup}
 use Rattle.sql.specs.Plan.{scan, lookup, nothing, values, filter, other, nested-loop, hash, Node, leaf, over, join, columns, node-size}
-use Rattle.sql.specs.Optimizer.{and-with, push-into, pushed-or-back, push-part, ref-left, ref-right, for-left, for-right, for-both, equijoin, is-number, is-lookup-of, last-lookup, copied, copy-up, copy-down, flat-map, push-left, push-right, map-optional, split, maybe-push-join, FilterPushdown, FilterPushdown-with, maybe-push-filter-with, push-filters-from-with}
+use Rattle.sql.specs.Optimizer.{and-with, push-into, pushed-or-back, push-part, ref-left, ref-right, for-left, for-right, for-both, equijoin, is-number, is-lookup-of, last-lookup, copied, copy-up, copy-down, push-left, push-right, map-optional, split, maybe-push-join, FilterPushdown, FilterPushdown-with, maybe-push-filter-with, push-filters-from-with}
+use Rattle.sql.specs.Lists.{flat-map}
 use Rattle.sql.specs.Without.{map-sources, go-on, maybe-push-filter, push-filters, push-filters-from}
 use Rattle.sheet_laws.specs.Fits.{All, Optional}
 use Rattle.sheet_laws.specs.Content.{and-left, and-right}

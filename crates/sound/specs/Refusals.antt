@@ -12,12 +12,13 @@ use Rattle.sql.specs.Expression.{Marked, origin, Expression, constant, column, 
 use Rattle.sql.specs.Plan.{Leaf, scan, lookup, nothing, values, limit, offset, order, projection, remap, aggregate, Over, filter, other, Join, nested-loop, hash, Node, leaf, over, join, row-size, item-size, key-size, node-size}
 use Rattle.sql.specs.Answer.{Answer, done, refused, _>>=_, at-place}
 use Rattle.sql.specs.Effect.{plain}
-use Rattle.sql.specs.Optimizer.{fold-by, fold, fold-expression, fold-each, fold-optional, fold-row, fold-part, fold-leaf, fold-over, fold-join, ConstantFolding, Optimizer, in-turn}
+use Rattle.sql.specs.Optimizer.{fold-by, fold, fold-expression, fold-each, fold-optional, fold-row, fold-part, fold-leaf, fold-over, fold-join, ConstantFolding, Pass, in-turn}
 use Rattle.sql.specs.Room
 use Rattle.sql.specs.Room.{if-room, normal-forms-fit, refusing}
 use Rattle.room.specs.Related.{Related, pushdown-related, lookup-related, circuit-related}
 use Rattle.sheet.specs.Parts.{length-ok, edition-ok, parts-ok, bad-record, cell-count}
-use Rattle.sheet.specs.Cell.{Tag, unknown, not-carried, carried, tag-of, cell, bad-number, bad-cell}
+use Rattle.sheet.specs.Cell.{cell}
+use Rattle.sheet.specs.Content.{Tag, no-such-tag, not-carried, carried, tag-of, bad-number, bad-cell}
 use Rattle.sheet.specs.Tree.{expression-tree, label-tree, item-tree, key-tree, target-tree, agg-tree, row-tree, node-tree, Stack, Read, lacking, stack, read}
 use Rattle.sheet.specs.Scope.{outside, target-repeated}
 use Rattle.sheet.specs.Check.{text, schema, cells-of, test, unfound, cells-checked, sole-node, one-plan, in-scope, plan}
@@ -55,7 +56,7 @@ if-unfound none number next n h = h
 if-unfound (some place) number next n h = n
 
 cell-number : (t : Tag) → C (bad-number t)
-cell-number unknown = (omega arith, omega arith)
+cell-number no-such-tag = (omega arith, omega arith)
 cell-number not-carried = (omega arith, omega arith)
 cell-number (carried flags a b c) = (omega arith, omega arith)
 
@@ -210,7 +211,7 @@ module _ (room : ℕ) (schema : Schema) where
 
   -- ---- one pass, and all five
 
-  abbrev Refuses : Optimizer → Type 0
+  abbrev Refuses : Pass → Type 0
   Refuses f = (n : Node) → Refused-by (From-to 11 14) (f n)
 
   for-room : (r : Answer Node) → Refused-by R r → Refused-by (From-to 11 14) r
@@ -233,7 +234,7 @@ module _ (room : ℕ) (schema : Schema) where
   pass-refused zero p q n = absurd (omega arith)
   pass-refused (suc k) p q n = getD-within Refuses (Room.OPTIMIZERS room schema) k (λ m. refused 1 0) all-refuse (omega arith) n
 
-  in-turn-refused : (fs : List Optimizer) → All Refuses fs → Refuses (in-turn fs)
+  in-turn-refused : (fs : List Pass) → All Refuses fs → Refuses (in-turn fs)
   in-turn-refused [] h n = tt
   in-turn-refused (f ∷ fs) h n = refused-then (From-to 11 14) (f n) (in-turn fs) (h .0 n) (in-turn-refused fs (h .1))
 

@@ -4,6 +4,7 @@ pub mod Plan
 pub mod Ranges
 pub mod Answer
 pub mod Effect
+pub mod Lists
 pub mod Optimizer
 pub mod Room
 pub mod Within

@@ -9,10 +9,11 @@ use lib.Dec.{eqb, ltb, leb}
 use lib.ListN.{length, getD}
 use Rattle.value.specs.Value.{Truth, False, Unknown, True, Value, truth, datum, Result, ok}
 use Rattle.sql.specs.Schema.{Table, Schema, table-of, column-of}
-use Rattle.sql.specs.Expression.{Marked, Logical, And, Or, Unary, Binary, logical, Equal, function, Expression, constant, column, unary, binary, and, origin, size, bind, evaluate, contains-column, replace-column, shift-column-down, shift-column-up, into-cnf-vec, and-vec, is-column, is-column-lookup, into-column-values}
+use Rattle.sql.specs.Expression.{Marked, Logical, And, Or, Unary, Binary, logical, Equal, function2, Expression, constant, column, unary, binary, and, origin, size, bind, evaluate, contains-column, replace-column, shift-column-down, shift-column-up, into-cnf-vec, and-vec, is-column, is-column-lookup, into-column-values}
 use Rattle.sql.specs.Plan.{Label, unlabelled, unqualified, qualified, Access, by-key, by-index, Leaf, scan, lookup, nothing, values, Other, limit, offset, order, projection, remap, aggregate, Over, filter, other, Join, nested-loop, hash, Node, leaf, over, join, node-origin, columns, column-labels, row-size, item-size, key-size, node-size}
 use Rattle.sql.specs.Effect.{Effect, plain, go-on-with, over-source, join-sources, each-source-with}
 use Rattle.sql.specs.Answer.{Answer, done, refused, _>>=_, at-place}
+use Rattle.sql.specs.Lists.{keep, flat-map}
 
 -- ======== ConstantFolding
 
@@ -54,7 +55,7 @@ simplify (column og c) = column og c
 simplify (unary og o x) = unary og o x
 simplify (binary og (logical o) l r) = simplify-logical og o (operand o l) (operand o r) l r
 simplify (binary og Equal l r) = binary og Equal l r
-simplify (binary og (function f) l r) = binary og (function f) l r
+simplify (binary og (function2 f) l r) = binary og (function2 f) l r
 
 abbrev pub fold-by : Bool → ℕ → Expression → Answer Expression
 fold-by true place e = done (simplify e)
@@ -183,15 +184,6 @@ ref-left n e = contains-column (λ c. ltb c n) e
 abbrev pub ref-right : ℕ → Expression → Bool
 ref-right n e = contains-column (λ c. not (ltb c n)) e
 
-abbrev pub cons-if : {A : Type 0} → Bool → A → List A → List A
-cons-if true x xs = x ∷ xs
-cons-if false x xs = xs
-
--- those of a list that pass a test
-abbrev pub keep : {A : Type 0} → (A → Bool) → List A → List A
-keep test [] = []
-keep test (x ∷ xs) = cons-if (test x) x (keep test xs)
-
 -- A conjunct that refers to no column goes to both sides.
 abbrev pub for-left : ℕ → List Expression → List Expression
 for-left n cnf = keep (λ e. not (ref-right n e)) cnf
@@ -214,7 +206,7 @@ equijoin (column og c) = none
 equijoin (unary og o x) = none
 equijoin (binary og (logical o) l r) = none
 equijoin (binary og Equal l r) = ordered (is-column l) (is-column r)
-equijoin (binary og (function f) l r) = none
+equijoin (binary og (function2 f) l r) = none
 
 abbrev pub is-number : ℕ → Option ℕ → Bool
 is-number c none = false
@@ -245,10 +237,6 @@ copy-up lookups (some pair) = copied (pair .0) (pair .1) (last-lookup (pair .0) 
 abbrev pub copy-down : List Expression → Option (ℕ × ℕ) → List Expression
 copy-down lookups none = []
 copy-down lookups (some pair) = copied (pair .1) (pair .0) (last-lookup (pair .1) lookups)
-
-abbrev pub flat-map : {A B : Type 0} → (A → List B) → List A → List B
-flat-map f [] = []
-flat-map f (x ∷ xs) = f x ++ flat-map f xs
 
 abbrev pub push-left : ℕ → List Expression → List Expression
 push-left n cnf = for-left n cnf ++ flat-map (λ e. copy-down (for-right n cnf) (equijoin e)) (for-both n cnf)
@@ -353,30 +341,30 @@ hash-join n (hash left-column right-column) = hash left-column right-column
 
 -- What is known of a predicate that is a constant: true, or false or Null; nothing of any other.
 pub data Verdict : Type 0 where
-  always never unknown : Verdict
+  always never undecided : Verdict
 
 abbrev pub verdict : Expression → Verdict
 verdict (constant og (truth True)) = always
 verdict (constant og (truth Unknown)) = never
 verdict (constant og (truth False)) = never
-verdict (constant og (datum d)) = unknown
-verdict (column og c) = unknown
-verdict (unary og o x) = unknown
-verdict (binary og o l r) = unknown
+verdict (constant og (datum d)) = undecided
+verdict (column og c) = undecided
+verdict (unary og o x) = undecided
+verdict (binary og o l r) = undecided
 
 abbrev pub optional-verdict : Option Expression → Verdict
-optional-verdict none = unknown
+optional-verdict none = undecided
 optional-verdict (some e) = verdict e
 
 abbrev pub is-always : Verdict → Bool
 is-always always = true
 is-always never = false
-is-always unknown = false
+is-always undecided = false
 
 abbrev pub is-never : Verdict → Bool
 is-never always = false
 is-never never = true
-is-never unknown = false
+is-never undecided = false
 
 -- a predicate that is always true is removed
 abbrev pub remove-true : Option Expression → Option Expression
@@ -533,21 +521,21 @@ module _ (schema : Schema) where
 
 -- ======== OPTIMIZERS
 
-abbrev pub Optimizer : Type 0
-Optimizer = Node → Answer Node
+abbrev pub Pass : Type 0
+Pass = Node → Answer Node
 
 -- one optimizer by its number; a pass asked for that is not one of the list's, counted from 1, is refusal 1
-abbrev pub pass-of : List Optimizer → ℕ → Optimizer
+abbrev pub pass-of : List Pass → ℕ → Pass
 pass-of optimizers zero node = refused 1 0
 pass-of optimizers (suc n) node = getD optimizers n (λ m. refused 1 0) node
 
 -- the optimizers in turn, `try_fold` in the Rust
-abbrev pub in-turn : List Optimizer → Optimizer
+abbrev pub in-turn : List Pass → Pass
 in-turn [] node = done node
 in-turn (f ∷ fs) node = f node >>= in-turn fs
 
 module _ (schema : Schema) where
-  abbrev pub OPTIMIZERS : List Optimizer
+  abbrev pub OPTIMIZERS : List Pass
   OPTIMIZERS =
       ConstantFolding 0
       ∷ (λ node. done (FilterPushdown schema node))
@@ -556,8 +544,8 @@ module _ (schema : Schema) where
       ∷ (λ node. done (ShortCircuit schema node))
       ∷ []
 
-  abbrev pub pass : ℕ → Optimizer
+  abbrev pub pass : ℕ → Pass
   pass = pass-of OPTIMIZERS
 
-  abbrev pub optimize : Optimizer
+  abbrev pub optimize : Pass
   optimize = in-turn OPTIMIZERS

@@ -13,7 +13,7 @@ use Rattle.sql.specs.Expression.{Expression, size, into-nnf, into-cnf}
 use Rattle.sql.specs.Plan.{Node, node-size}
 use Rattle.sql.specs.Answer.{Answer, done, refused, _>>=_}
 use Rattle.sql.specs.Effect.{Effect}
-use Rattle.sql.specs.Optimizer.{FilterPushdown-with, IndexLookup-with, ShortCircuit-with, Optimizer, pass-of, in-turn}
+use Rattle.sql.specs.Optimizer.{FilterPushdown-with, IndexLookup-with, ShortCircuit-with, Pass, pass-of, in-turn}
 use Rattle.sql.specs.Optimizer
 
 -- the cells that a sheet, and so a plan, can have
@@ -59,7 +59,7 @@ module _ (room : ℕ) (schema : Schema) where
   ShortCircuit rest node = ShortCircuit-with refusing schema node rest
 
   -- ConstantFolding and HashJoin put no more cells in the place of what they rewrite (crate room), so there is room for each of their steps.
-  abbrev pub OPTIMIZERS : List Optimizer
+  abbrev pub OPTIMIZERS : List Pass
   OPTIMIZERS =
       Optimizer.ConstantFolding 0
       ∷ FilterPushdown 0
@@ -68,8 +68,8 @@ module _ (room : ℕ) (schema : Schema) where
       ∷ ShortCircuit 0
       ∷ []
 
-  abbrev pub pass : ℕ → Optimizer
+  abbrev pub pass : ℕ → Pass
   pass = pass-of OPTIMIZERS
 
-  abbrev pub optimize : Optimizer
+  abbrev pub optimize : Pass
   optimize = in-turn OPTIMIZERS

@@ -5,7 +5,7 @@ use mathlib.Core.Bool.{true}
 use mathlib.Core.List.{List}
 use mathlib.Core.Path.{_≡_, refl, ap, _∙_}
 use Rattle.value.specs.Value.{ok}
-use Rattle.value.specs.Meaning.{integer-bits, integer-of-bits}
+use Rattle.value.specs.Encoding.{integer-bits, integer-of-bits}
 use Rattle.value.specs.Comparison.{compare-integers}
 use Rattle.value.specs.Arithmetic.{checked, add-integers}
 use Rattle.sql.specs.Expression.{Row, into-cnf, into-cnf-vec}
@@ -16,7 +16,8 @@ use Rattle.sql.specs.Room
 use Rattle.sql.specs.Room.{max-cells}
 use Rattle.sheet.specs.Bytes.{half, word, bytes}
 use Rattle.sheet.specs.Parts.{length-ok, edition-ok, parts-ok, table-ok, column-ok, bad-record}
-use Rattle.sheet.specs.Cell.{cell, cell-ok, bad-cell}
+use Rattle.sheet.specs.Cell.{cell}
+use Rattle.sheet.specs.Content.{cell-ok, bad-cell}
 use Rattle.sheet.specs.Tree.{read}
 use Rattle.sheet.specs.Check.{schema, plan}
 use Rattle.sheet.specs.Operations.{all-five}

@@ -14,7 +14,8 @@ use Rattle.sql.specs.Plan.{by-key, by-index, Leaf, scan, lookup, nothing, value
 use Rattle.sql.specs.Answer.{Answer, done, refused, _>>=_, at-place}
 use Rattle.sql.specs.Optimizer.{fold-by, fold, fold-expression, fold-each, fold-optional, fold-row, fold-part, fold-leaf, fold-over, fold-join, ConstantFolding}
 use Rattle.sheet.specs.Parts.{tables-at, table-count, column-count, cell-count, length-ok, edition-ok, parts-ok, record-ok, first-failing, bad-record}
-use Rattle.sheet.specs.Cell.{Cell, Tag, unknown, not-carried, carried, tag-of, cell, cell-ok, origins, bad-number, bad-cell}
+use Rattle.sheet.specs.Cell.{Cell, cell}
+use Rattle.sheet.specs.Content.{Tag, no-such-tag, not-carried, carried, tag-of, cell-ok, origins, bad-number, bad-cell}
 use Rattle.sheet.specs.Tree.{expression-tree, label-tree, item-tree, key-tree, target-tree, agg-tree, row-tree, node-tree, Stack, Read, lacking, stack, after, read}
 use Rattle.sheet.specs.Scope.{first-of, unless, in-each, column-outside, optional-outside, expressions-outside, equally-long, table-columns, leaf-outside, over-outside, join-outside, outside, member, repeated, over-repeated, target-repeated}
 use Rattle.sheet.specs.Check.{text, schema, cells-of, test, unfound, cells-checked, one-plan, in-scope, plan}
@@ -213,7 +214,7 @@ module _ (s : List ℕ) where
   if-unfound (some place) next number p q r h = (p, q, r)
 
   bad-cell-placed : (t : Tag) (place : ℕ) → place < cell-count s → Placed s (refused (bad-number t) place)
-  bad-cell-placed unknown place h = (omega arith, omega arith, h)
+  bad-cell-placed no-such-tag place h = (omega arith, omega arith, h)
   bad-cell-placed not-carried place h = (omega arith, omega arith, h)
   bad-cell-placed (carried flags a b c) place h = (omega arith, omega arith, h)
 

@@ -16,8 +16,9 @@ use Rattle.sql.specs.Optimizer
 use Rattle.sql.specs.Expression.{into-cnf, into-cnf-vec}
 use Rattle.sheet.specs.Bytes.{half, word}
 use Rattle.sheet.specs.Parts.{cells-at, length-ok, edition-ok, parts-ok, table-ok, column-ok, bad-record}
-use Rattle.sheet.specs.Cell.{cell, cell-ok, bad-cell}
-use Rattle.value.specs.Meaning.{integer-bits, integer-of-bits}
+use Rattle.sheet.specs.Cell.{cell}
+use Rattle.sheet.specs.Content.{cell-ok, bad-cell}
+use Rattle.value.specs.Encoding.{integer-bits, integer-of-bits}
 use Rattle.sheet.specs.Tree.{read}
 use Rattle.sheet.specs.Check.{Numbers, schema, plan}
 use Rattle.sheet.specs.Operations.{Outcome, one-pass, all-five}

@@ -26,7 +26,7 @@ use lib.IntN.{ℤ, pos}
 use Rattle.value.specs.Value.{Value, datum, integer, float, boolean, Result, ok}
 use Rattle.value.specs.Comparison.{Comparison, Found, Unordered, compare}
 use Rattle.value.specs.ComparisonLaws.{Finds}
-use Rattle.sql.specs.Expression.{Unary, function, IsNaN, Negate, SquareRoot, Equal, GreaterThan, LessThan, Add, Divide, Subtract, Multiply, evaluate-unary, evaluate-binary}
+use Rattle.sql.specs.Expression.{Unary, function1, function2, IsNaN, Negate, SquareRoot, Equal, GreaterThan, LessThan, Add, Divide, Subtract, Multiply, evaluate-unary, evaluate-binary}
 use Rattle.ieee754.specs.Ieee754 as Ieee754
 use Rattle.ieee754.specs.Ieee754.{Double, nan, infinite, finite, read, Is, quiet-nan, sum, difference, product, quotient, square-root, negation, of-integer, less, equal}
 
@@ -85,18 +85,18 @@ pub record Float-results : Type 0 where
   pub every-integer : (i : ℤ) → Exactly-one (of-integer i)
   -- what is asked for where a result is no number; IEEE 754 leaves open which NaN that is
   pub one-nan : quiet-nan ≡ 0x7FF8000000000000
-  pub add : Pairs (evaluate-binary (function Add)) (λ a b. Gives (sum a b))
-  pub subtract : Pairs (evaluate-binary (function Subtract)) (λ a b. Gives (difference a b))
-  pub multiply : Pairs (evaluate-binary (function Multiply)) (λ a b. Gives (product a b))
-  pub divide : Pairs (evaluate-binary (function Divide)) (λ a b. Gives (quotient a b))
+  pub add : Pairs (evaluate-binary (function2 Add)) (λ a b. Gives (sum a b))
+  pub subtract : Pairs (evaluate-binary (function2 Subtract)) (λ a b. Gives (difference a b))
+  pub multiply : Pairs (evaluate-binary (function2 Multiply)) (λ a b. Gives (product a b))
+  pub divide : Pairs (evaluate-binary (function2 Divide)) (λ a b. Gives (quotient a b))
   -- a NaN too gives the one pattern, where IEEE 754 would turn its sign's bit alone
-  pub negate : Single (function Negate) (λ x. Gives (negation x))
+  pub negate : Single (function1 Negate) (λ x. Gives (negation x))
   -- of a Float, and of an Integer from zero up, which is rounded first
-  pub square-root : Single (function SquareRoot) (λ x. Gives (square-root (read x)))
-  pub root-of-integer : (n x : ℕ) → Is (of-integer (pos n)) x → Gives (Ieee754.square-root (read x)) (evaluate-unary (function SquareRoot) (Integer (pos n)))
+  pub square-root : Single (function1 SquareRoot) (λ x. Gives (square-root (read x)))
+  pub root-of-integer : (n x : ℕ) → Is (of-integer (pos n)) x → Gives (Ieee754.square-root (read x)) (evaluate-unary (function1 SquareRoot) (Integer (pos n)))
   -- what the next three take their answer from
   pub comparison : Pairs compare Relation
   pub equal : Pairs (evaluate-binary Equal) (λ a b. Says (equal a b))
-  pub greater-than : Pairs (evaluate-binary (function GreaterThan)) (λ a b. Says (less b a))
-  pub less-than : Pairs (evaluate-binary (function LessThan)) (λ a b. Says (less a b))
-  pub is-nan : Single (function IsNaN) (λ x. Says (is-nan (read x)))
+  pub greater-than : Pairs (evaluate-binary (function2 GreaterThan)) (λ a b. Says (less b a))
+  pub less-than : Pairs (evaluate-binary (function2 LessThan)) (λ a b. Says (less a b))
+  pub is-nan : Single (function1 IsNaN) (λ x. Says (is-nan (read x)))
