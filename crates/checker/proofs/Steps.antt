@@ -22,7 +22,8 @@ use Rattle.scope.specs.declared.Scope.{Scope}
 use Rattle.scope.specs.declared.Scope.the-variants.{Outside, Within}
 use Rattle.scope.specs.Scope.{scope-of, unless-outside, OnePlan, Judges}
 use Rattle.targets.specs.Targets.{Repeats}
-use Rattle.checker.specs.Checker.{scoped, Targets, numbers}
+use Rattle.checker.specs.Checker.{numbers}
+use Rattle.checker.specs.Steps.{scoped, Targets}
 
 module _ (s : List ℕ) where
   -- the answer by what each test says

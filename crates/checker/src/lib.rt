@@ -8,7 +8,8 @@ ghost use Rattle.sheet.specs.Check;
 ghost use Rattle.sheet.specs.Check.{checked, cells-checked};
 ghost use Rattle.layout.specs.Layout.{Whole};
 ghost use Rattle.scope.specs.Scope.{OnePlan};
-ghost use Rattle.checker.specs.Checker.{numbers, scoped, Targets};
+ghost use Rattle.checker.specs.Checker.{numbers};
+ghost use Rattle.checker.specs.Steps.{scoped, Targets};
 
 // What an operation returns: 0 or a refusal's number, its place, and of a success the length of the sheet handed out (0 for `check`), its cells and
 // its columns.

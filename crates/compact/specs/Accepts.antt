@@ -14,7 +14,7 @@ use Rattle.sql.specs.Answer.{done}
 use Rattle.sql.specs.Schema.{Column, Table, Schema}
 use Rattle.sql.specs.Plan.{Node, up-to}
 use Rattle.sql.specs.Optimizer.{map-optional}
-use Rattle.sheet.specs.Bytes.{byte, half, word}
+use Rattle.sheet.specs.Bytes.{byte, half, word, Bytes}
 use Rattle.sheet.specs.Parts.{tables-at, columns-at, cells-at, edition, said-length, table-count, column-count, cell-count, inside, record-at, length-ok, edition-ok, records-ok, parts-ok, table-name, first-column, columns-of, key-of, columns-before, table-ok, column-name, kind-of, index-mark, column-ok, record-ok, bad-record}
 use Rattle.sheet.specs.Cell.{Cell, cell-from, cell}
 use Rattle.sheet.specs.Content.{content-of, cell-ok, origins, tag-of, bad-cell}
@@ -24,7 +24,7 @@ use Rattle.sheet.specs.Check.{text, sheet-column, sheet-table, schema, cells-of
 use Rattle.sheet_laws.specs.Fits.{All}
 use Rattle.sheet_laws.specs.Content.{and-left, and-right, and-true}
 use Rattle.sheet_laws.specs.Layout.{Parts, none-failing, all-passing, table-facts}
-use Rattle.sheet_laws.specs.Plan.{Bytes, parts-of}
+use Rattle.sheet_laws.specs.Plan.{parts-of}
 use Rattle.sheet_laws.specs.Accepted.{Accepted, accepted, accepting}
 use Rattle.compact.specs.Slots.{Slot, record-slots, cell-slots, field-slots, slots}
 use Rattle.compact.specs.Compact.{kept-text, moved, compacted}

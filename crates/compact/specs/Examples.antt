@@ -9,7 +9,7 @@ use Rattle.sheet.specs.Cell.{Cell, cell}
 use Rattle.sheet.specs.Content.{cell-ok, bad-cell}
 use Rattle.sheet.specs.Tree.{read}
 use Rattle.sheet.specs.Write.{cells-bytes}
-use Rattle.sheet.specs.Operations.{Outcome, refuse}
+use Rattle.sheet.specs.Check.{Outcome, refuse}
 use Rattle.sheet_laws.specs.Content.{laid}
 use Rattle.compact.specs.Strings.{kept, joined, offset-in, reference-to}
 use Rattle.compact.specs.Compact.{trailer-with, compact}

@@ -12,7 +12,7 @@ use lib.Seq.{take-at}
 use Rattle.value.specs.Encoding.{bytes-at, offset, text-length}
 use Rattle.sql.specs.Answer.{done}
 use Rattle.sql.specs.Plan.{Node}
-use Rattle.sheet.specs.Bytes.{byte, half, word, bytes}
+use Rattle.sheet.specs.Bytes.{byte, half, word, bytes, Bytes}
 use Rattle.sheet.specs.Parts.{tables-at, columns-at, cells-at, edition, said-length, table-count, column-count, cell-count, inside}
 use Rattle.sheet.specs.Cell.{Cell, cell-from}
 use Rattle.sheet.specs.Content.{Field, unused-field, any-field, bit-field, table-field, text-field, small-field, Tag, no-such-tag, not-carried, carried, tag-of}
@@ -21,7 +21,7 @@ use Rattle.sheet.specs.Check as Check
 use Rattle.sheet_laws.specs.Fits.{All, Word}
 use Rattle.sheet_laws.specs.Content.{low-part, high-part}
 use Rattle.sheet_laws.specs.Layout.{Parts}
-use Rattle.sheet_laws.specs.Plan.{Bytes, word-bound, parts-of}
+use Rattle.sheet_laws.specs.Plan.{word-bound, parts-of}
 use Rattle.sheet_laws.specs.Accepted.{accepted}
 use Rattle.sheet_laws.specs.Bytes.{digits, word-after}
 use Rattle.compact.specs.Strings.{kept, joined, empty, among, offset-in, reference-to}

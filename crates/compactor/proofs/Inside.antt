@@ -13,7 +13,7 @@ use lib.Seq.{drop-append-le, take-append-le, length-take-le}
 use Rattle.value.specs.Encoding.{bytes-at}
 use Rattle.sql.specs.Answer.{done}
 use Rattle.sql.specs.Plan.{Node}
-use Rattle.sheet.specs.Bytes.{byte, word}
+use Rattle.sheet.specs.Bytes.{byte, word, Bytes}
 use Rattle.sheet.specs.Parts.{tables-at, columns-at, cells-at, table-count, column-count, cell-count, columns-before, table-name, column-name, inside, table-ok, column-ok, record-ok, bad-record}
 use Rattle.sheet.specs.Cell.{Cell, cell-from, cell}
 use Rattle.sheet.specs.Content.{Field, unused-field, any-field, bit-field, table-field, text-field, small-field, Tag, no-such-tag, not-carried, carried, tag-of, field-ok, fields-ok, float-ok, cell-ok, origins, bad-cell}
@@ -22,7 +22,7 @@ use Rattle.sheet.specs.Check.{plan}
 use Rattle.sheet_laws.specs.Fits.{All, Word}
 use Rattle.sheet_laws.specs.Content.{and-left, and-right}
 use Rattle.sheet_laws.specs.Layout.{Parts, none-failing, table-facts}
-use Rattle.sheet_laws.specs.Plan.{Bytes, word-bound, parts-of}
+use Rattle.sheet_laws.specs.Plan.{word-bound, parts-of}
 use Rattle.sheet_laws.specs.Accepted.{Accepted, accepted}
 use Rattle.sound.specs.Lists.{all-append}
 use Rattle.compact.specs.Slots.{Slot, number, reference, references, field-slot, field-slots, record-slots, cell-slots, in-each, slots}

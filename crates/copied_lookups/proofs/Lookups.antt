@@ -9,7 +9,8 @@ use mathlib.Core.Path.{_≡_, refl, sym, ap, ap₂, _∙_, subst}
 use mathlib.Core.List.{List, [], _∷_, map}
 use lib.Dec.{T, eqb, ltb, eqb→eq}
 use Rattle.sql.specs.Expression.{origin, And, Or, IsNull, IsNaN, Identity, Negate, SquareRoot, Not, function1, function2, logical, Equal, Expression, constant, column, unary, binary, map-columns, replace-column, shift-column-down, is-column, same-column, is-column-lookup}
-use Rattle.sql.specs.Optimizer.{ref-left, ref-right, equijoin, is-number, is-lookup-of, or-else, last-lookup, copied}
+use Rattle.sql.specs.Optimizer.{ref-left, ref-right, equijoin, is-number, is-lookup-of, last-lookup, copied}
+use Rattle.sql.specs.Lists.{or-else}
 use Rattle.cells.proofs.Laws.{lt-or-ge}
 
 pub no-some : {A B : Type 0} {a : A} → none ≡ some a → B

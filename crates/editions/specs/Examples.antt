@@ -11,11 +11,10 @@ use Rattle.sheet.specs.Parts.{length-ok, edition-ok, parts-ok, bad-record}
 use Rattle.sheet.specs.Cell.{Cell, cell}
 use Rattle.sheet.specs.Content.{cell-ok, bad-cell}
 use Rattle.sheet.specs.Tree.{read}
-use Rattle.sheet.specs.Check.{Numbers, check, refusal}
+use Rattle.sheet.specs.Check.{Numbers, check, refusal, success, Outcome}
 use Rattle.sheet.specs.Write.{cells-bytes}
-use Rattle.sheet.specs.Operations.{Outcome, all-five}
+use Rattle.sheet.specs.Operations.{all-five}
 use Rattle.sheet_laws.specs.Content.{laid}
-use Rattle.sound.specs.HandedOut.{success}
 use Rattle.editions.specs.Editions.{in-edition, down, down-outcome}
 
 -- the sheet of an edition with these cells and no text or tables

@@ -11,7 +11,7 @@ use lib.ListN.{length, take, getD}
 use Rattle.sql.specs.Answer.{Answer, done, refused, _>>=_}
 use Rattle.sql.specs.Schema.{Schema}
 use Rattle.sql.specs.Plan.{Node, columns, up-to}
-use Rattle.sheet.specs.Bytes.{byte, half}
+use Rattle.sheet.specs.Bytes.{byte, half, Bytes}
 use Rattle.sheet.specs.Parts.{tables-at, columns-at, cells-at, edition, said-length, length-ok, edition-ok, parts-ok, table-count, cell-count, record-at, first-failing, bad-record}
 use Rattle.sheet.specs.Cell.{Cell, cell}
 use Rattle.sheet.specs.Content.{Tag, no-such-tag, not-carried, carried, tags, tag-of, field-ok, fields-ok, float-ok, origins, cell-ok, bad-cell, bad-number}
@@ -20,7 +20,6 @@ use Rattle.sheet.specs.Tree.{read}
 use Rattle.sheet.specs.Check.{text, schema, cells-of, test, unfound, cells-checked, one-plan, in-scope, plan, checked, check}
 use Rattle.sheet_laws.specs.Content.{and-left}
 use Rattle.sheet_laws.specs.Layout.{Parts, parts}
-use Rattle.sheet_laws.specs.Plan.{Bytes}
 use Rattle.sheet_laws.specs.Accepted.{accepted}
 use Rattle.origins.specs.Origins.{map-answer}
 use Rattle.origins.specs.Lists.{then-map}

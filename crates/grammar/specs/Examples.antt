@@ -10,7 +10,7 @@ use Rattle.value.specs.Value.{datum, null, boolean, integer, string}
 use Rattle.sql.specs.Expression.{Equal, LessThan, IsNull, IsNaN, Binary, Unary, Expression, constant, column, unary, binary, and, or, not}
 use Rattle.grammar.specs.Parts.{ascii, decimal-from, TRUE, NOT, OR, IS, NAN, equal, word, sign, opening, closing, Part, none-left, space, part, a-word, an-integer, a-column, a-string, a-sign, a-parenthesis, its-end}
 use Rattle.grammar.specs.Grammar.{Condition, simple, in-parentheses, alone, compared, is-nan, affirmed, negated, one, single, either}
-use Rattle.sheet.specs.Operations.{refuse}
+use Rattle.sheet.specs.Check.{refuse}
 use Rattle.grammar.specs.Operation.{condition}
 use Rattle.grammar.specs.Machine.{reading, refused, taken}
 

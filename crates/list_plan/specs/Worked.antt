@@ -11,11 +11,10 @@ use Rattle.value.specs.Encoding.{integer-bits, integer-of-bits}
 use Rattle.value.specs.Comparison.{compare-integers, compare-floats}
 use Rattle.value.specs.Arithmetic.{checked, add-integers, divide-integers}
 use Rattle.sql.specs.Expression.{Expression, constant, and, or, not, evaluate, into-nnf, into-cnf, into-cnf-vec}
-use Rattle.sql.specs.Plan.{qualified, by-key, scan, lookup, nothing, filter, nested-loop, hash, Node, leaf, over, join}
+use Rattle.sql.specs.Plan.{qualified, by-key, scan, lookup, nothing, filter, nested-loop, hash, Node, leaf, over, join, max-cells}
 use Rattle.sql.specs.Answer.{Answer, done, refused}
 use Rattle.sql.specs.Optimizer
 use Rattle.sql.specs.Room
-use Rattle.sql.specs.Room.{max-cells}
 use Rattle.sql.specs.Samples.{keyed, scanned, one-row, number, double, equals, plus, divided-by, A, B, C, D}
 use Rattle.sheet.specs.Bytes.{half, word, bytes}
 use Rattle.sheet.specs.Parts.{length-ok, edition-ok, parts-ok, bad-record}

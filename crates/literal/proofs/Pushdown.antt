@@ -12,8 +12,8 @@ use Rattle.sql.specs.Expression.{logical, Equal, function2, Expression, constan
 use Rattle.sql.specs.Expression as Defined
 use Rattle.sql.specs.Plan.{Leaf, scan, lookup, nothing, values, filter, other, nested-loop, hash, Node, leaf, over, join, node-size}
 use Rattle.sql.specs.Plan as Defined-plan
-use Rattle.sql.specs.Optimizer.{pushed-or-back, push-part, ref-left, ref-right, for-left, for-right, for-both, equijoin, is-number, or-else, last-lookup, copied, copy-up, copy-down, push-left, push-right, map-optional}
-use Rattle.sql.specs.Lists.{cons-if, flat-map}
+use Rattle.sql.specs.Optimizer.{pushed-or-back, push-part, ref-left, ref-right, for-left, for-right, for-both, equijoin, is-number, last-lookup, copied, copy-up, copy-down, push-left, push-right, map-optional}
+use Rattle.sql.specs.Lists.{cons-if, flat-map, or-else}
 use Rattle.sql.specs.Without.{go-on}
 use Rattle.sql.specs.Optimizer as Optimizer
 use Rattle.sql.specs.Without

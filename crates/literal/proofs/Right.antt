@@ -8,8 +8,8 @@ use native.Mathlib.Omega.{arith}
 use lib.Dec.{eqb, ltb}
 use borrow.Author.Tests.{ltb-true, ltb-false, le-ltb, eq-eqb, eqb-true}
 use Rattle.sql.specs.Expression.{And, Or, IsNull, IsNaN, Identity, Negate, SquareRoot, Not, logical, Equal, function1, function2, Expression, constant, column, unary, binary, and, contains-column, map-columns, and-all, and-vec, is-column, is-column-lookup}
-use Rattle.sql.specs.Optimizer.{ref-left, ref-right, for-left, for-right, for-both, equijoin, is-number, is-lookup-of, or-else, last-lookup, copied, copy-up, push-right}
-use Rattle.sql.specs.Lists.{cons-if, flat-map}
+use Rattle.sql.specs.Optimizer.{ref-left, ref-right, for-left, for-right, for-both, equijoin, is-number, is-lookup-of, last-lookup, copied, copy-up, push-right}
+use Rattle.sql.specs.Lists.{cons-if, flat-map, or-else}
 use Rattle.literal.proofs.Expression.{no-number, same-column-both}
 
 -- ---- a lookup has one column alone

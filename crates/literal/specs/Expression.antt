@@ -12,7 +12,7 @@ use Rattle.value.specs.Value.{Value, truth, integer, float, string, datum, the-
 use Rattle.sql.specs.Expression.{Marked, And, Or, IsNull, IsNaN, Identity, Negate, SquareRoot, GreaterThan, LessThan, Add, Divide, Subtract, Multiply, Not, logical, Equal, function1, function2, Expression, constant, column, unary, binary, and, or, size, Row}
 use Rattle.literal.specs.Rust.{Run, Ok, Err, Panic, _>>=_, unwrap, expect, assert-eq, _⇒_, _&_, _∣_, _if_, _else_, and-then, push, get, pop, for-each}
 use Rattle.literal.specs.Value.{Departures, i64-eq, as-f64, bytes-eq, bytes-lt, Null?, Boolean?, Integer?, Float?, String?, number?, Boolean, Integer-or, Float, eq, is-undefined, checked-add, checked-div, checked-mul, checked-sub}
-use Rattle.ieee754.specs.Ieee754.{square-root-bits}
+use Rattle.ieee754.specs.Roots.{square-root-bits}
 
 -- ---- 19: enum Expression, as patterns: the origin, and what the Rust's pattern binds
 

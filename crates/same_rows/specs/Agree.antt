@@ -17,7 +17,7 @@ use Rattle.sql.specs.Plan.{Leaf, scan, lookup, nothing, values, limit, offset, 
 use Rattle.sql.specs.Lists.{cons-if, keep, flat-map}
 use Rattle.rows.specs.Database.{Database}
 use Rattle.rows.specs.Reading.{each, keep-each, is-true, kept, holds, optional-holds, join-holds, joined-rows, evaluate-all, fit, values-row, pick-all, expressions, directions, read-leaf, read-over, read}
-use Rattle.rows.specs.Equalities.{Compared, is-true-result, of-columns, of-binary, of-expression, of-optional, of-join, of-list, of-over, in-rows, of-leaf, equalities, of-one-kind, all}
+use Rattle.rows.specs.Equalities.{Compared, of-columns, of-binary, of-expression, of-optional, of-join, of-list, of-over, in-rows, of-leaf, equalities, of-one-kind, all}
 use Rattle.rows.specs.Premises.{no-outer}
 use Rattle.same_rows.specs.Booleans.{false≢true, and-left, and-right}
 use Rattle.same_rows.specs.Total.{at, Total, known, figure, Shape, even-nots, odd-nots, no-column, valued, total-of, from-value, or-null, plain, turn, as-truth, mixed, truth-of, equal-totals, is-even, total-unary, total-binary, total, true-at, optional-true-at, to-value, value-at}
@@ -98,7 +98,7 @@ answer-agrees (Found Unordered) v h = ap from-value (ok-same h)
 answer-agrees (Found NotComparable) v h = no-value h
 
 -- two kinds that are not found equal
-mixed-agrees : (c : Comparison) (v : Value) → (not (is-true-result (answer c (is-equal c))) || false) ≡ true → answer c (is-equal c) ≡ ok v → known (truth-of true c) ≡ from-value v
+mixed-agrees : (c : Comparison) (v : Value) → (not (is-equal c) || false) ≡ true → answer c (is-equal c) ≡ ok v → known (truth-of true c) ≡ from-value v
 mixed-agrees Null v k h = ap from-value (ok-same h)
 mixed-agrees (Found Less) v k h = ap from-value (ok-same h)
 mixed-agrees (Found Comparison.Equal) v k h = false≢true k

@@ -11,7 +11,8 @@ use Rattle.sheet.specs.Tree.{node-tree, stack, read}
 use Rattle.sheet.specs.Check.{text, schema, cells-of}
 use Rattle.sheet_laws.specs.Fits.{Each, Exact-cell}
 use Rattle.sheet_laws.specs.Reading.{sound, read-runs}
-use Rattle.sheet_laws.specs.Plan.{Bytes, cells-pass}
+use Rattle.sheet_laws.specs.Plan.{cells-pass}
+use Rattle.sheet.specs.Bytes.{Bytes}
 use Rattle.scope.specs.declared.Scope.{Scope}
 use Rattle.scope.specs.Scope.{Judges}
 use Rattle.scope.proofs.Node.{Indexed}

@@ -11,7 +11,8 @@ use Rattle.sheet.specs.Parts.{length-ok, edition-ok, parts-ok, bad-recor
 use Rattle.sheet.specs.Cell.{cell}
 use Rattle.sheet.specs.Content.{cell-ok, bad-cell}
 use Rattle.sheet.specs.Tree.{read}
-use Rattle.sheet.specs.Operations.{Outcome, all-five}
+use Rattle.sheet.specs.Operations.{all-five}
+use Rattle.sheet.specs.Check.{Outcome}
 use Rattle.sheet.specs.Listing.{listing, is-expression, is-part, is-node}
 
 -- Filter(Values(Row(1)), And(true, Not(false))), no text or tables: 148 bytes

@@ -9,9 +9,9 @@ use lib.ListN.{length}
 use Rattle.sql.specs.Schema.{Schema}
 use Rattle.sql.specs.Plan.{Node, columns, node-size}
 use Rattle.sql.specs.Answer.{Answer, done, refused}
-use Rattle.sheet.specs.Check.{schema, plan}
+use Rattle.sheet.specs.Check.{schema, plan, Outcome}
 use Rattle.sheet.specs.Write.{write}
-use Rattle.sheet.specs.Operations.{Outcome, written, hand-out}
+use Rattle.sheet.specs.Operations.{written, hand-out}
 use Rattle.checker.specs.Checker.{outcome}
 use Rattle.checker.specs.declared.Answer as Code
 use Rattle.cells.specs.Cells.{cell-words}

@@ -12,7 +12,7 @@ use lib.Ieee as Ieee
 use lib.Ieee.{Float, nan, inf, fin, binary64}
 use lib.Ieee.Fits.{add-fits, sub-fits, mul-fits, div-fits, neg-fits}
 use lib.Ieee.Bits.{toBits-lt, ofBits-toBits, ofBits-fits, nanBits-is}
-use Rattle.ieee754.specs.Ieee754.{square-root-bits}
+use Rattle.ieee754.specs.Roots.{square-root-bits}
 use Rattle.ieee754.proofs.SquareRoot.{root-kept}
 use Rattle.value.specs.Value.{Truth, False, Unknown, True, Datum, integer, float, string, Value, truth, datum, Result, ok, err, overflow, the-nan}
 use Rattle.value.specs.Comparison.{Comparison, Null, Found, Less, Equal, Greater, Unordered, NotComparable, compare, compared, answer, number-of, rounded, is-equal, is-greater, is-less}

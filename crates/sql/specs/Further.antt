@@ -11,11 +11,10 @@ use Rattle.value.specs.Comparison.{compare-integers}
 use Rattle.value.specs.Arithmetic.{checked, add-integers}
 use Rattle.sql.specs.Schema.{Column, Schema, Integer}
 use Rattle.sql.specs.Expression.{Expression, constant, column, and, or, not, into-nnf, into-cnf, into-cnf-vec}
-use Rattle.sql.specs.Plan.{unlabelled, qualified, by-key, by-index, scan, lookup, nothing, values, limit, aggregate, filter, other, nested-loop, hash, Node, leaf, over, join, node-size}
+use Rattle.sql.specs.Plan.{unlabelled, qualified, by-key, by-index, scan, lookup, nothing, values, limit, aggregate, filter, other, nested-loop, hash, Node, leaf, over, join, node-size, max-cells}
 use Rattle.sql.specs.Answer.{Answer, done, refused}
 use Rattle.sql.specs.Optimizer
 use Rattle.sql.specs.Room
-use Rattle.sql.specs.Room.{max-cells}
 use Rattle.sql.specs.Samples.{keyed, scanned, one-row, number, equals, plus, A, B, C, D}
 
 -- ---- normal forms

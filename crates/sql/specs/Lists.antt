@@ -1,6 +1,7 @@
--- What the passes and the reading of rows both do with lists.
+-- Words on lists and options that passes, scope and rows share.
 use mathlib.Core.Bool.{Bool, true, false}
 use mathlib.Core.List.{List, [], _∷_, _++_}
+use mathlib.Core.Option.{Option, none, some}
 
 abbrev pub cons-if : {A : Type 0} → Bool → A → List A → List A
 cons-if true x xs = x ∷ xs
@@ -14,3 +15,8 @@ keep test (x ∷ xs) = cons-if (test x) x (keep test xs)
 abbrev pub flat-map : {A B : Type 0} → (A → List B) → List A → List B
 flat-map f [] = []
 flat-map f (x ∷ xs) = f x ++ flat-map f xs
+
+-- the first of the two that is there
+abbrev pub or-else : {A : Type 0} → Option A → Option A → Option A
+or-else none b = b
+or-else (some a) b = some a

@@ -12,11 +12,10 @@ use Rattle.value.specs.Comparison.{compare-integers, compare-floats}
 use Rattle.value.specs.Arithmetic.{checked, add-integers}
 use Rattle.sql.specs.Schema.{Schema, Integer}
 use Rattle.sql.specs.Expression.{Expression, constant, column, unary, binary, function1, function2, IsNull, IsNaN, Identity, Equal, LessThan, Add, Divide, and, or, not, into-nnf, into-cnf, into-cnf-vec}
-use Rattle.sql.specs.Plan.{unlabelled, qualified, by-key, by-index, scan, lookup, nothing, values, limit, offset, order, projection, aggregate, filter, other, nested-loop, hash, Node, leaf, over, join}
+use Rattle.sql.specs.Plan.{unlabelled, qualified, by-key, by-index, scan, lookup, nothing, values, limit, offset, order, projection, aggregate, filter, other, nested-loop, hash, Node, leaf, over, join, max-cells}
 use Rattle.sql.specs.Answer.{Answer, done}
 use Rattle.sql.specs.Optimizer
 use Rattle.sql.specs.Room
-use Rattle.sql.specs.Room.{max-cells}
 use Rattle.sql.specs.Samples.{keyed}
 
 -- ---- short names; the origin stands first

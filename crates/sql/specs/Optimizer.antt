@@ -13,7 +13,7 @@ use Rattle.sql.specs.Expression.{Marked, Logical, And, Or, Unary, Binary
 use Rattle.sql.specs.Plan.{Label, unlabelled, unqualified, qualified, Access, by-key, by-index, Leaf, scan, lookup, nothing, values, Other, limit, offset, order, projection, remap, aggregate, Over, filter, other, Join, nested-loop, hash, Node, leaf, over, join, node-origin, columns, column-labels, row-size, item-size, key-size, node-size}
 use Rattle.sql.specs.Effect.{Effect, plain, go-on-with, over-source, join-sources, each-source-with}
 use Rattle.sql.specs.Answer.{Answer, done, refused, _>>=_, at-place}
-use Rattle.sql.specs.Lists.{keep, flat-map}
+use Rattle.sql.specs.Lists.{keep, flat-map, or-else}
 
 -- ======== ConstantFolding
 
@@ -215,10 +215,6 @@ is-number c (some d) = eqb d c
 abbrev pub is-lookup-of : ℕ → Expression → Bool
 is-lookup-of c e = is-number c (is-column-lookup e)
 
-abbrev pub or-else : {A : Type 0} → Option A → Option A → Option A
-or-else none b = b
-or-else (some a) b = some a
-
 -- The last lookup of a column: the HashMap keeps the last one that is put in.
 abbrev pub last-lookup : ℕ → List Expression → Option Expression
 last-lookup c [] = none
@@ -376,10 +372,7 @@ is-unlabelled (unqualified name) = false
 is-unlabelled (qualified table name) = false
 
 abbrev pub is-column-number : ℕ → Expression → Bool
-is-column-number i (constant og v) = false
-is-column-number i (column og c) = eqb c i
-is-column-number i (unary og o x) = false
-is-column-number i (binary og o l r) = false
+is-column-number i e = is-number i (is-column e)
 
 -- columns i, i + 1, .., without an alias
 abbrev pub pass-through : ℕ → List (Expression × Label × ℕ) → Bool

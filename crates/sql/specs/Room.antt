@@ -16,10 +16,6 @@ use Rattle.sql.specs.Effect.{Effect}
 use Rattle.sql.specs.Optimizer.{FilterPushdown-with, IndexLookup-with, ShortCircuit-with, Pass, pass-of, in-turn}
 use Rattle.sql.specs.Optimizer
 
--- the cells that a sheet, and so a plan, can have
-abbrev pub max-cells : ℕ
-max-cells = 2048
-
 abbrev pub if-room : Bool → Node → Answer Node
 if-room true node = done node
 if-room false node = refused 14 0

@@ -16,7 +16,8 @@ use Rattle.value.proofs.Comparison.{by-tests, is-unordered, equal-floats, less-
 use Rattle.value.proofs.ComparisonLaws.{less-where, equal-where, greater-where, unordered-where}
 use Rattle.sql.specs.Expression.{Binary, function1, function2, Equal, GreaterThan, LessThan, Add, Divide, Subtract, Multiply, SquareRoot, evaluate-unary, evaluate-binary}
 use Rattle.ieee754.specs.Ieee754 as Ieee754
-use Rattle.ieee754.specs.Ieee754.{exactly, rounded, root-of, Double, nan, infinite, finite, read, Is, infinity, without-sign, unlike, sum, opposite, difference, infinite-times, product, quotient-of, quotient, square-root, square-root-bits, negation, of-integer}
+use Rattle.ieee754.specs.Ieee754.{exactly, rounded, root-of, Double, nan, infinite, finite, read, Is, infinity, without-sign, unlike, sum, opposite, difference, infinite-times, product, quotient-of, quotient, square-root, negation, of-integer}
+use Rattle.ieee754.specs.Roots.{square-root-bits}
 use Rattle.ieee754.proofs.Nearest.{rounded-unique}
 use Rattle.ieee754.proofs.Root.{nearest-root-unique}
 use Rattle.ieee754.proofs.Reading.{Stands, a-nan, an-infinity, a-number, reads}
@@ -152,12 +153,10 @@ unordered-at x y = unordered-floats (double x) (double y) ∙ ap₂ _||_ (same-n
 
 related : (x y : ℕ) → Relation (read x) (read y) (Found (compare-floats (double x) (double y)))
 related x y = let c = Found (compare-floats (double x) (double y)) in record {
-  ordered = record {
-    finds-less = less-where c _ (less-at x y);
-    finds-equal = equal-where c _ (equal-at x y);
-    finds-greater = greater-where c _ (greater-at x y);
-  };
-  unordered = unordered-where c _ (unordered-at x y);
+  finds-less = less-where c _ (less-at x y);
+  finds-equal = equal-where c _ (equal-at x y);
+  finds-greater = greater-where c _ (greater-at x y);
+  finds-unordered = unordered-where c _ (unordered-at x y);
 }
 
 -- a root, worked out

@@ -9,11 +9,10 @@ use Rattle.value.specs.Encoding.{integer-bits, integer-of-bits}
 use Rattle.value.specs.Comparison.{compare-integers}
 use Rattle.value.specs.Arithmetic.{checked, add-integers}
 use Rattle.sql.specs.Expression.{Row, into-cnf, into-cnf-vec}
-use Rattle.sql.specs.Plan.{Node, node-size}
+use Rattle.sql.specs.Plan.{Node, node-size, max-cells}
 use Rattle.sql.specs.Answer.{done}
 use Rattle.sql.specs.Optimizer
 use Rattle.sql.specs.Room
-use Rattle.sql.specs.Room.{max-cells}
 use Rattle.sheet.specs.Bytes.{half, word, bytes}
 use Rattle.sheet.specs.Parts.{length-ok, edition-ok, parts-ok, table-ok, column-ok, bad-record}
 use Rattle.sheet.specs.Cell.{cell}

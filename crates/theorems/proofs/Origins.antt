@@ -8,10 +8,9 @@ use lib.Dec.{eqb}
 use lib.ListN.{getD}
 use Rattle.value.specs.Value.{null, Result, ok}
 use Rattle.sql.specs.Expression.{Marked, Binary, logical, Equal, function2, Expression, constant, column, unary, binary, Row, bind, evaluate}
-use Rattle.sql.specs.Plan.{Leaf, scan, lookup, nothing, values, limit, offset, order, projection, remap, aggregate, Over, filter, other, Join, nested-loop, hash, Node, leaf, over, join, columns, values-columns, remap-source, up-to}
+use Rattle.sql.specs.Plan.{Leaf, scan, lookup, nothing, values, limit, offset, order, projection, remap, aggregate, Over, filter, other, Join, nested-loop, hash, Node, leaf, over, join, columns, values-columns, remap-source, up-to, max-cells}
 use Rattle.sql.specs.Optimizer.{map-optional}
 use Rattle.sql.specs.Lists.{keep, flat-map}
-use Rattle.sql.specs.Room.{max-cells}
 use Rattle.origins.specs.Origins.{map-origins, map-mark, map-row, map-part, map-aggregate, map-leaf, map-over, map-join, map-node-origins, map-answer}
 use Rattle.origins.specs.Unseen.{evaluate-unseen, is-column-unseen, columns-unseen}
 use Rattle.origins.specs.Proof.{passes-commute}

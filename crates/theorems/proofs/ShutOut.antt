@@ -14,20 +14,18 @@ use Rattle.sql.specs.Answer.{Answer, done, refused, _>>=_}
 use Rattle.sql.specs.Optimizer.{pass, optimize}
 use Rattle.sql.specs.Optimizer
 use Rattle.sql.specs.Expression.{into-cnf, into-cnf-vec}
-use Rattle.sheet.specs.Bytes.{half, word}
+use Rattle.sheet.specs.Bytes.{half, word, Bytes}
 use Rattle.sheet.specs.Parts.{cells-at, length-ok, edition-ok, parts-ok, table-ok, column-ok, bad-record}
 use Rattle.sheet.specs.Cell.{cell}
 use Rattle.sheet.specs.Content.{cell-ok, bad-cell}
 use Rattle.value.specs.Encoding.{integer-bits, integer-of-bits}
 use Rattle.sheet.specs.Tree.{read}
-use Rattle.sheet.specs.Check.{Numbers, schema, plan}
-use Rattle.sheet.specs.Operations.{Outcome, one-pass, all-five}
+use Rattle.sheet.specs.Check.{Numbers, schema, plan, sheet-of, Outcome}
+use Rattle.sheet.specs.Operations.{one-pass, all-five}
 use Rattle.sheet.specs.Examples.{P1}
 use Rattle.sheet_laws.specs.Content.{and-left, and-right}
 use Rattle.room.specs.Done.{done-same}
 use Rattle.rows.specs.Equalities.{all}
-use Rattle.sheet_laws.specs.Plan.{Bytes}
-use Rattle.sound.specs.Operations.{sheet-of}
 use Rattle.theorems.specs.Sizes
 use Rattle.theorems.specs.Theorems.{with-room, needed, Hands-out, Gives, Is-one-pass, Is-all-five}
 use Rattle.theorems.specs.ShutOut.{Program, Program-of-five, Settled, Answerable, Answerable-five, P1-answerable, Shut-out-unless, Refusing, Other-sheet, Invented-cells, Invented-columns, Spoiled-rest, Shut-out-if-always, Refusing-all, Fixed-sheet, Fixed-plan, Handed-back, Idle, All-in-one}

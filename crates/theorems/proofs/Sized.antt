@@ -11,12 +11,12 @@ use mathlib.Core.Option.{Option, none, some}
 use lib.Dec.{leb}
 use Rattle.sql.specs.Schema.{Schema}
 use Rattle.sql.specs.Expression.{Expression, size, into-nnf, into-cnf}
-use Rattle.sql.specs.Plan.{Node, leaf, over, join, columns, over-size, join-size, node-size}
+use Rattle.sql.specs.Plan.{Node, leaf, over, join, columns, over-size, join-size, node-size, max-cells}
 use Rattle.sql.specs.Answer.{Answer, done, refused, _>>=_}
 use Rattle.sql.specs.Effect.{plain}
 use Rattle.sql.specs.Optimizer.{fold-leaf, fold-over, fold-join, push-filters-from-with, FilterPushdown-with, scan-filter, IndexLookup-with, hash-join, HashJoin-with, ShortCircuit-with, in-turn}
 use Rattle.sql.specs.Optimizer as Optimizer
-use Rattle.sql.specs.Room.{max-cells, if-room, normal-forms-fit, refusing}
+use Rattle.sql.specs.Room.{if-room, normal-forms-fit, refusing}
 use Rattle.sql.specs.Room
 use Rattle.sql.specs.Within
 use Rattle.literal.specs.Nodes.{nodes-cells}

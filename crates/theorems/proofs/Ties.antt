@@ -7,7 +7,7 @@ use lib.ListN.{length, take, length-append}
 use lib.Seq.{length-take-le}
 use Rattle.sql.specs.Plan.{Node}
 use Rattle.sql.specs.Answer.{done}
-use Rattle.sheet.specs.Bytes.{word, bytes}
+use Rattle.sheet.specs.Bytes.{word, bytes, Bytes}
 use Rattle.sheet.specs.Parts.{tables-at, columns-at, cells-at, edition, cell-count}
 use Rattle.sheet.specs.Cells.{cells}
 use Rattle.sheet.specs.Check.{plan}
@@ -15,7 +15,7 @@ use Rattle.sheet.specs.Write.{cells-bytes, trailer, sheet-with, write}
 use Rattle.sheet_laws.specs.Bytes.{digits, word-after}
 use Rattle.sheet_laws.specs.Size.{node-length}
 use Rattle.sheet_laws.specs.Accepted.{accepted}
-use Rattle.sheet_laws.specs.Plan.{Bytes, parts-of}
+use Rattle.sheet_laws.specs.Plan.{parts-of}
 use Rattle.sheet_laws.specs.Same.{write-same}
 use Rattle.theorems.specs.Ties.{Room-by-sizes, Stands-with, Only-sheet, One-sheet}
 use Rattle.theorems.proofs.Sized.{pass-sized, optimize-sized}

@@ -12,7 +12,7 @@ use lib.ListN.{length, take, getD, length-append}
 use lib.Seq.{length-take-le, take-at}
 use Rattle.sql.specs.Answer.{done}
 use Rattle.sql.specs.Plan.{Node, node-size}
-use Rattle.sheet.specs.Bytes.{half, bytes}
+use Rattle.sheet.specs.Bytes.{half, bytes, Bytes}
 use Rattle.sheet.specs.Parts.{edition, tables-at, columns-at, cells-at, table-count, cell-count, record-at}
 use Rattle.sheet.specs.Cell.{Cell, cell-from, cell}
 use Rattle.sheet.specs.Content.{Tag, no-such-tag, not-carried, carried, tags, tag-of, fields-ok, cell-ok, origins, bad-cell}
@@ -24,7 +24,7 @@ use Rattle.sheet_laws.specs.Size.{node-length}
 use Rattle.sheet_laws.specs.Content.{and-left, and-right}
 use Rattle.sheet_laws.specs.Accepted.{accepted}
 use Rattle.sheet_laws.specs.Layout.{none-failing}
-use Rattle.sheet_laws.specs.Plan.{Bytes, parts-of}
+use Rattle.sheet_laws.specs.Plan.{parts-of}
 use Rattle.sheet_laws.specs.Tags.{tag-small}
 use Rattle.sheet_laws.specs.Bytes.{byte-after, half-after, length-cell-bytes}
 use Rattle.rows.specs.Equalities.{all}

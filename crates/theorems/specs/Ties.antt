@@ -6,15 +6,14 @@ use mathlib.Core.List.{List}
 use mathlib.Core.Path.{_≡_}
 use lib.ListN.{take}
 use Rattle.sql.specs.Schema.{Schema}
-use Rattle.sql.specs.Plan.{Node, node-size}
+use Rattle.sql.specs.Plan.{Node, node-size, max-cells}
 use Rattle.sql.specs.Answer.{done}
 use Rattle.sql.specs.Optimizer.{pass, optimize}
-use Rattle.sql.specs.Room.{max-cells}
 use Rattle.sql.specs.Room
 use Rattle.sheet.specs.Parts.{tables-at, columns-at, cells-at, edition}
 use Rattle.sheet.specs.Check.{plan}
 use Rattle.sheet.specs.Write.{write}
-use Rattle.sheet_laws.specs.Plan.{Bytes}
+use Rattle.sheet.specs.Bytes.{Bytes}
 use Rattle.theorems.specs.Sizes
 use Rattle.theorems.specs.Theorems.{with-room}
 
