@@ -79,10 +79,10 @@ reqshabu_answer plan_condition(const uint8_t *text, size_t length, uint8_t *outp
 
 /* What will change
  *
- * Requests to come add a mode, a mark and a summary to these operations, and operations beside them. What they will look like is settled now, so that a caller
- * changes once, from interface 1 to interface 2. Version 1.0.0 is the first with interface 2; until then the versions 0.x keep interface 1, and add to it at
- * most. Between the two there is no third: a tree in which only some of these requests have landed isn't released. A caller may write both calls today, the
- * second behind `#if REQSHABU_INTERFACE >= 2`.
+ * Requests add a mode, a mark and a summary to these operations, and operations beside them. The mode is in the prototypes above already; mark and summary are to
+ * come. What they will look like is settled now, so that a caller changes once, from interface 1, in which plan_pass and plan_optimize have no mode, to interface 2.
+ * Version 1.0.0 is the first with interface 2; until then the versions 0.x keep interface 1, and add to it at most. Between the two there is no third: a tree in
+ * which only some of these requests have landed, as this one, isn't released. A caller may write both calls today, the second behind `#if REQSHABU_INTERFACE >= 2`.
  *
  * Interface 2:
  *
