@@ -7,6 +7,7 @@ use mathlib.Core.List.{List}
 use lib.ListN.{length}
 use Rattle.sql.specs.Plan.{Node, columns, node-size}
 use Rattle.sql.specs.Answer.{done}
+use Rattle.sql.specs.Mode.{Mode}
 use Rattle.sql.specs.Room
 use Rattle.sheet.specs.Parts.{table-count}
 use Rattle.sheet.specs.Content.{origins}
@@ -77,17 +78,17 @@ module _ (s : List ℕ) (b : Bytes s) (n : Node) (h : plan s ≡ done n) where
   kept = left-below (origins s) (origins-some s)
 
   -- one pass
-  pub pass-handed-out : (k : ℕ) (m : Node) → Room.pass Room.max-cells (schema s) k n ≡ done m → Handed-out s n m
-  pass-handed-out k m e =
+  pub pass-handed-out : (mode : Mode) (k : ℕ) (m : Node) → Room.pass mode Room.max-cells (schema s) k n ≡ done m → Handed-out s n m
+  pass-handed-out mode k m e =
       handed m
-      (pass-keeps (schema s) (text s) (table-count s) names-inside k n m (pass-same Room.max-cells (schema s) k n m e) plan-checked)
-      (pass-fits Room.max-cells (schema s) k n m e plan-room)
-      (kept m (passes-keep Room.max-cells (schema s) k remainder n m same-origins e))
+      (pass-keeps (schema s) (text s) (table-count s) names-inside mode k n m (pass-same mode Room.max-cells (schema s) k n m e) plan-checked)
+      (pass-fits mode Room.max-cells (schema s) k n m e plan-room)
+      (kept m (passes-keep mode Room.max-cells (schema s) k remainder n m same-origins e))
 
   -- all five
-  pub optimize-handed-out : (m : Node) → Room.optimize Room.max-cells (schema s) n ≡ done m → Handed-out s n m
-  optimize-handed-out m e =
+  pub optimize-handed-out : (mode : Mode) (m : Node) → Room.optimize mode Room.max-cells (schema s) n ≡ done m → Handed-out s n m
+  optimize-handed-out mode m e =
       handed m
-      (optimize-keeps (schema s) (text s) (table-count s) names-inside n m (optimize-same Room.max-cells (schema s) n m e) plan-checked)
-      (optimize-fits Room.max-cells (schema s) n m e plan-room)
-      (kept m (five-keep Room.max-cells (schema s) remainder n m same-origins e))
+      (optimize-keeps (schema s) (text s) (table-count s) names-inside mode n m (optimize-same mode Room.max-cells (schema s) n m e) plan-checked)
+      (optimize-fits mode Room.max-cells (schema s) n m e plan-room)
+      (kept m (five-keep mode Room.max-cells (schema s) remainder n m same-origins e))
