@@ -67,6 +67,16 @@ module _ (a b : Effect) (R : a .Rewritten → b .Rewritten → Type 0) (related 
       and-then _ _ _ _ (beside (node-size right + join-size j) _ _ (lookup-related visit look-up left)) (λ l.
       and-then _ _ _ _ (beside (node-size l + join-size j) _ _ (lookup-related visit look-up right)) (λ r. stays (join og outer j l r))))
 
+  pub circuit-related : (n : Node) → R (ShortCircuit-with mode a schema n) (ShortCircuit-with mode b schema n)
+  circuit-related (leaf og l) = step (short-circuit mode schema (leaf og l))
+  circuit-related (over og o source) = and-then _ _ _ _ (beside (over-size o) _ _ (circuit-related source)) (λ s. step (short-circuit mode schema (over og o s)))
+  circuit-related (join og outer j left right) =
+      and-then _ _ _ _ (beside (node-size right + join-size j) _ _ (circuit-related left)) (λ l.
+      and-then _ _ _ _ (beside (node-size l + join-size j) _ _ (circuit-related right)) (λ r. step (short-circuit mode schema (join og outer j l r))))
+
+module _ (a b : Effect) (R : a .Rewritten → b .Rewritten → Type 0) (related : Related a b R) (schema : Schema) where
+  open Related related using (stays, and-then, beside)
+
   pub hash-related : ((n : Node) → R (a .visit n) (b .visit n)) → (n : Node) → R (HashJoin-with a schema n) (HashJoin-with b schema n)
   hash-related visit (leaf og l) = visit (leaf og l)
   hash-related visit (over og o source) =
@@ -76,10 +86,3 @@ module _ (a b : Effect) (R : a .Rewritten → b .Rewritten → Type 0) (related 
       and-then _ _ _ _ (visit (join og outer k left right)) (λ n.
       and-then _ _ _ _ (beside (node-size right + join-size k) _ _ (hash-related visit left)) (λ l.
       and-then _ _ _ _ (beside (node-size l + join-size k) _ _ (hash-related visit right)) (λ r. stays (join og outer k l r))))
-
-  pub circuit-related : (n : Node) → R (ShortCircuit-with mode a schema n) (ShortCircuit-with mode b schema n)
-  circuit-related (leaf og l) = step (short-circuit mode schema (leaf og l))
-  circuit-related (over og o source) = and-then _ _ _ _ (beside (over-size o) _ _ (circuit-related source)) (λ s. step (short-circuit mode schema (over og o s)))
-  circuit-related (join og outer j left right) =
-      and-then _ _ _ _ (beside (node-size right + join-size j) _ _ (circuit-related left)) (λ l.
-      and-then _ _ _ _ (beside (node-size l + join-size j) _ _ (circuit-related right)) (λ r. step (short-circuit mode schema (join og outer j l r))))

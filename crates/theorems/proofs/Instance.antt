@@ -51,11 +51,13 @@ not-15 n e f = absurd (omega arith)
 not-refused : (mode : Mode) (k : ℕ) → k < 5 → Room.pass mode max-cells tables (suc k) (plans k) ≡ done (plans (suc k))
 unfolding into-cnf into-cnf-vec Optimizer.maybe-push-join Optimizer.index-lookup Optimizer.maybe-push-filter-with Optimizer.push-filters-from-with Optimizer.FilterPushdown-with Optimizer.IndexLookup-with checked add-integers
 not-refused mode zero h = refl
-not-refused mode (suc zero) h = refl
+not-refused plain (suc zero) h = refl
+not-refused house (suc zero) h = refl
 not-refused plain (suc (suc zero)) h = refl
 not-refused house (suc (suc zero)) h = refl
 not-refused mode (suc (suc (suc zero))) h = refl
-not-refused mode (suc (suc (suc (suc zero)))) h = refl
+not-refused plain (suc (suc (suc (suc zero)))) h = refl
+not-refused house (suc (suc (suc (suc zero)))) h = refl
 not-refused mode (suc (suc (suc (suc (suc k))))) h = absurd (omega arith)
 
 reads : (k : ℕ) → k ≤ 5 → Reading.read database (plans k) ≡ ok (rows k)
@@ -87,7 +89,7 @@ suited = refl
 
 premises : (mode : Mode) → Premises mode database plans rows
 premises mode =
-    record { not-refused = not-refused mode; inner = refl; reads = reads; one-kind = one-kind; typed = typed; suited = λ is-plain. suited }
+    record { not-refused = not-refused mode; inner = λ is-plain. refl; reads = reads; one-kind = one-kind; typed = typed; suited = λ is-plain. suited }
 
 -- ---- what comes out
 
