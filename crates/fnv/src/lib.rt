@@ -21,8 +21,10 @@ pub fn wrapping_mul(a: u64, b: u64) -> u64
     product
 }
 
-// FNV_prime for 64 bits.
+// FNV_prime and offset_basis for 64 bits.
 const PRIME: u64 = 1099511628211;
+
+pub const OFFSET_BASIS: u64 = 14695981039346656037;
 
 // h × the prime. A compiler makes one product of it, and one of several in a row.
 pub fn times_prime(h: u64) -> u64
