@@ -23,7 +23,8 @@ use Rattle.sheet_laws.specs.Complete.{all-append}
 use Rattle.sheet_laws.specs.Content.{low-part, high-part}
 use Rattle.beside.specs.Summary.{Lookup, leaf-lookups, lookups, entries, entry-of, listed-for, figure}
 use Rattle.beside.specs.Sums.{at-place, sum-append, sum-zero}
-use Rattle.beside.specs.Entries.{table-is, first-is}
+use Rattle.beside.specs.Entries.{first-is}
+use Rattle.beside.specs.Entries
 use Rattle.beside.specs.Totals.{Has-entry}
 
 abbrev pub is-index-lookup : Cell → Bool
@@ -164,23 +165,28 @@ join-quiet og outer (hash l r) = ((refl, refl), tt)
 module _ (s : List ℕ) (good : bad-record s ≡ none) where
   -- A lookup's own cell says its entry and its constants.
   record Says-lookup (l : Lookup) (k : Cell) : Type 0 where
+    table-is : k .a ≡ l .table
     entry : cell-entry s k ≡ entry-of (schema s) l
     constants-are : cell-constants k ≡ l .constants
 
   key-says : (og t : ℕ) (al : Option ℕ) (n : ℕ) → t < table-count s
       → Says-lookup (record { access = by-key; table = t; constants = n }) (marked og (cell-of (key-lookup-cell t al n)))
-  key-says og t none n h = record { entry = omega (arith, first-is s good t h, ap (λ (x : Table). x .primary-key) (table-is s t h)); constants-are = refl }
-  key-says og t (some r) n h = record { entry = omega (arith, first-is s good t h, ap (λ (x : Table). x .primary-key) (table-is s t h)); constants-are = refl }
+  key-says og t none n h = record { table-is = refl; entry = omega (arith, first-is s good t h, ap (λ (x : Table). x .primary-key) (Entries.table-is s t h)); constants-are = refl }
+  key-says og t (some r) n h = record { table-is = refl; entry = omega (arith, first-is s good t h, ap (λ (x : Table). x .primary-key) (Entries.table-is s t h)); constants-are = refl }
 
   index-says : (og t : ℕ) (al : Option ℕ) (i n : ℕ) → t < table-count s → i < 65536
       → Says-lookup (record { access = by-index i; table = t; constants = n }) (marked og (cell-of (index-lookup-cell t al i n)))
-  index-says og t none i n h k = record { entry = omega (arith, first-is s good t h, low-part 65536 i n k); constants-are = high-part 65536 i n k }
-  index-says og t (some r) i n h k = record { entry = omega (arith, first-is s good t h, low-part 65536 i n k); constants-are = high-part 65536 i n k }
+  index-says og t none i n h k = record { table-is = refl; entry = omega (arith, first-is s good t h, low-part 65536 i n k); constants-are = high-part 65536 i n k }
+  index-says og t (some r) i n h k = record { table-is = refl; entry = omega (arith, first-is s good t h, low-part 65536 i n k); constants-are = high-part 65536 i n k }
 
   lookup-says : (og : ℕ) (a : Access) (t : ℕ) (al : Option ℕ) (n : ℕ) → Exact-cell (text s) (length (text s)) (table-count s) (lookup-content a t al n)
       → Says-lookup (record { access = a; table = t; constants = n }) (marked og (cell-of (lookup-content a t al n)))
   lookup-says og by-key t al n x = key-says og t al n (x .0 .0)
   lookup-says og (by-index i) t al n x = index-says og t al i n (x .0 .0) (x .1 .0)
+
+  lookup-table : (a : Access) (t : ℕ) (al : Option ℕ) (n : ℕ) → Exact-cell (text s) (length (text s)) (table-count s) (lookup-content a t al n) → t < table-count s
+  lookup-table by-key t al n x = x .0 .0
+  lookup-table (by-index i) t al n x = x .0 .0
 
   -- ---- the constants that a plan's cells list for an entry
 
@@ -225,10 +231,10 @@ module _ (s : List ℕ) (good : bad-record s ≡ none) where
           cells-listed r (x .1 .0),
         )
 
-  -- ---- a lookup's cell has an entry
+  -- ---- a lookup's cell names a table and has an entry
 
   abbrev pub Inside : Cell → Type 0
-  Inside k = Quiet k ⊎ (cell-entry s k < entries (schema s))
+  Inside k = Quiet k ⊎ ((k .a < table-count s) × (cell-entry s k < entries (schema s)))
 
   quiet-inside : (ks : List Cell) → All Quiet ks → All Inside ks
   quiet-inside [] q = tt
@@ -239,7 +245,8 @@ module _ (s : List ℕ) (good : bad-record s ≡ none) where
   leaf-inside og (scan t al f) x h = quiet-inside (optional-cells f ++ _) (and-last (optional-cells f) _ (optional-quiet f) (scan-quiet og (present f) t al))
   leaf-inside og (lookup a t al vs) x h =
       all-append Inside (all-cells constant-cells vs) _ (quiet-inside (all-cells constant-cells vs) (all-quiet constant-cells constant-quiet vs))
-      (inr (omega (arith, h .0, lookup-says og a t al (length vs) (x .1) .entry)), tt)
+      (let says = lookup-says og a t al (length vs) (x .1) in
+      (inr (omega (arith, says .table-is, lookup-table a t al (length vs) (x .1)), omega (arith, h .0, says .entry)), tt))
   leaf-inside og (nothing ls) x h = quiet-inside (all-cells label-cells ls ++ _) (and-last (all-cells label-cells ls) _ (all-quiet label-cells label-quiet ls) (refl, refl))
   leaf-inside og (values rs) x h = quiet-inside (all-cells row-cells rs ++ _) (and-last (all-cells row-cells rs) _ (all-quiet row-cells row-quiet rs) (refl, refl))
 

@@ -22,7 +22,7 @@ in-entries [] t h = absurd (omega arith)
 in-entries (x ∷ xs) zero h = omega arith
 in-entries (x ∷ xs) (suc t) h = omega (arith, in-entries xs t (omega arith))
 
-getD-up-to : {A : Type 0} (f : ℕ → A) (d : A) (i n t : ℕ) → t < n → getD (map f (up-to i n)) t d ≡ f (i + t)
+pub getD-up-to : {A : Type 0} (f : ℕ → A) (d : A) (i n t : ℕ) → t < n → getD (map f (up-to i n)) t d ≡ f (i + t)
 getD-up-to f d i zero t h = absurd (omega arith)
 getD-up-to f d i (suc n) zero h = let e : i ≡ i + 0 = omega arith in ap f e
 getD-up-to f d i (suc n) (suc t) h = let e : suc i + t ≡ i + suc t = omega arith in getD-up-to f d (suc i) n t (omega arith) ∙ ap f e
