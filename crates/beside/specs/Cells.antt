@@ -1,18 +1,18 @@
 -- The figures of a plan, counted cell by cell: only a lookup's own cell says constants.
-use Prim.Native.Nat.{ℕ, zero, suc, _+_, _*_, _/_, _%_, _≤_, _<_}
+use Prim.Native.Nat.{ℕ, _+_, _/_, _%_, _<_}
 use native.Mathlib.Omega.{arith}
-use mathlib.Core.Path.{_≡_, refl, sym, ap, ap₂, _∙_}
+use mathlib.Core.Path.{_≡_, refl, ap, ap₂, _∙_}
 use mathlib.Core.Bool.{Bool, true, false, cond}
-use mathlib.Core.List.{List, [], _∷_, _++_, map}
+use mathlib.Core.List.{List, [], _∷_, _++_}
 use mathlib.Core.Option.{Option, none, some}
 use mathlib.Core.Logic.{_⊎_, inl, inr}
 use lib.Dec.{eqb}
 use lib.ListN.{length}
 use Rattle.value.specs.Value.{False, Unknown, True, integer, float, string, Value, truth, datum}
 use Rattle.sql.specs.Expression.{Marked, IsNull, IsNaN, Identity, Negate, SquareRoot, GreaterThan, LessThan, Add, Divide, Subtract, Multiply, And, Or, Unary, Not, function, Binary, logical, Equal, Expression, constant, column, unary, binary}
-use Rattle.sql.specs.Schema.{Table, table-of}
-use Rattle.sql.specs.Plan.{Label, unlabelled, unqualified, qualified, Access, by-key, by-index, Leaf, scan, lookup, nothing, values, limit, offset, order, projection, remap, aggregate, Over, filter, other, Join, nested-loop, hash, Node, leaf, over, join, sum, up-to}
-use Rattle.sheet.specs.Parts.{table-count, cell-count, first-column, key-of, bad-record}
+use Rattle.sql.specs.Schema.{Table}
+use Rattle.sql.specs.Plan.{Label, unlabelled, unqualified, qualified, Access, by-key, by-index, Leaf, scan, lookup, nothing, values, limit, offset, order, projection, remap, aggregate, Over, filter, other, Join, nested-loop, hash, Node, leaf, over, join, sum}
+use Rattle.sheet.specs.Parts.{table-count, first-column, key-of, bad-record}
 use Rattle.sheet.specs.Cell.{Cell, cell}
 use Rattle.sheet.specs.Tags
 use Rattle.sheet.specs.Check.{text, schema, table}
@@ -22,7 +22,7 @@ use Rattle.sheet_laws.specs.Fits.{All, Exact-cell, Each-leaf, Exact}
 use Rattle.sheet_laws.specs.Complete.{all-append}
 use Rattle.sheet_laws.specs.Content.{low-part, high-part}
 use Rattle.beside.specs.Summary.{Lookup, leaf-lookups, lookups, entries, entry-of, listed-for, figure}
-use Rattle.beside.specs.Sums.{at-place, sum-append, sum-zero}
+use Rattle.beside.specs.Sums.{at-place, sum-append}
 use Rattle.beside.specs.Entries.{first-is}
 use Rattle.beside.specs.Entries
 use Rattle.beside.specs.Totals.{Has-entry}

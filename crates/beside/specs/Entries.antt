@@ -6,14 +6,14 @@ use mathlib.Core.Path.{_≡_, refl, sym, ap, _∙_}
 use mathlib.Core.Bool.{Bool, true, cond}
 use mathlib.Core.List.{List, [], _∷_, map}
 use mathlib.Core.Option.{none}
-use lib.Dec.{ltb, eqb}
+use lib.Dec.{ltb}
 use lib.ListN.{length, getD, length-map}
-use Rattle.sql.specs.Schema.{Column, Table, Schema, table-of, no-table}
-use Rattle.sql.specs.Plan.{sum, up-to}
-use Rattle.sheet.specs.Parts.{tables-at, table-count, column-count, columns-before, first-column, columns-of, key-of, column-name, inside, table-ok, column-ok, record-ok, bad-record}
+use Rattle.sql.specs.Schema.{Schema, table-of, no-table}
+use Rattle.sql.specs.Plan.{up-to}
+use Rattle.sheet.specs.Parts.{table-count, column-count, columns-before, first-column, columns-of, table-ok, column-ok, record-ok, bad-record}
 use Rattle.sheet.specs.Check.{table, column, schema}
 use Rattle.sheet_laws.specs.Content.{and-left}
-use Rattle.sheet_laws.specs.Layout.{none-failing, length-up-to, Table-facts, table-facts}
+use Rattle.sheet_laws.specs.Layout.{none-failing, length-up-to, table-facts}
 use Rattle.beside.specs.Summary.{first-entry, entries}
 
 -- A table's columns are among the entries.

@@ -2,13 +2,13 @@
 use Prim.Native.Nat.{ℕ}
 use mathlib.Core.Path.{_≡_, refl}
 use mathlib.Core.Bool.{true, false}
-use mathlib.Core.List.{List, [], _∷_}
+use mathlib.Core.List.{[], _∷_}
 use mathlib.Core.Option.{none}
 use lib.IntN.{pos}
 use Rattle.value.specs.Value.{integer, Value, datum}
 use Rattle.value.specs.Meaning.{integer-bits}
-use Rattle.sql.specs.Schema.{Integer, Column, Table, Schema}
-use Rattle.sql.specs.Expression.{Expression, constant}
+use Rattle.sql.specs.Schema.{Integer, Column, Schema}
+use Rattle.sql.specs.Expression.{constant}
 use Rattle.sql.specs.Plan.{by-key, by-index, lookup, values, nested-loop, Node, leaf, join}
 use Rattle.beside.specs.Mark.{mark}
 use Rattle.beside.specs.Summary.{lookup-constants, summary}

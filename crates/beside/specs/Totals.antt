@@ -2,16 +2,16 @@
 use Prim.Native.Nat.{ℕ, _+_, _<_}
 use native.Mathlib.Omega.{arith}
 use borrow.Author.Tests.{ltb-true}
-use mathlib.Core.Path.{_≡_, refl, sym, ap, _∙_}
-use mathlib.Core.List.{List, [], _∷_, map}
-use mathlib.Core.Option.{Option, none}
+use mathlib.Core.Path.{_≡_, refl, ap, _∙_}
+use mathlib.Core.List.{List, [], _∷_}
+use mathlib.Core.Option.{none}
 use lib.Dec.{ltb}
 use lib.ListN.{length}
 use Rattle.sql.specs.Schema.{Table, Schema, table-of}
 use Rattle.sql.specs.Answer.{done}
 use Rattle.sql.specs.Plan.{Access, by-key, by-index, Leaf, scan, lookup, nothing, values, Node, leaf, over, join, sum, up-to, columns, node-size}
 use Rattle.sheet.specs.Parts.{table-count, bad-record}
-use Rattle.sheet.specs.Scope.{table-columns, leaf-outside, over-outside, join-outside, outside}
+use Rattle.sheet.specs.Scope.{table-columns, leaf-outside, over-outside, outside}
 use Rattle.sheet.specs.Check.{text, schema, plan}
 use Rattle.sheet_laws.specs.Fits.{All, Content-fits, Each-leaf, Fits}
 use Rattle.sheet_laws.specs.Complete.{all-append}

@@ -1,7 +1,6 @@
 -- Hashes from the test suite of FNV's authors, worked out.
-use Prim.Native.Nat.{ℕ}
 use mathlib.Core.Path.{_≡_, refl}
-use mathlib.Core.List.{List, [], _∷_}
+use mathlib.Core.List.{[], _∷_}
 use lib.ListN.{replicate}
 use Rattle.fnv.specs.Fnv.{fnv-1a}
 

@@ -1,10 +1,10 @@
 -- Bytes put into the hash: a byte 0 only multiplies, a number's four bytes and a cell's sixteen follow each other, and cells do.
-use Prim.Native.Nat.{ℕ, zero, suc, _+_, _-_, _*_, _/_, _%_, _≤_, _<_}
+use Prim.Native.Nat.{ℕ, suc, _+_, _-_, _/_, _%_, _≤_, _<_}
 use native.Mathlib.Nat.{mod-eq-of-lt}
 use native.Mathlib.Omega.{arith}
-use mathlib.Core.Path.{_≡_, refl, sym, ap, ap₂, _∙_}
+use mathlib.Core.Path.{_≡_, refl, sym, ap, _∙_}
 use mathlib.Core.List.{List, [], _∷_, _++_, map}
-use lib.Bits.{bitXor, xor-zero-r}
+use lib.Bits.{xor-zero-r}
 use Rattle.sql.specs.Plan.{up-to}
 use Rattle.sheet.specs.Bytes.{bytes}
 use Rattle.sheet.specs.Parts.{cell-count}

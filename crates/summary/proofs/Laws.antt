@@ -1,17 +1,17 @@
 -- Figures that grow cell by cell, up to the summary of the plan.
-use Prim.Native.Nat.{ℕ, zero, suc, _+_, _-_, _*_, _/_, _%_, _≤_, _<_}
+use Prim.Native.Nat.{ℕ, zero, suc, _+_, _-_, _/_, _%_, _≤_, _<_}
 use native.Mathlib.Omega.{arith}
-use borrow.Author.Tests.{eqb-true, eqb-false, eq-eqb, ltb-true, ltb-false, leb-true, leb-false}
+use borrow.Author.Tests.{eqb-true, eqb-false, eq-eqb, ltb-true, ltb-false}
 use mathlib.Core.Path.{_≡_, refl, sym, ap, ap₂, _∙_, subst}
 use mathlib.Core.Bool.{Bool, true, false, cond}
 use mathlib.Core.List.{List, [], _∷_, _++_, map}
 use mathlib.Core.Logic.{_⊎_, inl, inr}
-use lib.Dec.{eqb, ltb, leb}
-use lib.ListN.{length, getD, set, take, drop, length-append, length-drop, length-map, length-set, List·getD-append}
+use lib.Dec.{eqb, ltb}
+use lib.ListN.{length, getD, set, drop, length-append, length-drop, length-map, length-set, List·getD-append}
 use lib.Seq.{getD-set-same, getD-set-other, getD-drop, getD-append-add, ext-getD}
 use Rattle.sql.specs.Answer.{done}
-use Rattle.sql.specs.Plan.{Access, Leaf, scan, lookup, nothing, values, Node, leaf, over, join, sum, up-to, leaf-size, node-size}
-use Rattle.sheet.specs.Parts.{table-count, column-count, cell-count, first-column, key-of}
+use Rattle.sql.specs.Plan.{Leaf, scan, lookup, nothing, values, Node, leaf, over, join, sum, up-to, leaf-size, node-size}
+use Rattle.sheet.specs.Parts.{column-count, cell-count, first-column, key-of}
 use Rattle.sheet.specs.Cell.{Cell, cell}
 use Rattle.sheet.specs.Check.{schema, plan, cells-of}
 use Rattle.sheet.specs.Cells.{cells}
@@ -22,11 +22,11 @@ use Rattle.sheet_laws.specs.Plan.{Bytes, parts-of, plan-cells, plan-size, plan-
 use Rattle.layout.specs.Layout.{Whole, as-cell}
 use Rattle.layout.specs.declared.Cell as Code
 use Rattle.beside.specs.Summary.{Lookup, leaf-lookups, lookups, lookup-constants, entries, entry-of, listed-for, figure, summary}
-use Rattle.beside.specs.Sums.{sum-append, sum-most, sum-zero, at-place, here, elsewhere}
+use Rattle.beside.specs.Sums.{sum-append, sum-most, at-place, here, elsewhere}
 use Rattle.beside.specs.Entries.{getD-up-to, entries-are}
 use Rattle.beside.specs.Totals.{Has-entry, accepted-entries}
 use Rattle.beside.specs.Cells.{is-index-lookup, is-key-lookup, cell-entry, cell-constants, cell-listed, Quiet, quiet-lists, Inside, cells-listed, cells-inside}
-use Rattle.summary.specs.Summing.{Cleared, Listable, Countable, Counts, Summable, Summed}
+use Rattle.summary.specs.Summing.{Cleared, Listable, Countable, Counts}
 
 -- An accepted sheet is whole.
 pub whole : (s : List ℕ) (n : Node) → plan s ≡ done n → Whole s
