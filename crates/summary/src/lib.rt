@@ -7,7 +7,7 @@ ghost use Rattle.layout.specs.Layout.{as-cell};
 ghost use Rattle.summary.specs.Summing.{Cleared, Countable, Counts, Summable, Summed};
 
 // The first n figures become 0.
-fn clear(n: usize, figures: &mut [u32])
+fn clear(n: usize, figures: &mut [u64])
     requires { ⌜ n ≤ length (now figures) ⌝ }
     ensures { λ _. ⌜ Cleared n (now (figures .entry)) (now (figures .exit)) ⌝ }
 {
@@ -19,15 +19,15 @@ fn clear(n: usize, figures: &mut [u32])
 }
 
 // So many constants are listed for an entry.
-fn list(entry: usize, constants: usize, figures: &mut [u32])
+fn list(entry: usize, constants: usize, figures: &mut [u64])
     requires { ⌜ (entry < length (now figures)) × (getD (now figures) entry 0 + constants < 4294967296) ⌝ }
     ensures { λ _. ⌜ now (figures .exit) ≡ set (now (figures .entry)) entry (getD (now (figures .entry)) entry 0 + constants) ⌝ }
 {
-    figures[entry] += constants as u32;
+    figures[entry] += constants as u64;
 }
 
 // What a cell lists: an IndexLookup for the column that it names, a KeyLookup for its table's key, any other cell nothing.
-fn list_cell(s: &[u8], k: Cell, figures: &mut [u32])
+fn list_cell(s: &[u8], k: Cell, figures: &mut [u64])
     requires { ⌜ Countable (now s) k (now figures) ⌝ }
     ensures { λ _. ⌜ Counts (now (s .entry)) (as-cell k) (now (figures .entry)) (now (figures .exit)) ⌝ }
 {
@@ -43,7 +43,7 @@ fn list_cell(s: &[u8], k: Cell, figures: &mut [u32])
 }
 
 // The summary of the plan of s over the first figures, one for each column record. Those behind stay.
-pub fn summarize(s: &[u8], figures: &mut [u32])
+pub fn summarize(s: &[u8], figures: &mut [u64])
     requires { ⌜ Summable (now s) (now figures) ⌝ }
     ensures { λ _. ⌜ Summed (now (s .entry)) (now (figures .entry)) (now (figures .exit)) ⌝ }
 {
