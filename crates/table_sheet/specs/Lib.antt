@@ -1,0 +1,2 @@
+pub mod TableSheet
+pub mod Examples
