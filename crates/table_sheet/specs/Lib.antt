@@ -1,2 +1,4 @@
 pub mod TableSheet
 pub mod Examples
+pub mod Counters
+pub mod Misfit

@@ -47,10 +47,14 @@ in-table tag = (leb Tags.null tag && leb tag Tags.string) || (eqb tag Tags.row |
 abbrev pub width-fits : (width : ℕ) → Cell → Bool
 width-fits width k = not (eqb (k .tag) Tags.row) || eqb (k .a) width
 
--- A cell's layout, sort and width are right, in a text of so many bytes. Past the last tree no cell's are.
-unfoldable pub cell-fits : (bytes : ℕ) (widths : List ℕ) → Cell → Bool
+-- A cell's sort, layout and width are right, in a text of so many bytes.
+unfoldable pub fits : (bytes width : ℕ) → Cell → Bool
+fits bytes width k = in-table (k .tag) && (cell-ok 1 bytes 0 k && width-fits width k)
+
+-- Past the last tree no cell is right.
+abbrev pub cell-fits : (bytes : ℕ) (widths : List ℕ) → Cell → Bool
 cell-fits bytes [] k = false
-cell-fits bytes (width ∷ widths) k = in-table (k .tag) && (cell-ok 1 bytes 0 k && width-fits width k)
+cell-fits bytes (width ∷ widths) k = fits bytes width k
 
 -- A Values finishes a tree.
 abbrev pub unfinished : List ℕ → Cell → List ℕ
@@ -63,7 +67,7 @@ taken bytes text widths k st = cond (cell-fits bytes widths k) (after text k st)
 
 -- Cells from number i on read onto a stack: the stack they leave, or the first at fault.
 unfoldable pub read : (bytes : ℕ) (text : List ℕ) → ℕ → (widths : List ℕ) → List Cell → Stack → Read
-unfolding cell-fits content-of reduce
+unfolding fits content-of reduce
 read bytes text i widths [] st = stack st
 read bytes text i widths (k ∷ ks) st =
     elim (taken bytes text widths k st) [ none ↦ lacking i | some next ↦ read bytes text (suc i) (unfinished widths k) ks next ]
