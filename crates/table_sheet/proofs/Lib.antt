@@ -3,3 +3,4 @@ pub mod Stack
 pub mod Walk
 pub mod Text
 pub mod Turn
+pub mod Tables

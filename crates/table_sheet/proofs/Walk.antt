@@ -55,7 +55,7 @@ figure-at text k (suc (suc (suc (suc (suc zero))))) h l = record { value = _; is
 figure-at text k (suc (suc (suc (suc (suc (suc n)))))) h l = absurd (omega arith)
 
 -- A cell of a table sheet that is neither a Row nor a Values is a constant.
-constant-tag : (tag : ℕ) → in-table tag ≡ true → (tag ≡ Tags.row → ⊥) → (tag ≡ Tags.values → ⊥) → (1 ≤ tag) × (tag ≤ 5)
+pub constant-tag : (tag : ℕ) → in-table tag ≡ true → (tag ≡ Tags.row → ⊥) → (tag ≡ Tags.values → ⊥) → (1 ≤ tag) × (tag ≤ 5)
 constant-tag tag e p q =
     let f : (leb 1 tag && leb tag 5) ≡ true = or-left (leb 1 tag && leb tag 5) (eqb tag 45 || eqb tag 63) e (simp (ne-eqb tag 45 p, ne-eqb tag 63 q)) in
     (leb-true 1 tag (and-left (leb 1 tag) _ f), leb-true tag 5 (and-right (leb 1 tag) _ f))
@@ -63,6 +63,20 @@ constant-tag tag e p q =
     or-left : (b d : Bool) → (b || d) ≡ true → d ≡ false → b ≡ true
     or-left true d e f = refl
     or-left false d e f = let z : _≡_ {A = ℕ} 0 1 = cc in absurd (omega arith)
+
+-- what a table sheet's cells say
+module _ (text : List ℕ) (k : Cell) where
+  pub row-content : k .tag ≡ Tags.row → content-of text k ≡ some (row-cell (k .a))
+  unfolding content-of
+  row-content e = ap (λ (t : ℕ). getD readers t no-cell text k) e
+
+  pub values-content : k .tag ≡ Tags.values → content-of text k ≡ some (values-cell (k .a))
+  unfolding content-of
+  values-content e = ap (λ (t : ℕ). getD readers t no-cell text k) e
+
+  pub figure-content : (1 ≤ k .tag) × (k .tag ≤ 5) → IsFigure (content-of text k)
+  unfolding content-of
+  figure-content h = figure-at text k (k .tag) (h .0) (h .1)
 
 module _ (text : List ℕ) (k : Cell) {st : Stack} {c : Counters} (s : Stands st c) where
   of-content : {x : Content} → content-of text k ≡ some x → after text k st ≡ reduce (k .origin) x st
@@ -72,18 +86,6 @@ module _ (text : List ℕ) (k : Cell) {st : Stack} {c : Counters} (s : Stands st
   abbrev below : Stack
   below = map row-tree (s .rs) ++ s .low
 
-  row-content : k .tag ≡ Tags.row → content-of text k ≡ some (row-cell (k .a))
-  unfolding content-of
-  row-content e = ap (λ (t : ℕ). getD readers t no-cell text k) e
-
-  values-content : k .tag ≡ Tags.values → content-of text k ≡ some (values-cell (k .a))
-  unfolding content-of
-  values-content e = ap (λ (t : ℕ). getD readers t no-cell text k) e
-
-  figure-content : (1 ≤ k .tag) × (k .tag ≤ 5) → IsFigure (content-of text k)
-  unfolding content-of
-  figure-content h = figure-at text k (k .tag) (h .0) (h .1)
-
   abbrev put-row : Option (List Expression × Stack) → Option Stack
   put-row o = bind o (λ p. some (row-tree (p .0, k .origin) ∷ p .1))
 
@@ -92,11 +94,11 @@ module _ (text : List ℕ) (k : Cell) {st : Stack} {c : Counters} (s : Stands st
 
   row-after : k .tag ≡ Tags.row → after text k st ≡ put-row (pop an-expression (k .a) [] (map expression-tree (s .es) ++ below))
   unfolding reduce
-  row-after e = of-content (row-content e) ∙ ap (λ (l : Stack). put-row (pop an-expression (k .a) [] l)) (s .is)
+  row-after e = of-content (row-content text k e) ∙ ap (λ (l : Stack). put-row (pop an-expression (k .a) [] l)) (s .is)
 
   values-after : k .tag ≡ Tags.values → after text k st ≡ put-table (pop a-row (k .a) [] (map expression-tree (s .es) ++ below))
   unfolding reduce
-  values-after e = of-content (values-content e) ∙ ap (λ (l : Stack). put-table (pop a-row (k .a) [] l)) (s .is)
+  values-after e = of-content (values-content text k e) ∙ ap (λ (l : Stack). put-table (pop a-row (k .a) [] l)) (s .is)
 
   row-step : k .tag ≡ Tags.row → Step text k st c
   row-step e = decide (leb (k .a) (c .figures)) refl
@@ -167,7 +169,7 @@ module _ (text : List ℕ) (k : Cell) {st : Stack} {c : Counters} (s : Stands st
   figure-step : (k .tag ≡ Tags.row → ⊥) → (k .tag ≡ Tags.values → ⊥) → in-table (k .tag) ≡ true → Step text k st c
   unfolding reduce
   figure-step p q e =
-      let f = figure-content (constant-tag (k .tag) e p q) in
+      let f = figure-content text k (constant-tag (k .tag) e p q) in
       goes (sym (constant-takes c k p q)) (of-content (f .is))
       (subst (λ (d : Counters). Stands (expression-tree (constant (k .origin) (f .value)) ∷ st) d) (after-constant c k q p) (figure-on s (constant (k .origin) (f .value))))
 

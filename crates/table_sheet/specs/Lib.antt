@@ -2,3 +2,4 @@ pub mod TableSheet
 pub mod Examples
 pub mod Counters
 pub mod Misfit
+pub mod Tables
