@@ -1,0 +1,4 @@
+pub mod Reader
+pub mod Lab
+pub mod Examples
+pub mod Law
