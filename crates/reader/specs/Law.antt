@@ -1,5 +1,5 @@
 -- What the lab reader's answers say of the reading (crate rows). Proved in proofs/Law.antt, each under its name in small letters.
-use Prim.Native.Nat.{ℕ, _*_, _≤_}
+use Prim.Native.Nat.{ℕ, _+_, _*_, _≤_}
 use mathlib.Core.Bool.{Bool, true, false}
 use mathlib.Core.List.{List}
 use mathlib.Core.Logic.{_⊎_}
@@ -8,13 +8,14 @@ use mathlib.Core.Path.{_≡_}
 use lib.ListN.{length}
 use Rattle.value.specs.Value.{Error, ok, err}
 use Rattle.sql.specs.Answer.{done}
-use Rattle.sql.specs.Expression.{Row}
+use Rattle.sql.specs.Expression.{Expression, Row}
 use Rattle.sql.specs.Plan.{Over, Join, Node, over, join, columns, sum}
 use Rattle.sheet.specs.Check.{schema, plan}
-use Rattle.sheet.specs.Operations.{Outcome}
+use Rattle.sheet.specs.Operations.{Outcome, one-pass, all-five}
 use Rattle.sheet_laws.specs.Plan.{Bytes}
-use Rattle.rows.specs.Database.{Database}
+use Rattle.rows.specs.Database.{Wide, Database}
 use Rattle.rows.specs.Reading.{read}
+use Rattle.sound.specs.Operations.{sheet-of}
 use Rattle.table_sheet.specs.TableSheet.{tables-of}
 use Rattle.reader.specs.Reader.{few}
 use Rattle.reader.specs.Lab.{unreadable, cells-of-rows, in-tables, put-out, lab}
@@ -67,3 +68,36 @@ abbrev pub Twenty-says : Type 0
 Twenty-says =
     (s t out : List ℕ) (node : Node) (database : Database) → Stands-for s t node database
     → lab s t out .numbers .number ≡ 20 → Fails database node ⊎ Too-many database node
+
+-- ---- a database for the two sheets
+
+-- Any two sheets that fit stand for a database, whatever its rule for Order and its function for Aggregate are.
+pub record Database-for (s t : List ℕ) (node : Node) (arrangement : List Bool → List Row → List ℕ)
+    (aggregated : List Expression → List (ℕ × Expression) → List Row → List Row) : Type 0 where
+  pub database : Database
+  pub stands-for : Stands-for s t node database
+  pub same-arrangement : database .arrangement ≡ arrangement
+  pub same-aggregated : database .aggregated ≡ aggregated
+
+abbrev pub Has-database : Type 0
+Has-database =
+    (s t : List ℕ) → Bytes s → (node : Node) → plan s ≡ done node → (tables : List (List Row)) → tables-of s t ≡ done tables
+    → (arrangement : List Bool → List Row → List ℕ) (aggregated : List Expression → List (ℕ × Expression) → List Row → List Row)
+    → ((group-by : List Expression) (aggregates : List (ℕ × Expression)) (rows : List Row) → Wide (length aggregates + length group-by) (aggregated group-by aggregates rows))
+    → Database-for s t node arrangement aggregated
+
+-- ---- before and after optimizing
+
+-- What a pass or all five hand out keeps text and tables, so the same table sheet fits it, for the same tables.
+abbrev pub Fits-after : Type 0
+Fits-after =
+    (s : List ℕ) → Bytes s → (t out : List ℕ)
+    → ((k : ℕ) → one-pass s k out .numbers .number ≡ 0 → tables-of (sheet-of (one-pass s k out)) t ≡ tables-of s t)
+    × (all-five s out .numbers .number ≡ 0 → tables-of (sheet-of (all-five s out)) t ≡ tables-of s t)
+
+-- Two sheets of equally many columns that read the same, beside the same tables, get the same outcome where both get 0: numbers and every byte.
+abbrev pub Same-bytes : Type 0
+Same-bytes =
+    (s u t out : List ℕ) (n m : Node) (database : Database) → Stands-for s t n database → Stands-for u t m database
+    → read database n ≡ read database m → columns (database .schema) n ≡ columns (database .schema) m
+    → lab s t out .numbers .number ≡ 0 → lab u t out .numbers .number ≡ 0 → lab s t out ≡ lab u t out
