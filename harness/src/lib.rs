@@ -8,6 +8,7 @@ pub mod encoding;
 pub mod error;
 pub mod extremes;
 pub mod generate;
+pub mod lab;
 pub mod model;
 pub mod origins;
 pub mod original;
