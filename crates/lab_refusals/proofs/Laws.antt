@@ -79,12 +79,12 @@ module _ (s t : List ℕ) {a : Code.Answer} (is : numbers a ≡ check s) where
       at-18 {i} e h =
           h ∙ ap (λ (o : Option ℕ). unless-found o 18 (unless-found (unreadable s) 19 (check s))) (sym (ap found e) ∙ fit) ∙ on
 
-      module _ (e : f ≡ Nothing) {g : Found} (look : found g ≡ unreadable s) where
-        fits : unless-found (unreadable s) 19 (check s) ≡ before-reading s t
-        fits = ap (λ (o : Option ℕ). unless-found o 18 (unless-found (unreadable s) 19 (check s))) (sym (ap found e) ∙ fit) ∙ on
+      fits : f ≡ Nothing → unless-found (unreadable s) 19 (check s) ≡ before-reading s t
+      fits e = ap (λ (o : Option ℕ). unless-found o 18 (unless-found (unreadable s) 19 (check s))) (sym (ap found e) ∙ fit) ∙ on
 
+      module _ (e : f ≡ Nothing) {g : Found} (look : found g ≡ unreadable s) where
         pub at-19 : {i : ℕ} {r : Code.Answer} → g ≡ At i → numbers r ≡ refusal 19 i → numbers r ≡ before-reading s t
-        at-19 {i} d h = h ∙ ap (λ (o : Option ℕ). unless-found o 19 (check s)) (sym (ap found d) ∙ look) ∙ fits
+        at-19 {i} d h = h ∙ ap (λ (o : Option ℕ). unless-found o 19 (check s)) (sym (ap found d) ∙ look) ∙ fits e
 
         pub at-end : g ≡ Nothing → numbers a ≡ before-reading s t
-        at-end d = is ∙ ap (λ (o : Option ℕ). unless-found o 19 (check s)) (sym (ap found d) ∙ look) ∙ fits
+        at-end d = is ∙ ap (λ (o : Option ℕ). unless-found o 19 (check s)) (sym (ap found d) ∙ look) ∙ fits e

@@ -9,10 +9,10 @@ check-requires : tie.Need-check-requires
 check-requires c κs = search needs
 
 returns : tie.Need-returns
-returns c = at-check (c .args .s .now) (c .args .t .now) (c .check .ensures) (c .if1 .taken)
+returns c = at-check (c .before .before .before .before .before .args .s .now) (c .before .before .before .before .before .args .t .now) (c .before .before .check .ensures) (c .if1 .taken)
 
 misfit-requires : tie.Need-misfit-requires
-misfit-requires c κs = whole-is (c .args .s .now) (c .args .t .now) (c .check .ensures) (c .if1 .left)
+misfit-requires c κs = whole-is (c .before .before .before .before .before .args .s .now) (c .before .before .before .before .before .args .t .now) (c .before .before .check .ensures) (c .if1 .left)
 
 enum-known-i : tie.Need-enum-known-i
 enum-known-i c = search needs
@@ -21,13 +21,13 @@ refusal-requires : tie.Need-refusal-requires
 refusal-requires c κs = search needs
 
 returns-2 : tie.Need-returns-2
-returns-2 c = at-18 (c .args .s .now) (c .args .t .now) (c .check .ensures) (c .if1 .left) (c .misfit .ensures) (c .i .given .1) (c .refusal .ensures)
+returns-2 c = at-18 (c .before .before .before .before .before .before .before .before .before .before .args .s .now) (c .before .before .before .before .before .before .before .before .before .before .args .t .now) (c .before .before .before .before .before .before .before .check .ensures) (c .before .before .before .before .before .if1 .left) (c .before .before .before .before .misfit .ensures) (c .before .before .i .given .1) (c .refusal .ensures)
 
 enum-told : tie.Need-enum-told
 enum-told c = search needs
 
 unreadable-requires : tie.Need-unreadable-requires
-unreadable-requires c κs = whole-is (c .args .s .now) (c .args .t .now) (c .check .ensures) (c .if1 .left)
+unreadable-requires c κs = whole-is (c .before .before .before .before .before .before .before .before .args .s .now) (c .before .before .before .before .before .before .before .before .args .t .now) (c .before .before .before .before .before .check .ensures) (c .before .before .before .if1 .left)
 
 enum-known-i-2 : tie.Need-enum-known-i-2
 enum-known-i-2 c = search needs
@@ -37,14 +37,14 @@ refusal-requires-2 c κs = search needs
 
 returns-3 : tie.Need-returns-3
 returns-3 c =
-    at-19 (c .args .s .now) (c .args .t .now) (c .check .ensures) (c .if1 .left) (c .misfit .ensures) (c .enum-told .given .1) (c .unreadable .ensures) (c .i2 .given .1) (c .refusal2 .ensures)
+    at-19 (c .before .before .before .before .before .before .before .before .before .before .before .before .before .args .s .now) (c .before .before .before .before .before .before .before .before .before .before .before .before .before .args .t .now) (c .before .before .before .before .before .before .before .before .before .before .check .ensures) (c .before .before .before .before .before .before .before .before .if1 .left) (c .before .before .before .before .before .before .before .misfit .ensures) (c .before .before .before .before .before .enum-told .given .1) (c .before .before .before .before .unreadable .ensures) (c .before .before .i2 .given .1) (c .refusal2 .ensures)
 
 enum-told-2 : tie.Need-enum-told-2
 enum-told-2 c = search needs
 
 returns-4 : tie.Need-returns-4
 returns-4 c =
-    at-end (c .args .s .now) (c .args .t .now) (c .check .ensures) (c .if1 .left) (c .misfit .ensures) (c .enum-told .given .1) (c .unreadable .ensures) (c .enum-told2 .given .1)
+    at-end (c .before .before .before .before .before .before .before .before .before .before .before .args .s .now) (c .before .before .before .before .before .before .before .before .before .before .before .args .t .now) (c .before .before .before .before .before .before .before .before .check .ensures) (c .before .before .before .before .before .before .if1 .left) (c .before .before .before .before .before .misfit .ensures) (c .before .before .before .enum-told .given .1) (c .before .before .unreadable .ensures) (c .enum-told2 .given .1)
 
 pub before-reading-spec : {M : Type 1} → statement M
 before-reading-spec =

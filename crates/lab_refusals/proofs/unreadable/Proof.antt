@@ -33,8 +33,8 @@ readable-requires c κs = search needs
 
 returns : tie.Need-returns Inv-loop μ-loop
 returns c =
-    tags-walked (c .parts-of .ensures)
-    (passed-but _ (c .loop .inv) (c .loop-test .taken) (tag-tested (c .parts-of .ensures) _ (c .cell-from .ensures) (c .readable .ensures) (not-true _ (c .if1 .taken))))
+    tags-walked (c .before .before .before .before .before .before .parts-of .ensures)
+    (passed-but _ (c .before .before .before .before .before .loop .inv) (c .before .before .before .before .loop-test .taken) (tag-tested (c .before .before .before .before .before .before .parts-of .ensures) _ (c .before .before .cell-from .ensures) (c .before .readable .ensures) (not-true _ (c .if1 .taken))))
 
 add-i : tie.Need-add-i Inv-loop μ-loop
 add-i c = search needs
@@ -44,10 +44,10 @@ loop-less c = search needs
 
 loop-again : tie.Need-loop-again Inv-loop μ-loop
 loop-again c =
-    passed-more _ (c .loop .inv) (c .loop-test .taken) (tag-tested (c .parts-of .ensures) _ (c .cell-from .ensures) (c .readable .ensures) (not-false _ (c .if1 .left)))
+    passed-more _ (c .before .before .before .before .before .loop .inv) (c .before .before .before .before .loop-test .taken) (tag-tested (c .before .before .before .before .before .before .parts-of .ensures) _ (c .before .before .cell-from .ensures) (c .before .readable .ensures) (not-false _ (c .if1 .left)))
 
 returns-2 : tie.Need-returns-2 Inv-loop μ-loop
-returns-2 c = tags-walked (c .parts-of .ensures) (passed-all _ (c .loop .inv) (c .loop-test .left))
+returns-2 c = tags-walked (c .before .before .parts-of .ensures) (passed-all _ (c .before .loop .inv) (c .loop-test .left))
 
 pub unreadable-spec : {M : Type 1} → statement M
 unreadable-spec =
