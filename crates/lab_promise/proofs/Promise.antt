@@ -1,16 +1,15 @@
 -- The lab reader gives the same for all six sheets: the statements of specs/Promise.antt.
-use Prim.Native.Nat.{ℕ, zero, suc, _≤_, _<_}
+use Prim.Native.Nat.{ℕ, zero, suc, _≤_}
 use native.Mathlib.Omega.{arith}
-use mathlib.Core.Path.{_≡_, refl, sym, ap, _∙_, subst}
+use mathlib.Core.Path.{_≡_, sym, ap, _∙_, subst}
 use mathlib.Core.List.{List, []}
 use Rattle.value.specs.Value.{ok}
-use Rattle.sql.specs.Answer.{Answer, done, refused}
-use Rattle.sql.specs.Schema.{Schema}
+use Rattle.sql.specs.Answer.{done}
 use Rattle.sql.specs.Expression.{Row}
 use Rattle.sql.specs.Plan.{Node, columns}
 use Rattle.sheet.specs.Parts.{length-ok}
 use Rattle.sheet.specs.Check.{schema, plan}
-use Rattle.sheet.specs.Operations.{Outcome, refuse, one-pass, all-five}
+use Rattle.sheet.specs.Operations.{Outcome, one-pass, all-five}
 use Rattle.sheet_laws.specs.Plan.{Bytes}
 use Rattle.rows.specs.Database.{Database}
 use Rattle.rows.specs.Reading.{read}
@@ -20,7 +19,6 @@ use Rattle.sound.specs.Operations.{sheet-of}
 use Rattle.theorems.specs.Theorems.{Success, Answered, is-success, is-refusal, Passes-in-turn}
 use Rattle.theorems.proofs.Proofs.{one-pass-answers, all-five-answers, same-rows-in-turn, same-rows-all-five}
 use Rattle.table_sheet.specs.TableSheet.{tables-of}
-use Rattle.reader.specs.Lab.{lab}
 use Rattle.reader.specs.Law.{Stands-for}
 use Rattle.reader.proofs.Law.{fits-after, same-bytes}
 use Rattle.lab_promise.specs.Promise.{Same-in-turn, Same-after-all-five}

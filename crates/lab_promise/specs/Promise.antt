@@ -6,7 +6,7 @@ use mathlib.Core.List.{List}
 use mathlib.Core.Path.{_≡_}
 use Rattle.sql.specs.Expression.{Row}
 use Rattle.sql.specs.Plan.{Node}
-use Rattle.sheet.specs.Operations.{Outcome, all-five}
+use Rattle.sheet.specs.Operations.{all-five}
 use Rattle.rows.specs.Database.{Database}
 use Rattle.same_rows.specs.SameRows.{Premises}
 use Rattle.sound.specs.Operations.{sheet-of}

@@ -1,5 +1,5 @@
 -- What is refused before reading is the lab reader's outcome, and where nothing is, the reading decides.
-use Prim.Native.Nat.{ℕ, _≤_}
+use Prim.Native.Nat.{ℕ}
 use native.Mathlib.Omega.{arith}
 use mathlib.Core.Path.{_≡_, refl, sym, ap, _∙_}
 use mathlib.Core.Bool.{Bool, true, false, cond}
@@ -21,7 +21,7 @@ use Rattle.table_sheet.specs.Misfit.{place, misfit}
 use Rattle.reader.specs.Reader.{run}
 use Rattle.reader.specs.Lab.{unreadable, in-tables, rows-read, given-out, lab}
 use Rattle.lab_refusals.specs.Refusals.{unless-found, before-reading}
-use Rattle.lab_refusals.specs.Law.{Refused-before, Goes-on, Read-after}
+use Rattle.lab_refusals.specs.Law.{Refused-before, Read-after}
 
 -- ---- a table sheet is refused by 18 alone
 

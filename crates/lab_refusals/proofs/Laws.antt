@@ -1,10 +1,10 @@
 -- What the code has read of the two sheets, set beside the definitions.
-use Prim.Native.Nat.{ℕ, _+_, _*_, _≤_, _<_}
+use Prim.Native.Nat.{ℕ, _+_, _*_}
 use native.Mathlib.Omega.{arith}
 use mathlib.Core.Path.{_≡_, refl, sym, ap, _∙_}
-use mathlib.Core.Bool.{Bool, true, false, not, cond}
+use mathlib.Core.Bool.{Bool, false, not, cond}
 use mathlib.Core.List.{List}
-use mathlib.Core.Option.{Option, none, some}
+use mathlib.Core.Option.{Option}
 use lib.Dec.{eqb}
 use borrow.Author.Tests.{eq-eqb, ne-eqb}
 use Rattle.sql.specs.Answer.{Answer, done, refused}
@@ -15,7 +15,7 @@ use Rattle.sheet.specs.Tags
 use Rattle.sheet.specs.Check.{Numbers, refusal, plan, checked, check}
 use Rattle.sheet_laws.specs.Accepted.{accepted}
 use Rattle.sound.specs.Refusals.{Refused-by, From-to, plan-refused}
-use Rattle.layout.specs.Layout.{Whole, Laid, IsCell, as-cell}
+use Rattle.layout.specs.Layout.{Whole, Laid, IsCell}
 use Rattle.layout.specs.declared.Cell.{Cell}
 use Rattle.layout.specs.declared.Parts.{Parts}
 use Rattle.layout.specs.declared.Found.{Found}

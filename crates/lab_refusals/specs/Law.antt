@@ -6,7 +6,6 @@ use Rattle.sql.specs.Answer.{done, _>>=_}
 use Rattle.sql.specs.Expression.{Row}
 use Rattle.sql.specs.Plan.{Node, columns}
 use Rattle.sheet.specs.Check.{schema, plan}
-use Rattle.sheet.specs.Operations.{Outcome}
 use Rattle.table_sheet.specs.TableSheet.{tables-of}
 use Rattle.reader.specs.Reader.{run}
 use Rattle.reader.specs.Lab.{in-tables, given-out, lab}

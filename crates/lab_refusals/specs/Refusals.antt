@@ -1,6 +1,6 @@
 -- What the lab reader refuses before it reads a row, in document 02's order: "the sheet's refusals first; 18 …; 19".
 use Prim.Native.Nat.{ℕ}
-use mathlib.Core.Bool.{true, false, cond}
+use mathlib.Core.Bool.{cond}
 use mathlib.Core.List.{List}
 use mathlib.Core.Option.{Option, none, some}
 use lib.Dec.{eqb}

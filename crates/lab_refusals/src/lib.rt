@@ -2,9 +2,8 @@
 use checker::Answer;
 use layout::Found;
 ghost use mathlib.Core.Path.{_≡_};
-ghost use mathlib.Core.Bool.{Bool, true, false};
-ghost use Prim.Native.Nat.{ℕ, _+_, _*_, _≤_, _<_};
-ghost use lib.ListN.{length};
+ghost use mathlib.Core.Bool.{false};
+ghost use Prim.Native.Nat.{_+_, _*_, _<_};
 ghost use Rattle.layout.specs.Layout.{Whole, found};
 ghost use Rattle.checker.specs.Checker.{numbers};
 ghost use Rattle.reader.specs.Lab.{readable, unreadable};

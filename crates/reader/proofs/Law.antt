@@ -9,7 +9,7 @@ use mathlib.Core.Logic.{_⊎_, inl, inr}
 use mathlib.Core.Option.{Option, none, some}
 use lib.Dec.{leb}
 use lib.ListN.{length}
-use Rattle.value.specs.Value.{Error, Result, ok, err}
+use Rattle.value.specs.Value.{Result, ok, err}
 use Rattle.sql.specs.Answer.{Answer, done, refused, _>>=_}
 use Rattle.sql.specs.Schema.{Schema}
 use Rattle.sql.specs.Expression.{Row}
@@ -17,14 +17,14 @@ use Rattle.sql.specs.Plan.{limit, offset, order, projection, remap, aggregate, 
 use Rattle.sheet.specs.Parts.{cell-count}
 use Rattle.sheet.specs.Cell.{Cell, cell}
 use Rattle.sheet.specs.Cells.{all-cells, expression-cells, key-cells, agg-cells, other-cells, over-cells, join-cells, cells}
-use Rattle.sheet.specs.Check.{text, schema, plan, unfound, cells-of}
+use Rattle.sheet.specs.Check.{text, schema, unfound, cells-of}
 use Rattle.sheet.specs.Operations.{Outcome, one-pass, all-five}
 use Rattle.sheet_laws.specs.Fits.{All}
 use Rattle.sheet_laws.specs.Layout.{none-failing}
-use Rattle.sheet_laws.specs.Plan.{Bytes, plan-cells}
+use Rattle.sheet_laws.specs.Plan.{plan-cells}
 use Rattle.rows.specs.Database.{Database}
 use Rattle.rows.specs.Reading.{read}
-use Rattle.sound.specs.Operations.{Sound-outcome, sheet-of, one-pass-sound, all-five-sound}
+use Rattle.sound.specs.Operations.{sheet-of, one-pass-sound, all-five-sound}
 use Rattle.table_sheet.specs.TableSheet.{tables-in, tables-of}
 use Rattle.table_sheet.proofs.Tables.{rows-wide}
 use Rattle.reader.specs.Reader.{run}

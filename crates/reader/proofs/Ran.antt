@@ -2,13 +2,13 @@
 use Prim.Native.Nat.{ℕ, _+_}
 use native.Mathlib.Omega.{arith}
 use mathlib.Core.Path.{_≡_, refl, sym, ap, _∙_}
-use mathlib.Core.Bool.{Bool, true, false, _&&_}
-use mathlib.Core.List.{List, [], _∷_, map}
-use mathlib.Core.Option.{Option, none, some}
+use mathlib.Core.Bool.{Bool, true, false}
+use mathlib.Core.List.{List, map}
+use mathlib.Core.Option.{none, some}
 use lib.ListN.{length, take, drop}
 use Rattle.value.specs.Value.{Result, ok, err}
 use Rattle.sql.specs.Answer.{Answer, done, refused, _>>=_}
-use Rattle.sql.specs.Expression.{Expression, Row, bind}
+use Rattle.sql.specs.Expression.{Row, bind}
 use Rattle.sql.specs.Plan.{Leaf, scan, lookup, nothing, values, limit, offset, order, projection, remap, aggregate, Over, filter, other, Join, Node, leaf, over, join, columns, values-columns, item-size, node-size}
 use Rattle.sql.specs.Optimizer.{keep, flat-map}
 use Rattle.rows.specs.Database.{Database}

@@ -6,12 +6,12 @@ use mathlib.Core.List.{List, [], _∷_, map}
 use mathlib.Core.Option.{none, some}
 use lib.IntN.{pos}
 use lib.ListN.{replicate}
-use Rattle.value.specs.Value.{Value, True, truth, datum, integer, string, null}
+use Rattle.value.specs.Value.{Value, datum, integer, string, null}
 use Rattle.value.specs.Arithmetic.{checked, add-integers, divide-integers}
 use Rattle.value.specs.Comparison.{compare-integers, compare-bytes}
 use Rattle.sql.specs.Answer.{Answer, done, refused}
 use Rattle.sql.specs.Schema.{Integer, Schema}
-use Rattle.sql.specs.Expression.{Marked, Expression, constant, column, unary, binary, Not, Equal, function, Add, Divide, Row}
+use Rattle.sql.specs.Expression.{Marked, Expression, column, binary, function, Divide, Row}
 use Rattle.sql.specs.Plan.{unlabelled, by-key, scan, lookup, nothing, values, limit, offset, projection, remap, filter, other, nested-loop, hash, Node, leaf, over, join}
 use Rattle.sql.specs.Samples.{number, equals, plus, A, B}
 use Rattle.reader.specs.Reader.{run}

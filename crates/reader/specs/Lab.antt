@@ -3,14 +3,13 @@
 -- Answers: "the sheet's refusals first; 18 …; 19, Order or Aggregate met, the lowest such cell; 20 …; last 15, row output too short; it is unchanged by all these."
 use Prim.Native.Nat.{ℕ, _*_}
 use mathlib.Core.Bool.{Bool, true, false, not, _||_}
-use mathlib.Core.List.{List, [], _∷_, _++_, map}
+use mathlib.Core.List.{List, [], _++_, map}
 use mathlib.Core.Option.{Option}
 use lib.Dec.{leb, eqb}
 use lib.ListN.{length, getD, drop}
-use Rattle.value.specs.Value.{Value}
 use Rattle.sql.specs.Answer.{Answer, done, refused, _>>=_}
 use Rattle.sql.specs.Expression.{constant, Row}
-use Rattle.sql.specs.Plan.{Node, columns}
+use Rattle.sql.specs.Plan.{columns}
 use Rattle.sheet.specs.Parts.{cell-count, first-failing}
 use Rattle.sheet.specs.Cell.{Cell, cell}
 use Rattle.sheet.specs.Cells.{all-cells, expression-cells, row-cells}

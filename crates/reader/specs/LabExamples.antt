@@ -4,7 +4,6 @@ use mathlib.Core.Path.{_≡_, refl}
 use mathlib.Core.List.{List, [], _∷_, _++_, map}
 use lib.ListN.{length, replicate}
 use Rattle.value.specs.Meaning.{integer-bits, integer-of-bits}
-use Rattle.value.specs.Comparison.{compare-integers}
 use Rattle.sheet.specs.Bytes.{half, word, bytes}
 use Rattle.sheet.specs.Parts.{length-ok, edition-ok, parts-ok, table-ok, column-ok, bad-record}
 use Rattle.sheet.specs.Cell.{Cell, cell, cell-ok, bad-cell}

@@ -2,7 +2,7 @@
 use Prim.Native.Nat.{ℕ, zero, suc, _+_, _-_, _≤_, _<_}
 use native.Mathlib.Omega.{arith}
 use native.Mathlib.Numerals.{add-one}
-use mathlib.Core.Path.{_≡_, refl, sym, ap, _∙_, subst}
+use mathlib.Core.Path.{_≡_, refl, sym, ap, _∙_}
 use mathlib.Core.Bool.{Bool, true, false, not, _&&_, _||_}
 use mathlib.Core.List.{List, [], _∷_, _++_, map}
 use mathlib.Core.Option.{Option, none, some}
@@ -11,7 +11,6 @@ use lib.ListN.{length, drop, getD, length-append, length-map, length-drop}
 use lib.Seq.{drop-cons, drop-length}
 use borrow.Author.Tests.{lt-ltb, le-ltb, eq-eqb, ne-eqb, eqb-true, eqb-false, ltb-true, ltb-false, not-true, not-false}
 use Rattle.value.specs.Value.{null}
-use Rattle.sql.specs.Answer.{Answer, done, refused}
 use Rattle.sql.specs.Expression.{Marked, Expression, constant, Row}
 use Rattle.sql.specs.Plan.{values, leaf}
 use Rattle.sheet.specs.Tree.{Tree, expression-tree, row-tree, node-tree, Stack, an-expression, a-row, pop}

@@ -2,26 +2,26 @@
 use Prim.Native.Nat.{ℕ, zero, suc, _+_}
 use native.Mathlib.Omega.{arith}
 use mathlib.Core.Path.{_≡_, refl, sym, ap, _∙_, subst}
-use mathlib.Core.Bool.{Bool, true, false, _&&_, cond}
+use mathlib.Core.Bool.{Bool, true, false, cond}
 use mathlib.Core.List.{List, [], _∷_, map}
 use mathlib.Core.Option.{Option, none, some}
 use lib.Dec.{eqb}
 use lib.ListN.{length, getD, length-map}
-use borrow.Author.Tests.{eqb-true, eqb-false, eq-eqb, ne-eqb}
-use Rattle.sql.specs.Answer.{Answer, done, refused}
+use borrow.Author.Tests.{eqb-true, eqb-false, eq-eqb}
+use Rattle.sql.specs.Answer.{done}
 use Rattle.sql.specs.Schema.{Table, Schema, table-of}
 use Rattle.sql.specs.Expression.{Marked, Expression, constant, Row}
 use Rattle.sql.specs.Plan.{values, leaf}
 use Rattle.sheet.specs.Parts.{tables-at, cell-count}
 use Rattle.sheet.specs.Cell.{Cell, cell-ok}
-use Rattle.sheet.specs.Content.{Content, constant-cell, row-cell, values-cell, content-of}
+use Rattle.sheet.specs.Content.{Content, content-of}
 use Rattle.sheet.specs.Tags
 use Rattle.sheet.specs.Tree.{expression-tree, row-tree, node-tree, Stack, bind, an-expression, a-row, pop, reduce, after, Read, lacking, stack}
 use Rattle.sheet.specs.Check.{test, text, cells-of}
 use Rattle.sheet_laws.specs.Fits.{All}
 use Rattle.layout.proofs.Laws.{and-left, and-right}
 use Rattle.rows.specs.Database.{Wide, no-rows, and-row}
-use Rattle.table_sheet.specs.TableSheet.{frame-fits, in-table, width-fits, fits, unfinished, taken, read, figure, figures, a-table, nothing-else, all-tables, widths-of, tables-in}
+use Rattle.table_sheet.specs.TableSheet.{frame-fits, in-table, fits, unfinished, read, figure, figures, a-table, nothing-else, all-tables, widths-of, tables-in}
 use Rattle.table_sheet.specs.Tables.{One-each, Rows-wide}
 use Rattle.table_sheet.proofs.Walk.{IsFigure, constant-tag, row-content, values-content, figure-content}
 

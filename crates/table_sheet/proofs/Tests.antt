@@ -2,16 +2,16 @@
 use Prim.Native.Nat.{ℕ, _+_, _-_, _≤_, _<_}
 use native.Mathlib.Omega.{arith}
 use mathlib.Core.Path.{_≡_, refl, sym, ap, _∙_}
-use mathlib.Core.Bool.{Bool, true, false, not, _&&_, _||_, cond}
-use mathlib.Core.List.{List, [], _∷_}
+use mathlib.Core.Bool.{Bool, true, false, not, _&&_, _||_}
+use mathlib.Core.List.{List}
 use lib.Dec.{leb, ltb, eqb}
-use lib.ListN.{length, take}
-use borrow.Author.Tests.{lt-ltb, le-ltb, le-leb, lt-leb, eq-eqb, ne-eqb, eqb-true, not-true, not-false}
+use lib.ListN.{length}
+use borrow.Author.Tests.{lt-ltb, le-ltb, le-leb, lt-leb, eq-eqb, ne-eqb, not-true, not-false}
 use Rattle.sheet.specs.Cell.{Cell, cell-ok}
 use Rattle.sheet.specs.Parts.{tables-at, columns-at, cells-at, records-ok}
 use Rattle.sheet.specs.Tags
 use Rattle.layout.proofs.Laws.{fails, goes-on}
-use Rattle.table_sheet.specs.TableSheet.{parts-fit, in-table, width-fits, fits}
+use Rattle.table_sheet.specs.TableSheet.{parts-fit, in-table, fits}
 use Rattle.table_sheet.specs.declared.Counters.{Counters}
 use Rattle.table_sheet.specs.Counters.{has-children, leaves, counted, complete}
 

@@ -1,15 +1,15 @@
 -- What the code has read of the two sheets, set beside the walk.
-use Prim.Native.Nat.{ℕ, suc, _+_, _-_, _*_, _/_, _≤_, _<_}
+use Prim.Native.Nat.{ℕ, _+_, _-_, _*_, _/_, _≤_, _<_}
 use native.Mathlib.Omega.{arith}
 use mathlib.Core.Path.{_≡_, refl, sym, ap, _∙_, subst}
-use mathlib.Core.Bool.{Bool, true, false, not, _&&_}
+use mathlib.Core.Bool.{Bool, true, false, not}
 use mathlib.Core.List.{List, []}
 use mathlib.Core.Option.{Option, none, some}
 use lib.Dec.{leb, eqb}
 use lib.ListN.{length, take}
 use borrow.Author.Tests.{leb-true, eqb-true, eq-eqb, ne-eqb, not-true, not-false}
 use Rattle.sql.specs.Answer.{Answer}
-use Rattle.sheet.specs.Parts.{tables-at, columns-at, cells-at, edition, cell-count, table-count, columns-of, length-ok, records-ok}
+use Rattle.sheet.specs.Parts.{tables-at, columns-at, cells-at, edition, cell-count, table-count, columns-of, length-ok}
 use Rattle.sheet.specs.Cell as Sheet
 use Rattle.sql.specs.Expression.{Row}
 use Rattle.sheet.specs.Check.{test, text, schema, cells-of}

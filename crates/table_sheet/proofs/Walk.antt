@@ -1,5 +1,5 @@
 -- A table sheet's cells read one after the other, by the counters.
-use Prim.Native.Nat.{ℕ, zero, suc, _+_, _-_, _*_, _/_, _≤_, _<_}
+use Prim.Native.Nat.{ℕ, zero, suc, _+_, _-_, _≤_, _<_}
 use native.Mathlib.Omega.{arith}
 use native.Mathlib.Numerals.{add-one}
 use mathlib.Core.Path.{_≡_, refl, sym, ap, _∙_, subst}
@@ -9,12 +9,12 @@ use mathlib.Core.Option.{Option, none, some}
 use lib.Dec.{leb, eqb}
 use lib.ListN.{length, drop, getD, length-map, length-drop}
 use lib.Seq.{drop-cons}
-use borrow.Author.Tests.{eq-eqb, ne-eqb, eqb-true, eqb-false, leb-true, leb-false, le-leb, lt-leb, not-true, not-false}
+use borrow.Author.Tests.{ne-eqb, eqb-true, eqb-false, leb-true, leb-false}
 use Rattle.sql.specs.Expression.{Marked, Expression, constant}
 use Rattle.sql.specs.Plan.{up-to, values, leaf}
 use Rattle.sql.specs.Schema.{Table}
 use Rattle.sheet.specs.Parts.{tables-at, cell-count, table-count, first-column, columns-of}
-use Rattle.sheet.specs.Cell.{Cell, cell, cell-from, cell-ok}
+use Rattle.sheet.specs.Cell.{Cell, cell}
 use Rattle.value.specs.Value.{Value}
 use Rattle.sheet.specs.Content.{Content, constant-cell, row-cell, values-cell, Reader, readers, content-of}
 use Rattle.sheet.specs.Tags
@@ -23,12 +23,12 @@ use Rattle.sheet.specs.Check.{text, schema, cells-of}
 use Rattle.sheet.specs.Check as Check
 use Rattle.layout.proofs.Laws.{and-left, and-right}
 use Rattle.sheet_laws.specs.Layout.{length-up-to}
-use Rattle.table_sheet.specs.TableSheet.{in-table, fits, cell-fits, unfinished, taken, read, all-tables, widths-of}
+use Rattle.table_sheet.specs.TableSheet.{in-table, fits, unfinished, taken, read, all-tables, widths-of}
 use Rattle.table_sheet.specs.declared.Counters.{Counters}
 use Rattle.table_sheet.specs.Counters.{has-children, leaves, counted, complete}
 use Rattle.table_sheet.specs.Misfit.{place, cells-misfit}
 use Rattle.table_sheet.proofs.Tests.{row-takes, constant-takes, empty-takes, figure-between, rows-taken, after-values, after-constant, after-more, after-all}
-use Rattle.table_sheet.proofs.Stack.{Popped, pop-enough, pop-short, tables-alone, place-if, Stands, stands-none, figure-on, row-on-all, row-on-more, table-on, complete-is}
+use Rattle.table_sheet.proofs.Stack.{pop-enough, pop-short, tables-alone, place-if, Stands, stands-none, figure-on, row-on-all, row-on-more, table-on, complete-is}
 
 -- ---- one cell
 

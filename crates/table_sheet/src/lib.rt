@@ -1,10 +1,10 @@
 // Whether a table sheet fits a plan sheet's tables, and if not, where: refusal 18 of document 02's W-206.
 use layout::Found;
 ghost use mathlib.Core.Path.{_≡_};
-ghost use mathlib.Core.Bool.{Bool, true, false, _&&_};
-ghost use Prim.Native.Nat.{ℕ, _+_, _-_, _*_, _≤_, _<_};
+ghost use mathlib.Core.Bool.{true, false};
+ghost use Prim.Native.Nat.{_+_, _-_, _*_, _≤_, _<_};
 ghost use lib.ListN.{length, take};
-ghost use Rattle.sheet.specs.Parts.{tables-at, length-ok};
+ghost use Rattle.sheet.specs.Parts.{length-ok};
 ghost use Rattle.layout.specs.Layout.{Whole, found, as-cell};
 ghost use Rattle.table_sheet.specs.TableSheet.{begins, parts-fit, in-table, fits};
 ghost use Rattle.table_sheet.specs.Counters.{has-children, leaves, counted, complete};

@@ -1,6 +1,5 @@
 -- `lab_refusals::before_reading` meets its contract: at each `return` the tests that led there say what the definition answers.
 use Rattle.lab_refusals.proofs.Laws.{at-check, whole-is, at-18, at-19, at-end}
-use mathlib.Core.Path.{_≡_, refl, sym, ap, _∙_}
 use borrow.Author.Needs.{needs}
 use Rattle.lab_refusals.proofs.before_reading.Statement.{statement}
 use Rattle.lab_refusals.proofs.before_reading.Tie as tie

@@ -1,8 +1,5 @@
 -- `table_sheet::cells_misfit` meets its contract. The loop reads cell after cell, and the counters tell the stack that they leave.
-use Prim.Native.Nat.{ℕ, _+_, _-_, _*_, _/_, _≤_, _<_}
-use mathlib.Core.Path.{_≡_, refl, sym, ap, _∙_}
-use mathlib.Core.Bool.{true, false}
-use lib.ListN.{length}
+use Prim.Native.Nat.{_-_}
 use Rattle.table_sheet.proofs.Walk.{Going, going-start}
 use Rattle.table_sheet.proofs.Turn.{bare, numbers, table-number, none-here, misfit-here, lacking-here, on-here, all-fit, not-all}
 use Rattle.layout.proofs.Laws.{length-known}

@@ -1,6 +1,4 @@
 use Rattle.table_sheet.proofs.Tests.{other-tables, more-rows, more-figures, none-left}
-use borrow.Author.Needs.{needs}
-use native.Mathlib.Omega.{arith}
 use Rattle.table_sheet.proofs.complete.Statement.{statement}
 use Rattle.table_sheet.proofs.complete.Tie as tie
 

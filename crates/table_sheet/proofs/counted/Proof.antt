@@ -1,6 +1,5 @@
 use Rattle.table_sheet.proofs.Tests.{after-values, after-constant, after-more, after-all}
 use borrow.Author.Needs.{needs}
-use native.Mathlib.Omega.{arith}
 use Rattle.table_sheet.proofs.counted.Statement.{statement}
 use Rattle.table_sheet.proofs.counted.Tie as tie
 

@@ -1,6 +1,5 @@
 use Rattle.table_sheet.proofs.Tests.{other-sort, other-layout, no-row, of-width}
 use borrow.Author.Needs.{needs}
-use native.Mathlib.Omega.{arith}
 use Rattle.table_sheet.proofs.fits.Statement.{statement}
 use Rattle.table_sheet.proofs.fits.Tie as tie
 

@@ -1,6 +1,4 @@
 use Rattle.table_sheet.proofs.Tests.{row-takes, constant-takes, empty-takes, figure-between, rows-taken}
-use borrow.Author.Needs.{needs}
-use native.Mathlib.Omega.{arith}
 use Rattle.table_sheet.proofs.has_children.Statement.{statement}
 use Rattle.table_sheet.proofs.has_children.Tie as tie
 

@@ -1,6 +1,4 @@
 use Rattle.table_sheet.proofs.Tests.{of-row, of-values, of-none, of-constant}
-use borrow.Author.Needs.{needs}
-use native.Mathlib.Omega.{arith}
 use Rattle.table_sheet.proofs.in_table.Statement.{statement}
 use Rattle.table_sheet.proofs.in_table.Tie as tie
 

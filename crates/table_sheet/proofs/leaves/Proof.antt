@@ -1,6 +1,5 @@
-use Rattle.table_sheet.proofs.Tests.{left-before, figures-left, rows-left}
+use Rattle.table_sheet.proofs.Tests.{figures-left, rows-left}
 use borrow.Author.Needs.{needs}
-use native.Mathlib.Omega.{arith}
 use Rattle.table_sheet.proofs.leaves.Statement.{statement}
 use Rattle.table_sheet.proofs.leaves.Tie as tie
 

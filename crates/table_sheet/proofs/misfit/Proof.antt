@@ -1,7 +1,7 @@
 -- `table_sheet::misfit` meets its contract: at each `return` the tests that led there say what the definition answers.
-use Prim.Native.Nat.{ℕ, _+_, _-_, _≤_, _<_}
-use mathlib.Core.Path.{_≡_, refl, sym, ap, _∙_}
-use Rattle.table_sheet.proofs.Turn.{bare, text-start, plan-text, own-text, other-size, other-edition, other-parts, text-wanting, other-text, cells-decide}
+use Prim.Native.Nat.{_-_}
+use mathlib.Core.Path.{sym, _∙_}
+use Rattle.table_sheet.proofs.Turn.{text-start, plan-text, own-text, other-size, other-edition, other-parts, text-wanting, other-text, cells-decide}
 use Rattle.layout.proofs.Laws.{length-known}
 use borrow.Author.Needs.{needs}
 use borrow.Author.Tests.{not-true, not-false}
