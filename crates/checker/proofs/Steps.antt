@@ -17,10 +17,10 @@ use Rattle.layout.specs.declared.Found.the-variants.{At, Nothing}
 use Rattle.layout.specs.Layout.{found}
 use Rattle.structure.specs.Structure.{plan-of, place}
 use Rattle.structure.proofs.Plan.{refused-at, planned, Planned}
-use Rattle.scope.specs.declared.Scope.{Scope}
-use Rattle.scope.specs.declared.Scope.the-variants.{Outside, Within}
-use Rattle.scope.specs.Scope.{scope-of, unless-outside, OnePlan, Judges}
-use Rattle.targets.specs.Targets.{Repeats}
+use Rattle.checker.specs.declared.scope.Scope.{Scope}
+use Rattle.checker.specs.declared.scope.Scope.the-variants.{Outside, Within}
+use Rattle.checker.specs.scope.Scope.{scope-of, unless-outside, OnePlan, Judges}
+use Rattle.checker.specs.targets.Targets.{Repeats}
 use Rattle.checker.specs.Checker.{scoped, Targets, numbers}
 
 module _ (s : List ℕ) where

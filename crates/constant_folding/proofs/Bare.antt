@@ -1,4 +1,4 @@
--- Folding a chain of bare nodes (crate chain): they stay as they are, over what the node below them folds to.
+-- Folding a chain of bare nodes (module chain): they stay as they are, over what the node below them folds to.
 use Prim.Native.Nat.{ℕ, _+_, _-_, _*_, _≤_, _<_}
 use native.Mathlib.Omega.{arith}
 use mathlib.Core.Path.{_≡_, refl, sym, ap, subst}
@@ -12,19 +12,19 @@ use Rattle.sql.specs.Optimizer.{fold-over, ConstantFolding}
 use Rattle.sheet.specs.Content.{item-cell, key-cell}
 use Rattle.cells.specs.Cells.{cell-words}
 use Rattle.cells.specs.Room.{Short}
-use Rattle.words.specs.Words.{cell, all-words, expression-words, item-words, key-words, over-own, node-words}
-use Rattle.words.specs.Place.{NodeHere, NodeAt}
-use Rattle.words.proofs.Nodes.{node-in}
-use Rattle.words.proofs.Sizes.{sized-long}
-use Rattle.chain.specs.Chain.{chain, Bare, ChainAt, Follows}
-use Rattle.chain.proofs.Chains.{Each, chain-left, chain-long, chain-end}
-use Rattle.chain.proofs.Bare.{bare-chain}
-use Rattle.fold_operator.specs.Left.{Appended}
-use Rattle.fold_operator.specs.declared.Folded.{Folded}
-use Rattle.fold_operator.specs.declared.Folded.the-variants as Folded
-use Rattle.fold_operator.proofs.Parts.{appended, appended-part, wrote}
-use Rattle.fold_parts.specs.Leaves.{Leaves}
-use Rattle.fold_parts.proofs.Leaves.{answer-as, said-as, up-to-as, refused-on, done-on, made-into}
+use Rattle.cells.specs.words.Words.{cell, all-words, expression-words, item-words, key-words, over-own, node-words}
+use Rattle.cells.specs.words.Place.{NodeHere, NodeAt}
+use Rattle.cells.proofs.words.Nodes.{node-in}
+use Rattle.cells.proofs.words.Sizes.{sized-long}
+use Rattle.edits.specs.chain.Chain.{chain, Bare, ChainAt, Follows}
+use Rattle.edits.proofs.chain.Chains.{Each, chain-left, chain-long, chain-end}
+use Rattle.edits.proofs.chain.Bare.{bare-chain}
+use Rattle.folding.specs.fold_operator.Left.{Appended}
+use Rattle.folding.specs.declared.fold_operator.Rewritten.{Rewritten}
+use Rattle.folding.specs.declared.fold_operator.Rewritten.the-variants as Rewritten
+use Rattle.folding.proofs.fold_operator.Parts.{appended, appended-part, wrote}
+use Rattle.constant_folding.specs.fold_parts.Leaves.{Leaves}
+use Rattle.constant_folding.proofs.fold_parts.Leaves.{answer-as, said-as, up-to-as, refused-on, done-on, made-into}
 use Rattle.constant_folding.specs.Nodes.{Node-fits, words-of, fold-source, SourceHere, SourceAt, FoldsSource}
 use Rattle.constant_folding.proofs.Nodes.{by-node, node-left}
 
@@ -55,7 +55,7 @@ below-fits text (o ∷ os) p f = below-fits text os (over (o .1) (other (o .0)) 
 -- ---- the node below
 
 -- what the chain leaves
-left-chain : {y : List ℕ} {at : ℕ} {r : Folded} {y₁ : List ℕ} (first : ℕ) (os : List (Marked Other)) → Each (λ o. over-own (other o) ≡ []) os → (p : Node)
+left-chain : {y : List ℕ} {at : ℕ} {r : Rewritten} {y₁ : List ℕ} (first : ℕ) (os : List (Marked Other)) → Each (λ o. over-own (other o) ≡ []) os → (p : Node)
     → Leaves node-words y at (ConstantFolding first p >>= λ q. done (chain os q)) r y₁ → Leaves words-of y at (fold-source first (some (chain os p))) r y₁
 left-chain first os e p l = made-into (ConstantFolding first (chain os p)) some (λ q. refl) (answer-as (sym (folding-chain first os e p)) l)
 
@@ -88,20 +88,20 @@ module _ {text x : List ℕ} {lo hi end : ℕ} (b : Bare x lo hi end) (h : lo < 
   chain-at t = by-below (λ o. ChainAt x end hi) (λ os e p v w f. record { low = lo; os = os; p = p; whole = v; below = w }) (t .source) (t .here)
 
   -- what the node below leaves
-  left-below : {y : List ℕ} {at : ℕ} {r : Folded} {y₁ : List ℕ} → FoldsSource text x lo end y at r y₁ → (first : ℕ) → lo ≡ cell-words * first
+  left-below : {y : List ℕ} {at : ℕ} {r : Rewritten} {y₁ : List ℕ} → FoldsSource text x lo end y at r y₁ → (first : ℕ) → lo ≡ cell-words * first
       → (p : Node) → NodeHere x lo end p → Node-fits text p → Leaves node-words y at (ConstantFolding first p) r y₁
   left-below g first k p w f = node-left first p (g .leaves first (some p) k (below-here p w f))
 
   -- what it folds to stands where it was written
-  pub folded-at : SourceAt text x lo hi → {y : List ℕ} {at u : ℕ} {y₁ : List ℕ} → at ≤ length y → FoldsSource text x lo end y at (Folded.Done u) y₁ → NodeAt y₁ at u
+  pub folded-at : SourceAt text x lo hi → {y : List ℕ} {at u : ℕ} {y₁ : List ℕ} → at ≤ length y → FoldsSource text x lo end y at (Rewritten.Done u) y₁ → NodeAt y₁ at u
   folded-at t {y} {at} {u} {y₁} i g =
       by-below (λ o. NodeAt y₁ at u) (λ os e p v w f. go (ConstantFolding (t .first) p) (left-below g (t .first) (t .numbered) p w f)) (t .source) (t .here)
     where
-      go : (a : Answer Node) → Leaves node-words y at a (Folded.Done u) y₁ → NodeAt y₁ at u
+      go : (a : Answer Node) → Leaves node-words y at a (Rewritten.Done u) y₁ → NodeAt y₁ at u
       go (done q) l = record { p = q; here = record { part = appended-part (l .left) i } }
       go (refused number place) l = absurd (l .left)
 
-  pub bare-refused : {y : List ℕ} {at : ℕ} {r : Folded} {j i : ℕ} {y₁ : List ℕ} → r ≡ Folded.Refused j i → FoldsSource text x lo end y at r y₁ → FoldsSource text x lo hi y at r y₁
+  pub bare-refused : {y : List ℕ} {at : ℕ} {r : Rewritten} {j i : ℕ} {y₁ : List ℕ} → r ≡ Rewritten.Refused j i → FoldsSource text x lo end y at r y₁ → FoldsSource text x lo hi y at r y₁
   bare-refused {y} {at} {r} {y₁ = y₁} q g = record {
     leaves = λ first source k u. by-below (λ o. Leaves words-of y at (fold-source first o) r y₁)
         (λ os e p v w f. left-chain first os e p
@@ -110,7 +110,7 @@ module _ {text x : List ℕ} {lo hi end : ℕ} (b : Bare x lo hi end) (h : lo < 
   }
 
   module _ {y : List ℕ} {at u : ℕ} {y₁ : List ℕ} (room : (at + (hi - lo) ≤ length y) × Short y) (long : length y₁ ≡ length y)
-      (g : FoldsSource text x lo end y at (Folded.Done u) y₁) {v : ℕ} {y₂ : List ℕ} (c : Follows x end hi y₁ at u v y₂) where
+      (g : FoldsSource text x lo end y at (Rewritten.Done u) y₁) {v : ℕ} {y₂ : List ℕ} (c : Follows x end hi y₁ at u v y₂) where
     -- the chain over what the node below folds to
     followed : (os : List (Marked Other)) (p q : Node) → NodeHere x lo hi (chain os p) → NodeHere x lo end p → Appended y at (node-words q) u y₁
         → Appended y at (node-words (chain os q)) v y₂ × (v ≤ at + (hi - lo))
@@ -122,13 +122,13 @@ module _ {text x : List ℕ} {lo hi end : ℕ} (b : Bare x lo hi end) (h : lo < 
         let d = appended (c .over-node lo os p q v w y long (wrote a (omega (arith, room .0, a .ends)))) (room .1) (omega (arith, room .0, a .ends)) in
         (d, omega (arith, d .ends, a .ends))
 
-    ended : (os : List (Marked Other)) (p : Node) → NodeHere x lo hi (chain os p) → NodeHere x lo end p → (a : Answer Node) → Leaves node-words y at a (Folded.Done u) y₁ → v ≤ at + (hi - lo)
+    ended : (os : List (Marked Other)) (p : Node) → NodeHere x lo hi (chain os p) → NodeHere x lo end p → (a : Answer Node) → Leaves node-words y at a (Rewritten.Done u) y₁ → v ≤ at + (hi - lo)
     ended os p v w (done q) l = followed os p q v w (l .left) .1
     ended os p v w (refused number place) l = absurd (l .left)
 
-    pub bare-done : SourceAt text x lo hi → FoldsSource text x lo hi y at (Folded.Done v) y₂
+    pub bare-done : SourceAt text x lo hi → FoldsSource text x lo hi y at (Rewritten.Done v) y₂
     bare-done t = record {
-      leaves = λ first source k u. by-below (λ o. Leaves words-of y at (fold-source first o) (Folded.Done v) y₂)
+      leaves = λ first source k u. by-below (λ o. Leaves words-of y at (fold-source first o) (Rewritten.Done v) y₂)
           (λ os e p v w f. left-chain first os e p
           (done-on (ConstantFolding first p) (λ q. done (chain os q)) (left-below g first k p w f) (λ q _ a. record { left = followed os p q v w a .0 }))) source u;
       within = record {

@@ -12,8 +12,8 @@ use Rattle.sql.specs.Optimizer.{fold-expression, fold-each, fold-optional, fold
 use Rattle.sheet.specs.Content.{Content, scan-cell, values-cell, order-cell, projection-cell, nested-loop-join-cell}
 use Rattle.sheet.specs.Cells.{present}
 use Rattle.sound.specs.Answers.{Answered, answered-then}
-use Rattle.words.specs.Words.{leaf-cell, over-cell, join-cell}
-use Rattle.fold_parts.proofs.Each.{each-count}
+use Rattle.cells.specs.words.Words.{leaf-cell, over-cell, join-cell}
+use Rattle.constant_folding.proofs.fold_parts.Each.{each-count}
 
 -- whatever is done
 any : {A : Type 0} (a : Answer A) → Answered (λ y. Unit {0}) a

@@ -17,19 +17,19 @@ use Rattle.cells.specs.declared.Cell.{Cell}
 use Rattle.cells.specs.Cells.{cell-words, sized, cell-at, start-at, Part, Sized}
 use Rattle.cells.specs.Room.{Short, Wrote, Seals, Copies}
 use Rattle.cells.proofs.Laws.{part-left, part-right, part-in}
-use Rattle.words.specs.Words.{cell, all-words, expression-words, row-words, node-words, leaf-own, over-own, join-own, leaf-cell, over-cell, join-cell, source-words, own-words, node-cell}
-use Rattle.words.specs.Place.{NodeHere, NodeAt}
-use Rattle.words.proofs.Nodes.{node-shape, node-cell-is, node-in, node-size-at, node-start, node-long, source-part}
-use Rattle.words.proofs.Sizes.{sized-long, expression-long, words-long}
+use Rattle.cells.specs.words.Words.{cell, all-words, expression-words, row-words, node-words, leaf-own, over-own, join-own, leaf-cell, over-cell, join-cell, source-words, own-words, node-cell}
+use Rattle.cells.specs.words.Place.{NodeHere, NodeAt}
+use Rattle.cells.proofs.words.Nodes.{node-shape, node-cell-is, node-in, node-size-at, node-start, node-long, source-part}
+use Rattle.cells.proofs.words.Sizes.{sized-long, expression-long, words-long}
 use Rattle.nodes.specs.Own.{OwnStart}
-use Rattle.fold_operator.specs.Left.{Appended}
-use Rattle.fold_operator.specs.declared.Folded.{Folded}
-use Rattle.fold_operator.specs.declared.Folded.the-variants as Folded
-use Rattle.fold_operator.proofs.Parts.{appended, wrote}
-use Rattle.fold_parts.specs.Leaves.{Leaves, Up-to}
-use Rattle.fold_parts.specs.Parts.{Part-fits}
-use Rattle.fold_parts.specs.Own.{own-parts, OwnHere, OwnAt, Own-left, FoldsOwn}
-use Rattle.fold_parts.proofs.Leaves.{appended-none, appended-then, appended-as, answer-as, said-as, up-to-as, refused-on, done-on, made-into, made-of}
+use Rattle.folding.specs.fold_operator.Left.{Appended}
+use Rattle.folding.specs.declared.fold_operator.Rewritten.{Rewritten}
+use Rattle.folding.specs.declared.fold_operator.Rewritten.the-variants as Rewritten
+use Rattle.folding.proofs.fold_operator.Parts.{appended, wrote}
+use Rattle.constant_folding.specs.fold_parts.Leaves.{Leaves, Up-to}
+use Rattle.constant_folding.specs.fold_parts.Parts.{Part-fits}
+use Rattle.constant_folding.specs.fold_parts.Own.{own-parts, OwnHere, OwnAt, Own-left, FoldsOwn}
+use Rattle.constant_folding.proofs.fold_parts.Leaves.{appended-none, appended-then, appended-as, answer-as, said-as, up-to-as, refused-on, done-on, made-into, made-of}
 use Rattle.constant_folding.specs.Nodes.{Node-fits, earlier-source, last-source, words-of, fold-source, SourcesAt, LastStart, SourceHere, SourceAt, FoldsSource, first-refusal, fold-own, Refuses}
 use Rattle.constant_folding.proofs.Cells.{leaf-cell-kept, over-cell-kept, join-cell-kept}
 
@@ -177,74 +177,74 @@ pub record Some-appended (y : List ℕ) (at n : ℕ) (y′ : List ℕ) : Type 0 
   pub words : List ℕ
   pub is : Appended y at words n y′
 
-some-left : {A : Type 0} {f : A → List ℕ} {y : List ℕ} {at n : ℕ} {y′ : List ℕ} (a : Answer A) → Leaves f y at a (Folded.Done n) y′ → Some-appended y at n y′
+some-left : {A : Type 0} {f : A → List ℕ} {y : List ℕ} {at n : ℕ} {y′ : List ℕ} (a : Answer A) → Leaves f y at a (Rewritten.Done n) y′ → Some-appended y at n y′
 some-left {f = f} (done y) h = record { words = f y; is = h .left }
 some-left (refused i p) h = absurd (h .left)
 
 -- of the own parts, whatever kind of node it is
-own-folded : {y : List ℕ} {at : ℕ} {r : Folded} {y′ : List ℕ} (first : ℕ) (p : Node) → Own-left y at first p r y′ → Leaves (λ w. w) y at (fold-own first p) r y′
+own-folded : {y : List ℕ} {at : ℕ} {r : Rewritten} {y′ : List ℕ} (first : ℕ) (p : Node) → Own-left y at first p r y′ → Leaves (λ w. w) y at (fold-own first p) r y′
 own-folded first (leaf og l) h = made-into (fold-leaf first l) leaf-own (λ m. refl) h
 own-folded first (over og o n) h = made-into (fold-over first o) over-own (λ p. refl) h
 own-folded first (join og outer j l r) h = made-into (fold-join first j) join-own (λ k. refl) h
 
-pub own-bound : {text x : List ℕ} {lo hi : ℕ} {y : List ℕ} {at m : ℕ} {q : Folded} {y′ : List ℕ} {n : ℕ} → q ≡ Folded.Done n → FoldsOwn text x lo hi y at m q y′ → n ≤ at + (hi - cell-words - m)
+pub own-bound : {text x : List ℕ} {lo hi : ℕ} {y : List ℕ} {at m : ℕ} {q : Rewritten} {y′ : List ℕ} {n : ℕ} → q ≡ Rewritten.Done n → FoldsOwn text x lo hi y at m q y′ → n ≤ at + (hi - cell-words - m)
 own-bound e g = up-to-as e (g .within) .ends
 
-pub source-bound : {text x : List ℕ} {lo hi : ℕ} {y : List ℕ} {at : ℕ} {q : Folded} {y′ : List ℕ} {n : ℕ} → q ≡ Folded.Done n → FoldsSource text x lo hi y at q y′ → n ≤ at + (hi - lo)
+pub source-bound : {text x : List ℕ} {lo hi : ℕ} {y : List ℕ} {at : ℕ} {q : Rewritten} {y′ : List ℕ} {n : ℕ} → q ≡ Rewritten.Done n → FoldsSource text x lo hi y at q y′ → n ≤ at + (hi - lo)
 source-bound e g = up-to-as e (g .within) .ends
 
-own-appended : {text x : List ℕ} {lo hi : ℕ} {y : List ℕ} {at m : ℕ} {q : Folded} {y′ : List ℕ} {n : ℕ} → OwnAt text x lo hi m → q ≡ Folded.Done n
+own-appended : {text x : List ℕ} {lo hi : ℕ} {y : List ℕ} {at m : ℕ} {q : Rewritten} {y′ : List ℕ} {n : ℕ} → OwnAt text x lo hi m → q ≡ Rewritten.Done n
     → FoldsOwn text x lo hi y at m q y′ → Some-appended y at n y′
 own-appended t e g = some-left (fold-own (t .first) (t .p)) (said-as e (own-folded (t .first) (t .p) (g .leaves (t .first) (t .p) (t .numbered) (t .here))))
 
-source-appended : {text x : List ℕ} {lo hi : ℕ} {y : List ℕ} {at : ℕ} {q : Folded} {y′ : List ℕ} {n : ℕ} → SourceAt text x lo hi → q ≡ Folded.Done n
+source-appended : {text x : List ℕ} {lo hi : ℕ} {y : List ℕ} {at : ℕ} {q : Rewritten} {y′ : List ℕ} {n : ℕ} → SourceAt text x lo hi → q ≡ Rewritten.Done n
     → FoldsSource text x lo hi y at q y′ → Some-appended y at n y′
 source-appended t e g = some-left (fold-source (t .first) (t .source)) (said-as e (g .leaves (t .first) (t .source) (t .numbered) (t .here)))
 
 -- ---- refuse
 
-module _ {text x : List ℕ} {lo hi m number place : ℕ} {y : List ℕ} {at : ℕ} {q : Folded} {y₁ : List ℕ} (g : FoldsOwn text x lo hi y at m q y₁) where
-  pub refuses-then : {n : ℕ} → q ≡ Folded.Done n → Refuses text x lo hi m number place (Folded.Refused number place)
+module _ {text x : List ℕ} {lo hi m number place : ℕ} {y : List ℕ} {at : ℕ} {q : Rewritten} {y₁ : List ℕ} (g : FoldsOwn text x lo hi y at m q y₁) where
+  pub refuses-then : {n : ℕ} → q ≡ Rewritten.Done n → Refuses text x lo hi m number place (Rewritten.Refused number place)
   refuses-then {n} e = record { is = λ first p k u. go (fold-own first p) (said-as e (own-folded first p (g .leaves first p k u))) }
     where
-      go : (a : Answer (List ℕ)) → Leaves (λ w. w) y at a (Folded.Done n) y₁ → Folded.Refused number place ≡ first-refusal a number place
+      go : (a : Answer (List ℕ)) → Leaves (λ w. w) y at a (Rewritten.Done n) y₁ → Rewritten.Refused number place ≡ first-refusal a number place
       go (done w) h = refl
       go (refused i c) h = absurd (h .left)
 
-  pub refuses-first : {i c : ℕ} → q ≡ Folded.Refused i c → Refuses text x lo hi m number place (Folded.Refused i c)
+  pub refuses-first : {i c : ℕ} → q ≡ Rewritten.Refused i c → Refuses text x lo hi m number place (Rewritten.Refused i c)
   refuses-first {i} {c} e = record { is = λ first p k u. go (fold-own first p) (said-as e (own-folded first p (g .leaves first p k u))) }
     where
-      go : (a : Answer (List ℕ)) → Leaves (λ w. w) y at a (Folded.Refused i c) y₁ → Folded.Refused i c ≡ first-refusal a number place
+      go : (a : Answer (List ℕ)) → Leaves (λ w. w) y at a (Rewritten.Refused i c) y₁ → Rewritten.Refused i c ≡ first-refusal a number place
       go (done w) h = absurd (h .left)
-      go (refused j d) h = ap (λ (n : ℕ). Folded.Refused n c) (h .left .0) ∙ ap (λ (n : ℕ). Folded.Refused j n) (h .left .1)
+      go (refused j d) h = ap (λ (n : ℕ). Rewritten.Refused n c) (h .left .0) ∙ ap (λ (n : ℕ). Rewritten.Refused j n) (h .left .1)
 
 -- Whatever it is, it is a refusal.
-pub record Refusal (r : Folded) : Type 0 where
+pub record Refusal (r : Rewritten) : Type 0 where
   pub number : ℕ
   pub place : ℕ
-  pub is : r ≡ Folded.Refused number place
+  pub is : r ≡ Rewritten.Refused number place
 
 refusal : (a : Answer (List ℕ)) (number place : ℕ) → Refusal (first-refusal a number place)
 refusal (done w) number place = record { number = number; place = place; is = refl }
 refusal (refused i c) number place = record { number = i; place = c; is = refl }
 
-pub refuses-some : {text x : List ℕ} {lo hi m number place : ℕ} {r : Folded} → OwnAt text x lo hi m → Refuses text x lo hi m number place r → Refusal r
+pub refuses-some : {text x : List ℕ} {lo hi m number place : ℕ} {r : Rewritten} → OwnAt text x lo hi m → Refuses text x lo hi m number place r → Refusal r
 refuses-some {number = number} {place} t w =
     let f = refusal (fold-own (t .first) (t .p)) number place in
     record { number = f .number; place = f .place; is = w .is (t .first) (t .p) (t .numbered) (t .here) ∙ f .is }
 
 -- The own parts' refusal, or that of what is folded after them.
-refused-after : {A B : Type 0} {g : B → List ℕ} {d : List ℕ} {at number place : ℕ} {d′ : List ℕ} {r : Folded} (a : Answer A) (own : A → List ℕ) (k : A → Answer B)
-    → ((y : A) → Leaves g d at (k y) (Folded.Refused number place) d′) → r ≡ first-refusal (a >>= λ y. done (own y)) number place → Leaves g d at (a >>= k) r d′
+refused-after : {A B : Type 0} {g : B → List ℕ} {d : List ℕ} {at number place : ℕ} {d′ : List ℕ} {r : Rewritten} (a : Answer A) (own : A → List ℕ) (k : A → Answer B)
+    → ((y : A) → Leaves g d at (k y) (Rewritten.Refused number place) d′) → r ≡ first-refusal (a >>= λ y. done (own y)) number place → Leaves g d at (a >>= k) r d′
 refused-after (done y) own k h e = said-as (sym e) (h y)
 refused-after (refused i p) own k h e = said-as (sym e) (record { left = (refl, refl) })
 
 -- ---- fold_node
 
-pub source-none : {text x : List ℕ} {lo hi : ℕ} {y : List ℕ} {at : ℕ} → hi ≤ lo → FoldsSource text x lo hi y at (Folded.Done at) y
+pub source-none : {text x : List ℕ} {lo hi : ℕ} {y : List ℕ} {at : ℕ} → hi ≤ lo → FoldsSource text x lo hi y at (Rewritten.Done at) y
 source-none {text} {x} {lo} {hi} {y} {at} h = record { leaves = go; within = record { ends = omega arith } }
   where
-    go : (first : ℕ) (source : Option Node) → lo ≡ cell-words * first → SourceHere text x lo hi source → Leaves words-of y at (fold-source first source) (Folded.Done at) y
+    go : (first : ℕ) (source : Option Node) → lo ≡ cell-words * first → SourceHere text x lo hi source → Leaves words-of y at (fold-source first source) (Rewritten.Done at) y
     go first none e u = record { left = appended-none y at }
     go first (some p) e u = absurd (omega (arith, node-has-cell p, u .stand .high))
 
@@ -269,9 +269,9 @@ module _ {text x : List ℕ} {lo hi : ℕ} where
   source-in h t = by-node (λ o. (lo ≤ hi) × (hi ≤ length x)) (λ p u f. (omega arith, node-in p u .1)) h (t .source) (t .here)
 
   pub source-single : {y : List ℕ} {at r : ℕ} {y₁ : List ℕ} → hi - lo ≡ cell-words → (at + (hi - lo) ≤ length y) × Short y → SourceAt text x lo hi → Copies x lo hi y at r y₁
-      → FoldsSource text x lo hi y at (Folded.Done r) y₁
+      → FoldsSource text x lo hi y at (Rewritten.Done r) y₁
   source-single {y} {at} {r} {y₁} h (room, few) t c = record {
-    leaves = λ first source k u. by-node (λ o. Leaves words-of y at (fold-source first o) (Folded.Done r) y₁)
+    leaves = λ first source k u. by-node (λ o. Leaves words-of y at (fold-source first o) (Rewritten.Done r) y₁)
         (λ p v f. made-into (ConstantFolding first p) some (λ q. refl) (answer-as (sym (node-alone first p v h)) (record { left = copied p v }))) (omega arith) source u;
     within = record { ends = by-node (λ o. r ≤ at + (hi - lo)) (λ p v f. omega (arith, copied p v .ends, v .part .high)) (omega arith) (t .source) (t .here) };
   }
@@ -280,7 +280,7 @@ module _ {text x : List ℕ} {lo hi : ℕ} where
       copied p v = appended (c (node-words p) (v .part)) few (omega (arith, v .part .high))
 
 -- the answer without its `some`
-pub node-left : {y : List ℕ} {at : ℕ} {r : Folded} {y′ : List ℕ} (first : ℕ) (p : Node) → Leaves words-of y at (fold-source first (some p)) r y′ → Leaves node-words y at (ConstantFolding first p) r y′
+pub node-left : {y : List ℕ} {at : ℕ} {r : Rewritten} {y′ : List ℕ} (first : ℕ) (p : Node) → Leaves words-of y at (fold-source first (some p)) r y′ → Leaves node-words y at (ConstantFolding first p) r y′
 node-left first p h = made-of (ConstantFolding first p) some (λ q. refl) h
 
 -- a node that its own cell closes
@@ -304,7 +304,7 @@ module _ {x : List ℕ} {lo hi : ℕ} where
       (node-cell-is (join og outer j l r) u ∙ ap (cell og) (sym (answer-is (λ m. join-cell outer m ≡ join-cell outer j) (fold-join first j) k (join-cell-kept outer first j) e)))
 
 module _ {text x : List ℕ} {lo hi m mid : ℕ} (h : lo < hi) (own : OwnStart x lo hi m) (last : LastStart x lo m mid) {y : List ℕ} {at : ℕ} where
-  node-folded : {r : Folded} {y′ : List ℕ}
+  node-folded : {r : Rewritten} {y′ : List ℕ}
       → ((first : ℕ) → lo ≡ cell-words * first → (p : Node) → NodeHere x lo hi p → Node-fits text p → Leaves node-words y at (ConstantFolding first p) r y′)
       → Up-to (at + (hi - lo)) r → FoldsSource text x lo hi y at r y′
   node-folded {r} {y′} go w = record {
@@ -314,13 +314,13 @@ module _ {text x : List ℕ} {lo hi m mid : ℕ} (h : lo < hi) (own : OwnStart x
   }
 
   -- a source is refused
-  node-refused : SourceAt text x lo hi → {number place : ℕ} {r : Folded} {y′ : List ℕ} → Refuses text x lo hi m number place r
+  node-refused : SourceAt text x lo hi → {number place : ℕ} {r : Rewritten} {y′ : List ℕ} → Refuses text x lo hi m number place r
       → ((first : ℕ) → lo ≡ cell-words * first → (p : Node) → NodeHere x lo hi p → Node-fits text p → Leaves node-words y at (ConstantFolding first p) r y′)
       → FoldsSource text x lo hi y at r y′
   node-refused t w go = let f = refuses-some (own-at own h t) w in node-folded go (up-to-as (sym (f .is)) (record { ends = tt }))
 
-  module _ {q₂ : Folded} {y₁ : List ℕ} (g₂ : FoldsSource text x lo mid y at q₂ y₁) where
-    pub earlier-refused : SourceAt text x lo hi → {j i : ℕ} → q₂ ≡ Folded.Refused j i → {r : Folded} {y′ : List ℕ} → Refuses text x lo hi m j i r → FoldsSource text x lo hi y at r y′
+  module _ {q₂ : Rewritten} {y₁ : List ℕ} (g₂ : FoldsSource text x lo mid y at q₂ y₁) where
+    pub earlier-refused : SourceAt text x lo hi → {j i : ℕ} → q₂ ≡ Rewritten.Refused j i → {r : Rewritten} {y′ : List ℕ} → Refuses text x lo hi m j i r → FoldsSource text x lo hi y at r y′
     earlier-refused t {j} {i} e {r} {y′} w = node-refused t w go
       where
         go : (first : ℕ) → lo ≡ cell-words * first → (p : Node) → NodeHere x lo hi p → Node-fits text p → Leaves node-words y at (ConstantFolding first p) r y′
@@ -333,12 +333,12 @@ module _ {text x : List ℕ} {lo hi m mid : ℕ} (h : lo < hi) (own : OwnStart x
             (node-left first a (said-as e (g₂ .leaves first (some a) k (earlier-here own last (join og outer c a b) v f)))))
             (w .is (first + (node-size a + node-size b)) (join og outer c a b) (join-number own first k og outer c a b v) (own-here (join og outer c a b) v f))
 
-    module _ {e : ℕ} (q₂e : q₂ ≡ Folded.Done e) {q₃ : Folded} {y₂ : List ℕ} (g₃ : FoldsSource text x mid m y₁ e q₃ y₂) where
+    module _ {e : ℕ} (q₂e : q₂ ≡ Rewritten.Done e) {q₃ : Rewritten} {y₂ : List ℕ} (g₃ : FoldsSource text x mid m y₁ e q₃ y₂) where
       join-earlier : (first : ℕ) → lo ≡ cell-words * first → (og : ℕ) (outer : Bool) (c : Join) (a b : Node) → NodeHere x lo hi (join og outer c a b) → Node-fits text (join og outer c a b)
-          → Leaves node-words y at (ConstantFolding first a) (Folded.Done e) y₁
+          → Leaves node-words y at (ConstantFolding first a) (Rewritten.Done e) y₁
       join-earlier first k og outer c a b v f = node-left first a (said-as q₂e (g₂ .leaves first (some a) k (earlier-here own last (join og outer c a b) v f)))
 
-      pub last-refused : SourceAt text x lo hi → {j i : ℕ} → q₃ ≡ Folded.Refused j i → {r : Folded} {y′ : List ℕ} → Refuses text x lo hi m j i r → FoldsSource text x lo hi y at r y′
+      pub last-refused : SourceAt text x lo hi → {j i : ℕ} → q₃ ≡ Rewritten.Refused j i → {r : Rewritten} {y′ : List ℕ} → Refuses text x lo hi m j i r → FoldsSource text x lo hi y at r y′
       last-refused t {j} {i} z {r} {y′} w = node-refused t w go
         where
           go : (first : ℕ) → lo ≡ cell-words * first → (p : Node) → NodeHere x lo hi p → Node-fits text p → Leaves node-words y at (ConstantFolding first p) r y′
@@ -356,11 +356,11 @@ module _ {text x : List ℕ} {lo hi m mid : ℕ} (h : lo < hi) (own : OwnStart x
               (node-left (first + node-size a) b (said-as z (g₃ .leaves (first + node-size a) (some b) (join-mid own last first k og outer c a b v) (last-here own last (join og outer c a b) v f))))))
               (w .is (first + (node-size a + node-size b)) (join og outer c a b) (join-number own first k og outer c a b v) (own-here (join og outer c a b) v f))
 
-      module _ {i : ℕ} (q₃e : q₃ ≡ Folded.Done i) {q : Folded} {y₃ : List ℕ} (g : FoldsOwn text x lo hi y₂ i m q y₃) where
-        pub own-refused : {j c : ℕ} → q ≡ Folded.Refused j c → FoldsSource text x lo hi y at (Folded.Refused j c) y₃
+      module _ {i : ℕ} (q₃e : q₃ ≡ Rewritten.Done i) {q : Rewritten} {y₃ : List ℕ} (g : FoldsOwn text x lo hi y₂ i m q y₃) where
+        pub own-refused : {j c : ℕ} → q ≡ Rewritten.Refused j c → FoldsSource text x lo hi y at (Rewritten.Refused j c) y₃
         own-refused {j} {c} z = node-folded go (record { ends = tt })
           where
-            go : (first : ℕ) → lo ≡ cell-words * first → (p : Node) → NodeHere x lo hi p → Node-fits text p → Leaves node-words y at (ConstantFolding first p) (Folded.Refused j c) y₃
+            go : (first : ℕ) → lo ≡ cell-words * first → (p : Node) → NodeHere x lo hi p → Node-fits text p → Leaves node-words y at (ConstantFolding first p) (Rewritten.Refused j c) y₃
             go first n (leaf og l) v f = refused-on (fold-leaf first l) (λ m. done (leaf og m)) (said-as z (g .leaves first (leaf og l) (leaf-number own first n og l v) (own-here (leaf og l) v f)))
             go first n (over og o s) v f =
                 refused-on (fold-over (first + node-size s) o) (λ p. ConstantFolding first s >>= λ t. done (over og p t))
@@ -370,17 +370,17 @@ module _ {text x : List ℕ} {lo hi m mid : ℕ} (h : lo < hi) (own : OwnStart x
                 (λ k. ConstantFolding first a >>= λ l. ConstantFolding (first + node-size a) b >>= λ r. done (join og outer k l r))
                 (said-as z (g .leaves (first + (node-size a + node-size b)) (join og outer c a b) (join-number own first n og outer c a b v) (own-here (join og outer c a b) v f)))
 
-        module _ {n : ℕ} (qe : q ≡ Folded.Done n) where
+        module _ {n : ℕ} (qe : q ≡ Rewritten.Done n) where
           -- what each call leaves, by the kind of node
-          leaf-own-left : (first : ℕ) → lo ≡ cell-words * first → (og : ℕ) (l : Leaf) → NodeHere x lo hi (leaf og l) → Node-fits text (leaf og l) → Leaves leaf-own y₂ i (fold-leaf first l) (Folded.Done n) y₃
+          leaf-own-left : (first : ℕ) → lo ≡ cell-words * first → (og : ℕ) (l : Leaf) → NodeHere x lo hi (leaf og l) → Node-fits text (leaf og l) → Leaves leaf-own y₂ i (fold-leaf first l) (Rewritten.Done n) y₃
           leaf-own-left first e og l u f = said-as qe (g .leaves first (leaf og l) (leaf-number own first e og l u) (own-here (leaf og l) u f))
 
           over-own-left : (first : ℕ) → lo ≡ cell-words * first → (og : ℕ) (o : Over) (s : Node) → NodeHere x lo hi (over og o s) → Node-fits text (over og o s)
-              → Leaves over-own y₂ i (fold-over (first + node-size s) o) (Folded.Done n) y₃
+              → Leaves over-own y₂ i (fold-over (first + node-size s) o) (Rewritten.Done n) y₃
           over-own-left first e og o s u f = said-as qe (g .leaves (first + node-size s) (over og o s) (over-number own first e og o s u) (own-here (over og o s) u f))
 
           join-own-left : (first : ℕ) → lo ≡ cell-words * first → (og : ℕ) (outer : Bool) (c : Join) (a b : Node) → NodeHere x lo hi (join og outer c a b) → Node-fits text (join og outer c a b)
-              → Leaves join-own y₂ i (fold-join (first + (node-size a + node-size b)) c) (Folded.Done n) y₃
+              → Leaves join-own y₂ i (fold-join (first + (node-size a + node-size b)) c) (Rewritten.Done n) y₃
           join-own-left first e og outer c a b u f =
               said-as qe (g .leaves (first + (node-size a + node-size b)) (join og outer c a b) (join-number own first e og outer c a b u) (own-here (join og outer c a b) u f))
 
@@ -398,7 +398,7 @@ module _ {text x : List ℕ} {lo hi m mid : ℕ} (h : lo < hi) (own : OwnStart x
                 appended (subst (λ (k : Cell). Wrote y at (sized ((v ++ w) ++ o) k) r y₄) ke
                 (c y ((v ++ w) ++ o) long (wrote l (omega (arith, room .0, sized-long ((v ++ w) ++ o) (cell-at x hi)))))) (room .1) (omega (arith, room .0))
 
-            node-done : (first : ℕ) → lo ≡ cell-words * first → (p : Node) → NodeHere x lo hi p → Node-fits text p → Leaves node-words y at (ConstantFolding first p) (Folded.Done r) y₄
+            node-done : (first : ℕ) → lo ≡ cell-words * first → (p : Node) → NodeHere x lo hi p → Node-fits text p → Leaves node-words y at (ConstantFolding first p) (Rewritten.Done r) y₄
             node-done first k (leaf og l) v f =
                 done-on (fold-leaf first l) (λ m. done (leaf og m)) (leaf-own-left first k og l v f)
                 (λ d de da. record {
@@ -422,7 +422,7 @@ module _ {text x : List ℕ} {lo hi m mid : ℕ} (h : lo < hi) (own : OwnStart x
                 (node-left (first + node-size a) b (said-as q₃e (g₃ .leaves (first + node-size a) (some b) (join-mid own last first k og outer j a b v) (last-here own last (join og outer j a b) v f))))
                 (λ r _ ra. record { left = appended-as (join-words (first + (node-size a + node-size b)) og outer j d a b l r v de) (closed (node-words l) (node-words r) (join-own d) la ra da) })))
 
-            pub node-closed : FoldsSource text x lo hi y at (Folded.Done r) y₄
+            pub node-closed : FoldsSource text x lo hi y at (Rewritten.Done r) y₄
             node-closed = node-folded node-done (record { ends = ended })
               where
                 of-words : (v w o : List ℕ) → Appended y at v e y₁ → Appended y₁ e w i y₂ → Appended y₂ i o n y₃ → r ≤ at + (hi - lo)

@@ -17,18 +17,18 @@ use Rattle.sound.specs.Answers.{answer-is}
 use Rattle.sound.specs.Expressions.{weaker}
 use Rattle.sound.specs.Sound.{Fitting, Within, Row-of, Sound-leaf, Sound-over, Sound-join, Sound, Emits}
 use Rattle.sound.specs.Folding.{folding-keeps}
-use Rattle.edit.specs.Edit.{Holds}
-use Rattle.kept.specs.Kept.{Kept}
-use Rattle.words.specs.Words.{node-words}
-use Rattle.words.specs.Place.{NodeHere}
-use Rattle.fold_operator.specs.Left.{Constants-fit}
-use Rattle.fold_operator.specs.declared.Folded.{Folded}
-use Rattle.fold_operator.specs.declared.Folded.the-variants as Folded
-use Rattle.fold_parts.specs.Leaves.{Leaves}
-use Rattle.fold_parts.specs.Leaves as leaves
-use Rattle.fold_parts.specs.Parts.{Own-part, Part-fits}
-use Rattle.fold_parts.specs.Own.{key-part, item-part, row-part, optional-parts, leaf-parts, over-parts, join-parts}
-use Rattle.fold_parts.proofs.Leaves.{made-of}
+use Rattle.edits.specs.edit.Edit.{Holds}
+use Rattle.edits.specs.kept.SoundAs.{Sound-as}
+use Rattle.cells.specs.words.Words.{node-words}
+use Rattle.cells.specs.words.Place.{NodeHere}
+use Rattle.folding.specs.fold_operator.Left.{Constants-fit}
+use Rattle.folding.specs.declared.fold_operator.Rewritten.{Rewritten}
+use Rattle.folding.specs.declared.fold_operator.Rewritten.the-variants as Rewritten
+use Rattle.constant_folding.specs.fold_parts.Leaves.{Leaves}
+use Rattle.constant_folding.specs.fold_parts.Leaves as leaves
+use Rattle.constant_folding.specs.fold_parts.Parts.{Own-part, Part-fits}
+use Rattle.constant_folding.specs.fold_parts.Own.{key-part, item-part, row-part, optional-parts, leaf-parts, over-parts, join-parts}
+use Rattle.constant_folding.proofs.fold_parts.Leaves.{made-of}
 use Rattle.constant_folding.specs.Nodes.{Node-fits, SourceHere, SourceAt, FoldsSource}
 use Rattle.constant_folding.specs.Plans.{PlanAt, Plan-done, Left, FoldsPlan}
 
@@ -101,24 +101,24 @@ module _ (schema : Schema) (text : List ℕ) (tables : ℕ) where
 
 -- ---- constant_folding
 
-source-here : (schema : Schema) (tables : ℕ) {text x : List ℕ} {t : ℕ} (p : Node) → NodeHere x 0 t p → Kept schema text tables p p → SourceHere text x 0 t (some p)
+source-here : (schema : Schema) (tables : ℕ) {text x : List ℕ} {t : ℕ} (p : Node) → NodeHere x 0 t p → Sound-as schema text tables p p → SourceHere text x 0 t (some p)
 source-here schema tables {text} p u k = record { stand = u .part; fit = sound-fits schema text tables p (k .0) }
 
 module _ {text x : List ℕ} {t : ℕ} where
   pub source-at : PlanAt text x t → SourceAt text x 0 t
   source-at a = record { source = some (a .p); here = source-here (a .schema) (a .tables) (a .p) (a .here) (a .kept); first = 0; numbered = omega arith; short = a .short }
 
-  pub plan-folded : {y : List ℕ} {r : Folded} {y′ : List ℕ} → t ≤ length y → length y′ ≡ length y → FoldsSource text x 0 t y 0 r y′ → FoldsPlan text x t r y′
+  pub plan-folded : {y : List ℕ} {r : Rewritten} {y′ : List ℕ} → t ≤ length y → length y′ ≡ length y → FoldsSource text x 0 t y 0 r y′ → FoldsPlan text x t r y′
   plan-folded {y} {r} {y′} room long g schema tables p u k =
       record { left = go (ConstantFolding 0 p) r refl (made-of (ConstantFolding 0 p) some (λ q. refl) (g .leaves 0 (some p) (omega arith) (source-here schema tables p u k))) (g .within) }
     where
-      go : (a : Answer Node) (r : Folded) → ConstantFolding 0 p ≡ a → Leaves node-words y 0 a r y′ → leaves.Up-to (0 + (t - 0)) r → Left schema text tables p t a r y′
-      go (done q) (Folded.Done n) e h w = record {
+      go : (a : Answer Node) (r : Rewritten) → ConstantFolding 0 p ≡ a → Leaves node-words y 0 a r y′ → leaves.Up-to (0 + (t - 0)) r → Left schema text tables p t a r y′
+      go (done q) (Rewritten.Done n) e h w = record {
         within = omega (arith, w .ends);
         inside = omega (arith, w .ends);
         words = h .left .kept;
         kept = answer-is (Emits schema text tables (columns schema p)) (ConstantFolding 0 p) q (folding-keeps schema text tables 0 p (k .0)) e;
       }
-      go (done q) (Folded.Refused j i) e h w = h .left
-      go (refused m i) (Folded.Done n) e h w = h .left
-      go (refused m i) (Folded.Refused j l) e h w = h .left
+      go (done q) (Rewritten.Refused j i) e h w = h .left
+      go (refused m i) (Rewritten.Done n) e h w = h .left
+      go (refused m i) (Rewritten.Refused j l) e h w = h .left

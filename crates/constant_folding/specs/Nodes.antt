@@ -9,12 +9,12 @@ use Rattle.sql.specs.Answer.{Answer, done, refused, _>>=_}
 use Rattle.sql.specs.Optimizer.{fold-leaf, fold-over, fold-join, ConstantFolding}
 use Rattle.sheet_laws.specs.Fits.{All, Optional}
 use Rattle.cells.specs.Cells.{cell-words, Part}
-use Rattle.words.specs.Words.{node-words, source-words, leaf-own, over-own, join-own}
-use Rattle.fold_operator.specs.declared.Folded.{Folded}
-use Rattle.fold_operator.specs.declared.Folded.the-variants as Folded
-use Rattle.fold_parts.specs.Leaves.{Leaves, Up-to}
-use Rattle.fold_parts.specs.Parts.{Part-fits}
-use Rattle.fold_parts.specs.Own.{leaf-parts, over-parts, join-parts, OwnHere}
+use Rattle.cells.specs.words.Words.{node-words, source-words, leaf-own, over-own, join-own}
+use Rattle.folding.specs.declared.fold_operator.Rewritten.{Rewritten}
+use Rattle.folding.specs.declared.fold_operator.Rewritten.the-variants as Rewritten
+use Rattle.constant_folding.specs.fold_parts.Leaves.{Leaves, Up-to}
+use Rattle.constant_folding.specs.fold_parts.Parts.{Part-fits}
+use Rattle.constant_folding.specs.fold_parts.Own.{leaf-parts, over-parts, join-parts, OwnHere}
 
 -- The own parts of the node, and of all below it, fit.
 abbrev pub Node-fits : List ℕ → Node → Type 0
@@ -69,14 +69,14 @@ pub record SourceAt (text x : List ℕ) (lo hi : ℕ) : Type 0 where
   pub short : length text < 65536
 
 -- The answer of folding it; what is done is not longer than it is.
-pub record FoldsSource (text x : List ℕ) (lo hi : ℕ) (y : List ℕ) (at : ℕ) (r : Folded) (y′ : List ℕ) : Type 0 where
+pub record FoldsSource (text x : List ℕ) (lo hi : ℕ) (y : List ℕ) (at : ℕ) (r : Rewritten) (y′ : List ℕ) : Type 0 where
   pub leaves : (first : ℕ) (source : Option Node) → lo ≡ cell-words * first → SourceHere text x lo hi source → Leaves words-of y at (fold-source first source) r y′
   pub within : Up-to (at + (hi - lo)) r
 
 -- An answer's refusal, and if it is done, the refusal behind it, with this number and place.
-abbrev pub first-refusal : {A : Type 0} → Answer A → ℕ → ℕ → Folded
-first-refusal (done y) number place = Folded.Refused number place
-first-refusal (refused i p) number place = Folded.Refused i p
+abbrev pub first-refusal : {A : Type 0} → Answer A → ℕ → ℕ → Rewritten
+first-refusal (done y) number place = Rewritten.Refused number place
+first-refusal (refused i p) number place = Rewritten.Refused i p
 
 -- What a node's own parts fold to, in words. The first of their cells has the number `first`.
 abbrev pub fold-own : ℕ → Node → Answer (List ℕ)
@@ -91,9 +91,9 @@ fold-own first (join og outer j l r) = do
   done (join-own k)
 
 -- The refusal of a node where a source's is behind that of its own parts.
-abbrev pub node-refusal : ℕ → Node → ℕ → ℕ → Folded
+abbrev pub node-refusal : ℕ → Node → ℕ → ℕ → Rewritten
 node-refusal first p number place = first-refusal (fold-own first p) number place
 
 -- r is the refusal of whatever node stands there, where a source of it is refused with this number and place.
-pub record Refuses (text x : List ℕ) (lo hi m number place : ℕ) (r : Folded) : Type 0 where
+pub record Refuses (text x : List ℕ) (lo hi m number place : ℕ) (r : Rewritten) : Type 0 where
   pub is : (first : ℕ) (p : Node) → m ≡ cell-words * first → OwnHere text x lo hi p → r ≡ node-refusal first p number place

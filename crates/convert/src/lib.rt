@@ -12,7 +12,7 @@ ghost use Rattle.convert.specs.Convert.{origin-in, carried, other-editio
 ghost use Rattle.convert.specs.Code.{Carryable};
 
 // The target is not the edition of s, and is one.
-fn is_other(s: &[u8], target: usize) -> bool
+fn is_other_edition(s: &[u8], target: usize) -> bool
     requires { ⌜ 20 ≤ length (now s) ⌝ }
     ensures { λ r. ⌜ r ≡ other-edition (now (s .entry)) target ⌝ }
 {
@@ -72,7 +72,7 @@ pub fn convert(s: &[u8], target: usize, out: &mut [u8]) -> Answer
     if a.number != 0 {
         return a;
     }
-    if !is_other(s, target) {
+    if !is_other_edition(s, target) {
         return checker::refusal(21, 0);
     }
     if out.len() < s.len() {

@@ -1,4 +1,4 @@
--- Laws on push_filters_from through a chain (crate chain): its nodes stay as they are.
+-- Laws on push_filters_from through a chain (module chain): its nodes stay as they are.
 use Prim.Native.Nat.{ℕ, zero, suc, _+_, _-_, _≤_, _<_}
 use native.Mathlib.Omega.{arith}
 use mathlib.Core.Path.{_≡_, refl, ap, _∙_}
@@ -11,13 +11,13 @@ use Rattle.sql.specs.Plan.{Other, other, Node, over, over-size, node-size}
 use Rattle.sql.specs.Answer.{Answer, done, refused, _>>=_}
 use Rattle.sql.specs.Room.{if-room, maybe-push-join, maybe-push-filter, each-source, push-filters-from}
 use Rattle.sql.specs.Optimizer
-use Rattle.chain.specs.Chain.{chain, sizes, GoesDown}
-use Rattle.chain.specs.Resized.{Reseals}
-use Rattle.chain.proofs.Chains.{chain-size}
-use Rattle.chain.proofs.Edits.{Descends, end-inside, below-held, chain-same, chain-stop, chain-fits, chain-go, go-as-long}
-use Rattle.kept.specs.Kept.{kept}
-use Rattle.kept.specs.Pass.{PassAt, Passes}
-use Rattle.push_filters.proofs.Pushing.{pass-at, pass-also, bind-assoc}
+use Rattle.edits.specs.chain.Chain.{chain, sizes, GoesDown}
+use Rattle.edits.specs.chain.Resized.{SetsSizes}
+use Rattle.edits.proofs.chain.Chains.{chain-size}
+use Rattle.edits.proofs.chain.Edits.{Descends, end-inside, below-held, chain-same, chain-stop, chain-fits, chain-go, go-as-long}
+use Rattle.edits.specs.kept.SoundAs.{kept}
+use Rattle.edits.specs.kept.Pass.{PassAt, Passes}
+use Rattle.filter_pushdown.proofs.push_filters.Pushing.{pass-at, pass-also, bind-assoc}
 
 bind-done : (a : Answer Node) → a ≡ a >>= (λ q. done q)
 bind-done (done q) = refl
@@ -83,7 +83,7 @@ module _ {records x : List ℕ} {t lo tail left end : ℕ} (n : ℕ) (d : GoesDo
         chain-fits (kept (g .schema) (g .text) (g .tables)) d (From n (g .schema)) (From left (g .schema)) (descends (g .schema) n left)
         (a (g .schema) (g .text) (g .tables) (g .given)) z (g .held)
 
-    pub chain-done : r ≤ length x₁ → {v : ℕ} {x₂ : List ℕ} → length x₂ ≡ length x₁ → Reseals x₁ r lo (r - (t - end)) tail v x₂
+    pub chain-done : r ≤ length x₁ → {v : ℕ} {x₂ : List ℕ} → length x₂ ≡ length x₁ → SetsSizes x₁ r lo (r - (t - end)) tail v x₂
         → Passes (λ room schema. push-filters-from room schema n) records x t lo tail v x₂
     chain-done z j seal schema text tables given =
         chain-go (kept schema text tables) d (From n schema) (From left schema) (descends schema n left) (a schema text tables given) z j seal

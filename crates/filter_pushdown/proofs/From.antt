@@ -12,12 +12,12 @@ use Rattle.sql.specs.Answer.{Answer, done, _>>=_}
 use Rattle.sql.specs.Room.{if-room, maybe-push-join, maybe-push-filter, push-filters, each-source, push-filters-from, FilterPushdown}
 use Rattle.sql.specs.Optimizer
 use Rattle.literal.specs.Nodes.{nodes-positive, nodes-cells}
-use Rattle.words.proofs.Sizes.{words-long}
-use Rattle.edit.specs.Edit.{Holds, Shares}
-use Rattle.edit.proofs.Edits.{total, total-cells, edit-same}
-use Rattle.kept.specs.Kept.{kept}
-use Rattle.kept.specs.Pass.{Passes}
-use Rattle.push_filters.proofs.Pushing.{passes-stop, passes-go, passes-as}
+use Rattle.cells.proofs.words.Sizes.{words-long}
+use Rattle.edits.specs.edit.Edit.{Holds, Shares}
+use Rattle.edits.proofs.edit.Edits.{total, total-cells, edit-same}
+use Rattle.edits.specs.kept.SoundAs.{kept}
+use Rattle.edits.specs.kept.Pass.{Passes}
+use Rattle.filter_pushdown.proofs.push_filters.Pushing.{passes-stop, passes-go, passes-as}
 
 -- ---- push_filters_from
 abbrev sources-from : ℕ → ℕ → Schema → ℕ → Node → Answer Node

@@ -1,4 +1,4 @@
--- Laws on each_source in place: crate edit's, for FilterPushdown.
+-- Laws on each_source in place: module edit's, for FilterPushdown.
 use Prim.Native.Nat.{ℕ, _+_, _-_, _≤_, _<_}
 use mathlib.Core.Path.{_≡_, refl}
 use mathlib.Core.List.{List}
@@ -9,11 +9,11 @@ use Rattle.sql.specs.Answer.{Answer}
 use Rattle.sql.specs.Room.{each-source, push-filters-from}
 use Rattle.cells.specs.Cells.{cell-words, start-at, Sized}
 use Rattle.nodes.specs.Own.{OwnStart, SourceCount}
-use Rattle.edit.specs.Edit.{Reseals}
-use Rattle.edit.proofs.Sources
-use Rattle.kept.specs.Kept.{kept}
-use Rattle.kept.specs.Pass.{PassAt, Passes}
-use Rattle.push_filters.proofs.Pushing.{pass-also}
+use Rattle.edits.specs.edit.Edit.{SetsSize}
+use Rattle.edits.proofs.edit.Sources
+use Rattle.edits.specs.kept.SoundAs.{kept}
+use Rattle.edits.specs.kept.Pass.{PassAt, Passes}
+use Rattle.filter_pushdown.proofs.push_filters.Pushing.{pass-also}
 
 -- what is done with a source
 abbrev From : ℕ → Schema → ℕ → ℕ → Node → Answer Node
@@ -43,7 +43,7 @@ module _ {records x : List ℕ} {t lo tail count : ℕ} (n : ℕ) (c : SourceCou
         source-fits z g =
             Sources.source-room (kept (g .schema) (g .text) (g .tables)) c one own (g .schema) (From n (g .schema)) (a (g .schema) (g .text) (g .tables) (g .given)) z (g .held)
 
-        pub source-done : length x₁ ≡ length x → u ≤ length x₁ → {r : ℕ} {x₂ : List ℕ} → length x₂ ≡ length x₁ → Reseals x₁ u lo tail r x₂ → EachSource n records x t lo tail r x₂
+        pub source-done : length x₁ ≡ length x → u ≤ length x₁ → {r : ℕ} {x₂ : List ℕ} → length x₂ ≡ length x₁ → SetsSize x₁ u lo tail r x₂ → EachSource n records x t lo tail r x₂
         source-done k z e seal schema text tables given =
             Sources.source-go (kept schema text tables) c one own schema (From n schema) (a schema text tables given) k z e seal
 
@@ -87,6 +87,6 @@ module _ {records x : List ℕ} {t lo tail count : ℕ} (n : ℕ) (c : SourceCou
                   Sources.both-room (kept (g .schema) (g .text) (g .tables)) c (two g) own st (g .schema) (From n (g .schema)) (a (g .schema) (g .text) (g .tables) (g .given)) e i
                   (b (g .schema) (g .text) (g .tables) (g .given)) j (g .held)
 
-              pub both-done : length x₂ ≡ length x₁ → v ≤ length x₂ → {r : ℕ} {x₃ : List ℕ} → length x₃ ≡ length x₂ → Reseals x₂ v lo tail r x₃ → EachSource n records x t lo tail r x₃
+              pub both-done : length x₂ ≡ length x₁ → v ≤ length x₂ → {r : ℕ} {x₃ : List ℕ} → length x₃ ≡ length x₂ → SetsSize x₂ v lo tail r x₃ → EachSource n records x t lo tail r x₃
               both-done l j k seal schema text tables given =
                   Sources.both-go (kept schema text tables) c (two g) own st schema (From n schema) (a schema text tables given) e i (b schema text tables given) j l k seal

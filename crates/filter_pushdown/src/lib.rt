@@ -1,13 +1,17 @@
-// optimizer.rs, FilterPushdown, in place (crate edit): the whole plan stands in the first t words of x, the node that is worked on from lo up to t - tail. A
-// number of words past the end of x stands for refusal 14. y, z and w are scratch; tables are the table records (crate records). n bounds the nodes, as in
-// the definition (crate sql, Room).
+// optimizer.rs, FilterPushdown, in place (module edit): the whole plan stands in the first t words of `plan`, the node that is worked on from lo up to t -
+// tail. A number of words past the end of `plan` stands for refusal 14. y, z and w are scratch; tables are the table records (module records). n bounds the
+// nodes, as in the definition (crate sql, Room).
 ghost use Rattle.sql.specs.Room;
-ghost use Rattle.kept.specs.Pass.{PassAt, Passes};
-ghost use Rattle.push_filters.specs.Buffers.{Buffers};
+ghost use Rattle.edits.specs.kept.Pass.{PassAt, Passes};
+ghost use Rattle.filter_pushdown.specs.push_filters.Buffers.{Buffers};
+use edits::chain;
+use edits::edit;
+
+pub mod push_filters;
 
 // The sources of the node, left before right.
 fn each_source(
-    x: &mut [u32],
+    plan: &mut [u32],
     y: &mut [u32],
     z: &mut [u32],
     w: &mut [u32],
@@ -17,37 +21,37 @@ fn each_source(
     tail: usize,
     tables: &[u8],
 ) -> usize
-    requires { ⌜ PassAt (now tables) (now x) t lo tail ⌝ }
-    requires { ⌜ Buffers (now x) (now y) (now z) (now w) ⌝ }
-    ensures { λ r. ⌜ Passes (λ room schema. Room.each-source room schema (Room.push-filters-from room schema n)) (now (tables .entry)) (now (x .entry)) t lo tail r (now (x .exit)) ⌝ }
+    requires { ⌜ PassAt (now tables) (now plan) t lo tail ⌝ }
+    requires { ⌜ Buffers (now plan) (now y) (now z) (now w) ⌝ }
+    ensures { λ r. ⌜ Passes (λ room schema. Room.each-source room schema (Room.push-filters-from room schema n)) (now (tables .entry)) (now (plan .entry)) t lo tail r (now (plan .exit)) ⌝ }
 {
-    let count = nodes::source_count(x, lo, t - tail);
+    let count = nodes::source_count(plan, lo, t - tail);
     if count == 0 {
         return t;
     }
-    let m = nodes::own_start(x, lo, t - tail);
+    let m = nodes::own_start(plan, lo, t - tail);
     if count == 1 {
-        let u = push_source(x, y, z, w, n, t, lo, t - m, tables);
-        if x.len() < u {
+        let u = push_source(plan, y, z, w, n, t, lo, t - m, tables);
+        if plan.len() < u {
             return u;
         }
-        return edit::reseal(x, u, lo, tail);
+        return edit::set_size(plan, u, lo, tail);
     }
-    let back = t - cells::start(x, m);
-    let u = push_source(x, y, z, w, n, t, lo, back, tables);
-    if x.len() < u {
+    let back = t - cells::start(plan, m);
+    let u = push_source(plan, y, z, w, n, t, lo, back, tables);
+    if plan.len() < u {
         return u;
     }
-    let v = push_source(x, y, z, w, n, u, u - back, t - m, tables);
-    if x.len() < v {
+    let v = push_source(plan, y, z, w, n, u, u - back, t - m, tables);
+    if plan.len() < v {
         return v;
     }
-    edit::reseal(x, v, lo, tail)
+    edit::set_size(plan, v, lo, tail)
 }
 
 // push_filters_from of a source of a node. A source of one cell, as a Scan without a filter, is left as it is, and needs no call.
 fn push_source(
-    x: &mut [u32],
+    plan: &mut [u32],
     y: &mut [u32],
     z: &mut [u32],
     w: &mut [u32],
@@ -57,20 +61,20 @@ fn push_source(
     tail: usize,
     tables: &[u8],
 ) -> usize
-    requires { ⌜ PassAt (now tables) (now x) t lo tail ⌝ }
-    requires { ⌜ Buffers (now x) (now y) (now z) (now w) ⌝ }
-    ensures { λ r. ⌜ Passes (λ room schema. Room.push-filters-from room schema n) (now (tables .entry)) (now (x .entry)) t lo tail r (now (x .exit)) ⌝ }
+    requires { ⌜ PassAt (now tables) (now plan) t lo tail ⌝ }
+    requires { ⌜ Buffers (now plan) (now y) (now z) (now w) ⌝ }
+    ensures { λ r. ⌜ Passes (λ room schema. Room.push-filters-from room schema n) (now (tables .entry)) (now (plan .entry)) t lo tail r (now (plan .exit)) ⌝ }
 {
     if t - tail - lo == cells::CELL_WORDS {
         return t;
     }
-    push_filters_from(x, y, z, w, n, t, lo, tail, tables)
+    push_filters_from(plan, y, z, w, n, t, lo, tail, tables)
 }
 
 // A node, then the sources of what it became. A chain of nodes that stay as they are is gone through without a frame for each. Where the plan is as long as
 // before, so is the node below the chain, and the sizes in the chain's cells are right already.
 fn push_filters_from(
-    x: &mut [u32],
+    plan: &mut [u32],
     y: &mut [u32],
     z: &mut [u32],
     w: &mut [u32],
@@ -80,41 +84,41 @@ fn push_filters_from(
     tail: usize,
     tables: &[u8],
 ) -> usize
-    requires { ⌜ PassAt (now tables) (now x) t lo tail ⌝ }
-    requires { ⌜ Buffers (now x) (now y) (now z) (now w) ⌝ }
-    ensures { λ r. ⌜ Passes (λ room schema. Room.push-filters-from room schema n) (now (tables .entry)) (now (x .entry)) t lo tail r (now (x .exit)) ⌝ }
+    requires { ⌜ PassAt (now tables) (now plan) t lo tail ⌝ }
+    requires { ⌜ Buffers (now plan) (now y) (now z) (now w) ⌝ }
+    ensures { λ r. ⌜ Passes (λ room schema. Room.push-filters-from room schema n) (now (tables .entry)) (now (plan .entry)) t lo tail r (now (plan .exit)) ⌝ }
 {
-    let deep = chain::descend(x, n, lo, t - tail);
+    let deep = chain::descend(plan, n, lo, t - tail);
     if deep.left == 0 {
         return t;
     }
     let back = t - deep.end;
-    let u = push_filters::push_filters_in_place(x, y, z, w, deep.left, t, lo, back, tables);
-    if x.len() < u {
+    let u = push_filters::push_filters_in_place(plan, y, z, w, deep.left, t, lo, back, tables);
+    if plan.len() < u {
         return u;
     }
-    let v = each_source(x, y, z, w, deep.left - 1, u, lo, back, tables);
-    if x.len() < v {
+    let v = each_source(plan, y, z, w, deep.left - 1, u, lo, back, tables);
+    if plan.len() < v {
         return v;
     }
     if v == t {
         return v;
     }
-    chain::reseal(x, v, lo, v - back, tail)
+    chain::set_sizes(plan, v, lo, v - back, tail)
 }
 
 // The whole plan, which has t / 7 cells, and no more nodes than cells.
 pub fn filter_pushdown(
-    x: &mut [u32],
+    plan: &mut [u32],
     y: &mut [u32],
     z: &mut [u32],
     w: &mut [u32],
     t: usize,
     tables: &[u8],
 ) -> usize
-    requires { ⌜ PassAt (now tables) (now x) t 0 0 ⌝ }
-    requires { ⌜ Buffers (now x) (now y) (now z) (now w) ⌝ }
-    ensures { λ r. ⌜ Passes Room.FilterPushdown (now (tables .entry)) (now (x .entry)) t 0 0 r (now (x .exit)) ⌝ }
+    requires { ⌜ PassAt (now tables) (now plan) t 0 0 ⌝ }
+    requires { ⌜ Buffers (now plan) (now y) (now z) (now w) ⌝ }
+    ensures { λ r. ⌜ Passes Room.FilterPushdown (now (tables .entry)) (now (plan .entry)) t 0 0 r (now (plan .exit)) ⌝ }
 {
-    push_filters_from(x, y, z, w, t / cells::CELL_WORDS, t, 0, 0, tables)
+    push_filters_from(plan, y, z, w, t / cells::CELL_WORDS, t, 0, 0, tables)
 }

@@ -15,19 +15,19 @@ use Rattle.cells.specs.declared.Cell.{Cell}
 use Rattle.cells.specs.Cells.{cell-words, cell-at, tag-at, origin-at, start-at}
 use Rattle.cells.specs.Room.{Short, Seals}
 use Rattle.cells.proofs.Laws.{nothing}
-use Rattle.words.specs.Words.{expression-words}
-use Rattle.words.specs.Place.{ExpressionHere, ExpressionAt}
-use Rattle.words.proofs.Expressions.{by-leaf, by-unary, by-binary, root-is, root-tag, root-origin, here-operand, here-left, here-right}
-use Rattle.words.proofs.Expressions as expressions
-use Rattle.words.proofs.Writing.{sealed}
-use Rattle.words.proofs.Sizes.{expression-long}
-use Rattle.fold_operator.specs.declared.Folded.{Folded}
-use Rattle.fold_operator.specs.declared.Folded.the-variants as Folded
-use Rattle.evaluate.specs.Evaluate.{UnaryTag, BinaryTag}
-use Rattle.fold_operator.specs.Left.{Appended, Leaves, Settled, SettledAt}
+use Rattle.cells.specs.words.Words.{expression-words}
+use Rattle.cells.specs.words.Place.{ExpressionHere, ExpressionAt}
+use Rattle.cells.proofs.words.Expressions.{by-leaf, by-unary, by-binary, root-is, root-tag, root-origin, here-operand, here-left, here-right}
+use Rattle.cells.proofs.words.Expressions as expressions
+use Rattle.cells.proofs.words.Writing.{sealed}
+use Rattle.cells.proofs.words.Sizes.{expression-long}
+use Rattle.folding.specs.declared.fold_operator.Rewritten.{Rewritten}
+use Rattle.folding.specs.declared.fold_operator.Rewritten.the-variants as Rewritten
+use Rattle.folding.specs.evaluate.Evaluate.{UnaryTag, BinaryTag}
+use Rattle.folding.specs.fold_operator.Left.{Appended, Leaves, Settled, SettledAt}
 use Rattle.folding.specs.Folding.{Counts, Foldable, FoldableAt, Folds, RightAt, FoldsRight}
-use Rattle.fold_operator.specs.Steps.{OperandOf, Neutral, UnaryAt, FoldsUnary, BinaryAt, FoldsBinary, OperandAt, FoldsNeutral}
-use Rattle.fold_operator.proofs.Parts.{appended, appended-part, before-stays, here-in, here-kept, leaves-moved, leaves-refused, leaves-done, leaves-words}
+use Rattle.folding.specs.fold_operator.Steps.{OperandOf, Neutral, UnaryAt, FoldsUnary, BinaryAt, FoldsBinary, OperandAt, FoldsNeutral}
+use Rattle.folding.proofs.fold_operator.Parts.{appended, appended-part, before-stays, here-in, here-kept, leaves-moved, leaves-refused, leaves-done, leaves-words}
 use Rattle.folding.proofs.Settled.{expression-settled}
 
 -- an expression's words, seven to a cell
@@ -89,9 +89,9 @@ module _ {text s : List ℕ} {lo hi c : ℕ} where
 -- ---- what an operand has folded to
 
 -- the answer of a call, by its case
-pub as-answer : (first : ℕ) {text s : List ℕ} {lo hi : ℕ} {d : List ℕ} {at : ℕ} {r q : Folded} {d′ : List ℕ} → r ≡ q
+pub as-answer : (first : ℕ) {text s : List ℕ} {lo hi : ℕ} {d : List ℕ} {at : ℕ} {r q : Rewritten} {d′ : List ℕ} → r ≡ q
     → Folds text first s lo hi d at r d′ → Folds text first s lo hi d at q d′
-as-answer first {d = d} {at} {d′ = d′} h g e f = subst (λ (x : Folded). Leaves d at (fold-expression first e) x d′) h (g e f)
+as-answer first {d = d} {at} {d′ = d′} h g e f = subst (λ (x : Rewritten). Leaves d at (fold-expression first e) x d′) h (g e f)
 
 pub record Result-at (text d : List ℕ) (at room n : ℕ) (d₁ : List ℕ) : Type 0 where
   pub stands : SettledAt text d₁ at n
@@ -108,11 +108,11 @@ module _ {text s : List ℕ} {lo hi : ℕ} (first : ℕ) {d : List ℕ} {at m : 
       let i = expression-long y in
       ((record { part = appended-part a (omega arith) }, answer-is (Settled text) (fold-expression first e) y (expression-settled text first e (f .fits)) h), omega (arith, a .ends))
 
-  pub result-at : FoldableAt text s lo hi → Folds text first s lo hi d at (Folded.Done m) d₁ → at + (hi - lo) ≤ length d → length d₁ ≡ length d
+  pub result-at : FoldableAt text s lo hi → Folds text first s lo hi d at (Rewritten.Done m) d₁ → at + (hi - lo) ≤ length d → length d₁ ≡ length d
       → Result-at text d at (hi - lo) m d₁
   result-at t g room long = go (fold-expression first (t .e)) refl (g (t .e) (t .foldable))
     where
-      go : (a : Answer Expression) → fold-expression first (t .e) ≡ a → Leaves d at a (Folded.Done m) d₁ → Result-at text d at (hi - lo) m d₁
+      go : (a : Answer Expression) → fold-expression first (t .e) ≡ a → Leaves d at a (Rewritten.Done m) d₁ → Result-at text d at (hi - lo) m d₁
       go (done y) e h = let ((u, s), w) = result-here (t .e) y (t .foldable) e (h .left) room long in
           record { stands = record { y = y; here = u; settled = s }; within = w; before = before-stays (h .left) (omega arith) }
       go (refused j p) e h = absurd (h .left)
@@ -121,30 +121,30 @@ module _ {text s : List ℕ} {lo hi : ℕ} (first : ℕ) {d : List ℕ} {at m : 
 
 module _ {text s : List ℕ} {lo hi : ℕ} (first : ℕ) {d : List ℕ} {at : ℕ} where
   pub folds-leaf : {k : Cell} {n : ℕ} {d′ : List ℕ} → k ≡ cell-at s hi → tag-at s hi < 10 → at + (hi - lo) ≤ length d → Short d → Seals d at at k n d′
-      → Folds text first s lo hi d at (Folded.Done n) d′
+      → Folds text first s lo hi d at (Rewritten.Done n) d′
   unfolding expression-words
-  folds-leaf {k} {n} {d′} q h room few w e f = by-leaf (λ e. ExpressionHere s lo hi e → Leaves d at (fold-expression first e) (Folded.Done n) d′)
+  folds-leaf {k} {n} {d′} q h room few w e f = by-leaf (λ e. ExpressionHere s lo hi e → Leaves d at (fold-expression first e) (Rewritten.Done n) d′)
       (λ og v u. leaves-words (appended (sealed (constant og v) u q refl (nothing d at) w) few (omega (arith, here-long (constant og v) u))))
       (λ og i u. leaves-words (appended (sealed (column og i) u q refl (nothing d at) w) few (omega (arith, here-long (column og i) u))))
       e (omega (arith, root-tag e (f .here))) (f .here)
 
-  pub unary-refused : {j p : ℕ} {d′ : List ℕ} → 30 ≤ tag-at s hi → Folds text first s lo (hi - cell-words) d at (Folded.Refused j p) d′
-      → Folds text first s lo hi d at (Folded.Refused j p) d′
-  unary-refused {j} {p} {d′} h g e f = by-unary (λ e. Foldable text s lo hi e → Leaves d at (fold-expression first e) (Folded.Refused j p) d′)
+  pub unary-refused : {j p : ℕ} {d′ : List ℕ} → 30 ≤ tag-at s hi → Folds text first s lo (hi - cell-words) d at (Rewritten.Refused j p) d′
+      → Folds text first s lo hi d at (Rewritten.Refused j p) d′
+  unary-refused {j} {p} {d′} h g e f = by-unary (λ e. Foldable text s lo hi e → Leaves d at (fold-expression first e) (Rewritten.Refused j p) d′)
       (λ og o x f. leaves-refused (fold-expression first x) (λ y. fold (first + size x) (unary og o y)) (g x (foldable-operand og o x f)))
       e (omega (arith, root-tag e (f .here))) f
 
   -- what fold_unary asks
   pub unary-ready : {n tag-of : ℕ} {d₁ : List ℕ} → 30 ≤ tag-at s hi → tag-of ≡ tag-at s hi → FoldableAt text s lo hi → at + (hi - lo) ≤ length d → Short d → length d₁ ≡ length d
-      → Folds text first s lo (hi - cell-words) d at (Folded.Done n) d₁ → UnaryAt d₁ at n tag-of
+      → Folds text first s lo (hi - cell-words) d at (Rewritten.Done n) d₁ → UnaryAt d₁ at n tag-of
   unary-ready {n} {tag-of} {d₁} h oe t room few long g =
       let (b₁, b₂) = foldable-in t in
       let (b₃, b₄) = foldable-in (operand-at h t) in
       let q = result-at first (operand-at h t) g (omega arith) long in
       record { text = text; short = t .short; operator = subst UnaryTag (sym oe) (unary-of h t); operand = q .stands; few = omega arith; room = omega (arith, q .within) }
 
-  pub unary-done : {c n tag-of og-of : ℕ} {d₁ : List ℕ} {answer : Folded} {d₂ : List ℕ} → 30 ≤ tag-at s hi → tag-of ≡ tag-at s hi → og-of ≡ origin-at s hi → Counts lo (hi - cell-words) c → at + (hi - lo) ≤ length d → Short d → length d₁ ≡ length d
-      → Folds text first s lo (hi - cell-words) d at (Folded.Done n) d₁ → FoldsUnary d₁ at n tag-of (first + c) og-of answer d₂
+  pub unary-done : {c n tag-of og-of : ℕ} {d₁ : List ℕ} {answer : Rewritten} {d₂ : List ℕ} → 30 ≤ tag-at s hi → tag-of ≡ tag-at s hi → og-of ≡ origin-at s hi → Counts lo (hi - cell-words) c → at + (hi - lo) ≤ length d → Short d → length d₁ ≡ length d
+      → Folds text first s lo (hi - cell-words) d at (Rewritten.Done n) d₁ → FoldsUnary d₁ at n tag-of (first + c) og-of answer d₂
       → Folds text first s lo hi d at answer d₂
   unary-done {c} {n} {tag-of} {og-of} {d₁} {answer} {d₂} h oe ge k room few long g w e f = by-unary (λ e. Foldable text s lo hi e → Leaves d at (fold-expression first e) answer d₂)
       (λ og o x f. let i = foldable-operand og o x f in
@@ -159,21 +159,21 @@ module _ {text s : List ℕ} {lo hi : ℕ} (first : ℕ) {d : List ℕ} {at : �
       e (omega (arith, root-tag e (f .here))) f
 
   module _ {mid : ℕ} (st : mid ≡ start-at s (hi - cell-words)) (h : 10 ≤ tag-at s hi) (k : tag-at s hi < 30) where
-    pub left-refused : {j p : ℕ} {d′ : List ℕ} → Folds text first s lo mid d at (Folded.Refused j p) d′ → Folds text first s lo hi d at (Folded.Refused j p) d′
-    left-refused {j} {p} {d′} g e f = by-binary (λ e. Foldable text s lo hi e → Leaves d at (fold-expression first e) (Folded.Refused j p) d′)
+    pub left-refused : {j p : ℕ} {d′ : List ℕ} → Folds text first s lo mid d at (Rewritten.Refused j p) d′ → Folds text first s lo hi d at (Rewritten.Refused j p) d′
+    left-refused {j} {p} {d′} g e f = by-binary (λ e. Foldable text s lo hi e → Leaves d at (fold-expression first e) (Rewritten.Refused j p) d′)
         (λ og o l r f. leaves-refused (fold-expression first l) (λ x. fold-expression (first + size l) r >>= λ y. fold (first + (size l + size r)) (binary og o x y)) (g l (foldable-left st og o l r f)))
         e (omega (arith, root-tag e (f .here))) (omega (arith, root-tag e (f .here))) f
 
     pub right-ready : {m : ℕ} {d₁ : List ℕ} → FoldableAt text s lo hi → at + (hi - lo) ≤ length d → (first ≤ lo) × Short d → length d₁ ≡ length d
-        → Folds text first s lo mid d at (Folded.Done m) d₁ → RightAt text s lo hi d₁ at first mid m
+        → Folds text first s lo mid d at (Rewritten.Done m) d₁ → RightAt text s lo hi d₁ at first mid m
     right-ready t room (numbered, few) long g =
         let (b₁, b₂) = foldable-in (left-at st h k t) in
         let (b₃, b₄) = foldable-in (right-at st h k t) in
         let q = result-at first (left-at st h k t) g (omega arith) long in
         record { operator = t; low-tag = h; high-tag = k; starts = st; left = q .stands; room = omega (arith, q .within); few = omega arith; numbered = numbered }
 
-    pub left-done : {m : ℕ} {d₁ : List ℕ} {answer : Folded} {d₂ : List ℕ} → at + (hi - lo) ≤ length d → length d₁ ≡ length d
-        → Folds text first s lo mid d at (Folded.Done m) d₁ → FoldsRight text s lo hi d₁ at first mid m answer d₂ → Folds text first s lo hi d at answer d₂
+    pub left-done : {m : ℕ} {d₁ : List ℕ} {answer : Rewritten} {d₂ : List ℕ} → at + (hi - lo) ≤ length d → length d₁ ≡ length d
+        → Folds text first s lo mid d at (Rewritten.Done m) d₁ → FoldsRight text s lo hi d₁ at first mid m answer d₂ → Folds text first s lo hi d at answer d₂
     left-done {m} {d₁} {answer} {d₂} room long g w e f = by-binary (λ e. Foldable text s lo hi e → Leaves d at (fold-expression first e) answer d₂)
         (λ og o l r f. let i = foldable-left st og o l r f in
         let (b, t) = expressions.here-in l (i .here) in
@@ -194,15 +194,15 @@ module _ {text s : List ℕ} {lo hi : ℕ} {d : List ℕ} {at first mid m : ℕ}
       let j = here-long r (here-right (t .starts) og o l r (f .here)) in
       (kc (size l) i, kb (size l + size r) (omega arith))
 
-  pub right-refused : {at₁ j p : ℕ} {d₁ : List ℕ} → Folds text (first + c) s mid (hi - cell-words) d at₁ (Folded.Refused j p) d₁ → FoldsRight text s lo hi d at first mid m (Folded.Refused j p) d₁
+  pub right-refused : {at₁ j p : ℕ} {d₁ : List ℕ} → Folds text (first + c) s mid (hi - cell-words) d at₁ (Rewritten.Refused j p) d₁ → FoldsRight text s lo hi d at first mid m (Rewritten.Refused j p) d₁
   right-refused {at₁} {j} {p} {d₁} g og o l r x f u s =
       let (e₁, e₂) = numbers og o l r f in
       leaves-refused (fold-expression (first + size l) r) (λ y. fold (first + (size l + size r)) (binary og o x y))
-      (subst (λ (n : ℕ). Leaves d at₁ (fold-expression (first + n) r) (Folded.Refused j p) d₁) e₁ (g r (foldable-right (t .starts) og o l r f)))
+      (subst (λ (n : ℕ). Leaves d at₁ (fold-expression (first + n) r) (Rewritten.Refused j p) d₁) e₁ (g r (foldable-right (t .starts) og o l r f)))
 
   -- the right operand in the place of a neutral left one
-  pub right-alone : {tag-of og-of : ℕ} {k : Cell} {q : Bool} {n : ℕ} {d₁ : List ℕ} {answer : Folded} {d₂ : List ℕ} → tag-of ≡ tag-at s hi → og-of ≡ origin-at s hi → k ≡ cell-at d m → Neutral tag-of k q → q ≡ true → length d₁ ≡ length d
-      → Folds text (first + c) s mid (hi - cell-words) d at (Folded.Done n) d₁ → FoldsNeutral d₁ at n (first + b) og-of answer d₂ → FoldsRight text s lo hi d at first mid m answer d₂
+  pub right-alone : {tag-of og-of : ℕ} {k : Cell} {q : Bool} {n : ℕ} {d₁ : List ℕ} {answer : Rewritten} {d₂ : List ℕ} → tag-of ≡ tag-at s hi → og-of ≡ origin-at s hi → k ≡ cell-at d m → Neutral tag-of k q → q ≡ true → length d₁ ≡ length d
+      → Folds text (first + c) s mid (hi - cell-words) d at (Rewritten.Done n) d₁ → FoldsNeutral d₁ at n (first + b) og-of answer d₂ → FoldsRight text s lo hi d at first mid m answer d₂
   right-alone {tag-of} {og-of} {k} {q} {n} {d₁} {answer} {d₂} oe ge ke z qe long g w og o l r x f u sx =
       let (e₁, e₂) = numbers og o l r f in
       let i = foldable-right (t .starts) og o l r f in
@@ -210,15 +210,15 @@ module _ {text s : List ℕ} {lo hi : ℕ} {d : List ℕ} {at first mid m : ℕ}
       let (h₃, h₄) = expressions.here-in r (i .here) in
       let room = t .room in
       leaves-done (fold-expression (first + size l) r) (λ y. fold (first + (size l + size r)) (binary og o x y))
-      (subst (λ (j : ℕ). Leaves d at (fold-expression (first + j) r) (Folded.Done n) d₁) e₁ (g r i))
+      (subst (λ (j : ℕ). Leaves d at (fold-expression (first + j) r) (Rewritten.Done n) d₁) e₁ (g r i))
       (λ y e a. let ((v, sy), h₅) = result-here (first + size l) r y i e a (omega arith) long in
       leaves-moved (before-stays a (omega arith))
       (subst (λ (j : ℕ). Leaves d₁ at (fold (first + j) (binary og o x y)) answer d₂) e₂
       (subst (λ (j : ℕ). Leaves d₁ at (fold (first + b) (binary j o x y)) answer d₂) (ge ∙ root-origin (binary og o l r) (f .here))
       (w text o x y (sym (z o x (sym (oe ∙ root-tag (binary og o l r) (f .here))) (ke ∙ root-is x u)) ∙ qe) v sy))))
 
-  pub right-done : {tag-of og-of : ℕ} {k : Cell} {q : Bool} {n : ℕ} {d₁ : List ℕ} {answer : Folded} {d₂ : List ℕ} → tag-of ≡ tag-at s hi → og-of ≡ origin-at s hi → k ≡ cell-at d m → Neutral tag-of k q → q ≡ false → length d₁ ≡ length d
-      → Folds text (first + c) s mid (hi - cell-words) d m (Folded.Done n) d₁ → FoldsBinary text d₁ at m n tag-of (first + b) og-of answer d₂
+  pub right-done : {tag-of og-of : ℕ} {k : Cell} {q : Bool} {n : ℕ} {d₁ : List ℕ} {answer : Rewritten} {d₂ : List ℕ} → tag-of ≡ tag-at s hi → og-of ≡ origin-at s hi → k ≡ cell-at d m → Neutral tag-of k q → q ≡ false → length d₁ ≡ length d
+      → Folds text (first + c) s mid (hi - cell-words) d m (Rewritten.Done n) d₁ → FoldsBinary text d₁ at m n tag-of (first + b) og-of answer d₂
       → FoldsRight text s lo hi d at first mid m answer d₂
   right-done {tag-of} {og-of} {k} {q} {n} {d₁} {answer} {d₂} oe ge ke z qe long g w og o l r x f u sx =
       let (e₁, e₂) = numbers og o l r f in
@@ -229,7 +229,7 @@ module _ {text s : List ℕ} {lo hi : ℕ} {d : List ℕ} {at first mid m : ℕ}
       let few = t .few in
       let tag-is = sym (oe ∙ root-tag (binary og o l r) (f .here)) in
       leaves-done (fold-expression (first + size l) r) (λ y. fold (first + (size l + size r)) (binary og o x y))
-      (subst (λ (j : ℕ). Leaves d m (fold-expression (first + j) r) (Folded.Done n) d₁) e₁ (g r i))
+      (subst (λ (j : ℕ). Leaves d m (fold-expression (first + j) r) (Rewritten.Done n) d₁) e₁ (g r i))
       (λ y e a. let ((v, sy), h₅) = result-here (first + size l) r y i e a (omega arith) long in
       let kept = before-stays a h₂ in
       leaves-moved (sym (take-take at m d₁ h₁) ∙ (ap (take at) kept ∙ take-take at m d h₁))
@@ -250,7 +250,7 @@ module _ {text s : List ℕ} {lo hi : ℕ} {d : List ℕ} {at first mid m : ℕ}
   left-in = expressions.here-in (t .left .y) (t .left .here)
 
   -- the right operand's result, wherever it was written
-  pub right-result : {n at₁ : ℕ} {d₁ : List ℕ} (next : ℕ) → at₁ ≤ m → length d₁ ≡ length d → Folds text next s mid (hi - cell-words) d at₁ (Folded.Done n) d₁
+  pub right-result : {n at₁ : ℕ} {d₁ : List ℕ} (next : ℕ) → at₁ ≤ m → length d₁ ≡ length d → Folds text next s mid (hi - cell-words) d at₁ (Rewritten.Done n) d₁
       → Result-at text d at₁ (hi - cell-words - mid) n d₁
   right-result next h long g = let (h₁, h₂) = foldable-in the-right in let room = t .room in result-at next the-right g (omega arith) long
 
@@ -261,11 +261,11 @@ module _ {text s : List ℕ} {lo hi : ℕ} {d : List ℕ} {at first mid m : ℕ}
   pub left-operand : {tag-of : ℕ} {k : Cell} → tag-of ≡ tag-at s hi → k ≡ cell-at d m → OperandOf tag-of k
   left-operand oe ke = record { operator = the-operator oe; e = t .left .y; is = ke ∙ root-is (t .left .y) (t .left .here) }
 
-  pub neutral-ready : {n at₁ : ℕ} {d₁ : List ℕ} (next : ℕ) → at₁ ≤ m → length d₁ ≡ length d → Folds text next s mid (hi - cell-words) d at₁ (Folded.Done n) d₁ → OperandAt d₁ at₁ n
+  pub neutral-ready : {n at₁ : ℕ} {d₁ : List ℕ} (next : ℕ) → at₁ ≤ m → length d₁ ≡ length d → Folds text next s mid (hi - cell-words) d at₁ (Rewritten.Done n) d₁ → OperandAt d₁ at₁ n
   neutral-ready next h long g = let few = t .few in record { text = text; operand = right-result next h long g .stands; few = omega arith }
 
   pub binary-ready : {n tag-of : ℕ} {k : Cell} {q : Bool} {d₁ : List ℕ} (next : ℕ) → (oe : tag-of ≡ tag-at s hi) → (ke : k ≡ cell-at d m) → Neutral tag-of k q → q ≡ false → length d₁ ≡ length d
-      → Folds text next s mid (hi - cell-words) d m (Folded.Done n) d₁ → BinaryAt text d₁ at m n tag-of
+      → Folds text next s mid (hi - cell-words) d m (Rewritten.Done n) d₁ → BinaryAt text d₁ at m n tag-of
   binary-ready next oe ke z qe long g =
       let v = right-result next (omega arith) long g in
       let o = the-operator oe in

@@ -12,8 +12,8 @@ use Rattle.sql.specs.Optimizer.{Operand, deciding, neutral, undetermined, opera
 use Rattle.sheet_laws.specs.Fits.{Value-fits}
 use Rattle.sound.specs.Answers.{valued-bind, Answered, answered-then, answered-place}
 use Rattle.sound.specs.Values.{evaluate-fits}
-use Rattle.words.proofs.Expressions.{constant-tag}
-use Rattle.fold_operator.specs.Left.{Constants-fit, Settled}
+use Rattle.cells.proofs.words.Expressions.{constant-tag}
+use Rattle.folding.specs.fold_operator.Left.{Constants-fit, Settled}
 
 module _ (text : List ℕ) where
   pub constant-settled : (og : ℕ) (v : Value) → Value-fits text (length text) v → Settled text (constant og v)

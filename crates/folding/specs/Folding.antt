@@ -8,9 +8,9 @@ use Rattle.sql.specs.Answer.{_>>=_}
 use Rattle.sql.specs.Optimizer.{fold, fold-expression}
 use Rattle.cells.specs.Cells.{cell-words, tag-at, start-at}
 use Rattle.cells.specs.Room.{Short}
-use Rattle.words.specs.Place.{ExpressionHere}
-use Rattle.fold_operator.specs.declared.Folded.{Folded}
-use Rattle.fold_operator.specs.Left.{Constants-fit, Settled, SettledAt, Leaves}
+use Rattle.cells.specs.words.Place.{ExpressionHere}
+use Rattle.folding.specs.declared.fold_operator.Rewritten.{Rewritten}
+use Rattle.folding.specs.fold_operator.Left.{Constants-fit, Settled, SettledAt, Leaves}
 use Rattle.sheet.specs.Tags
 
 -- e stands in s from word lo up to hi, and its constants fit.
@@ -29,7 +29,7 @@ abbrev pub Counts : ℕ → ℕ → ℕ → Type 0
 Counts lo hi r = (n : ℕ) → hi ≡ lo + cell-words * n → r ≡ n
 
 -- fold-expression of the expression from lo up to hi, whose first cell has the number `first` in the given sheet
-abbrev pub Folds : List ℕ → ℕ → List ℕ → ℕ → ℕ → List ℕ → ℕ → Folded → List ℕ → Type 0
+abbrev pub Folds : List ℕ → ℕ → List ℕ → ℕ → ℕ → List ℕ → ℕ → Rewritten → List ℕ → Type 0
 Folds text first s lo hi d at r d′ = (e : Expression) → Foldable text s lo hi e → Leaves d at (fold-expression first e) r d′
 
 -- ---- between the two operands of an operator
@@ -45,7 +45,7 @@ pub record RightAt (text s : List ℕ) (lo hi : ℕ) (d : List ℕ) (at first mi
   pub few : Short d
   pub numbered : first ≤ lo
 
-abbrev pub FoldsRight : List ℕ → List ℕ → ℕ → ℕ → List ℕ → ℕ → ℕ → ℕ → ℕ → Folded → List ℕ → Type 0
+abbrev pub FoldsRight : List ℕ → List ℕ → ℕ → ℕ → List ℕ → ℕ → ℕ → ℕ → ℕ → Rewritten → List ℕ → Type 0
 FoldsRight text s lo hi d at first mid m answer d′ =
     (og : ℕ) (o : Binary) (l r x : Expression) → Foldable text s lo hi (binary og o l r) → ExpressionHere d at m x → Settled text x
     → Leaves d at (fold-expression (first + size l) r >>= λ y. fold (first + (size l + size r)) (binary og o x y)) answer d′

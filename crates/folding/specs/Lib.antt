@@ -1,1 +1,3 @@
 pub mod Folding
+pub mod evaluate
+pub mod fold_operator

@@ -1,10 +1,14 @@
 // optimizer.rs, ConstantFolding of an expression in its working form: it is read from one slice, and what it folds to is appended to another.
-use fold_operator::Folded;
+use crate::fold_operator::Rewritten;
 ghost use Prim.Native.Nat.{ℕ, _+_, _-_, _≤_, _<_};
 ghost use mathlib.Core.Path.{_≡_};
 ghost use lib.ListN.{length};
 ghost use Rattle.cells.specs.Room.{Short};
 ghost use Rattle.folding.specs.Folding.{Counts, FoldableAt, Folds, RightAt, FoldsRight};
+use sheet::tags;
+
+pub mod evaluate;
+pub mod fold_operator;
 
 // The number of cells from word lo up to hi.
 fn count(lo: usize, hi: usize) -> usize
@@ -24,28 +28,28 @@ pub fn fold_expression(
     d: &mut [u32],
     at: usize,
     first: usize,
-) -> Folded
+) -> Rewritten
     requires { ⌜ FoldableAt (now text) (now s) lo hi ⌝ }
     requires { ⌜ (at + (hi - lo) ≤ length (now d)) × ((first ≤ lo) × Short (now d)) ⌝ }
     ensures { λ r. ⌜ Folds (now (text .entry)) first (now (s .entry)) lo hi (now (d .entry)) at r (now (d .exit)) ⌝ }
 {
     let k = cells::cell_at(s, hi);
     if k.tag < tags::BINARY {
-        return Folded::Done(cells::put(d, at, at, k));
+        return Rewritten::Done(cells::put(d, at, at, k));
     }
     let end = hi - cells::CELL_WORDS;
     if tags::UNARY <= k.tag {
         return match fold_operand(text, s, lo, end, d, at, first) {
-            Folded::Done(n) => {
+            Rewritten::Done(n) => {
                 fold_operator::fold_unary(d, at, n, k.tag, first + count(lo, end), k.origin)
             }
-            Folded::Refused(number, place) => Folded::Refused(number, place),
+            Rewritten::Refused(number, place) => Rewritten::Refused(number, place),
         };
     }
     let mid = cells::start(s, end);
     match fold_operand(text, s, lo, mid, d, at, first) {
-        Folded::Done(m) => fold_right(text, s, lo, hi, d, at, first, mid, m),
-        Folded::Refused(number, place) => Folded::Refused(number, place),
+        Rewritten::Done(m) => fold_right(text, s, lo, hi, d, at, first, mid, m),
+        Rewritten::Refused(number, place) => Rewritten::Refused(number, place),
     }
 }
 
@@ -59,14 +63,14 @@ fn fold_operand(
     d: &mut [u32],
     at: usize,
     first: usize,
-) -> Folded
+) -> Rewritten
     requires { ⌜ FoldableAt (now text) (now s) lo hi ⌝ }
     requires { ⌜ (at + (hi - lo) ≤ length (now d)) × ((first ≤ lo) × Short (now d)) ⌝ }
     ensures { λ r. ⌜ Folds (now (text .entry)) first (now (s .entry)) lo hi (now (d .entry)) at r (now (d .exit)) ⌝ }
 {
     let k = cells::cell_at(s, hi);
     if k.tag < tags::BINARY {
-        return Folded::Done(cells::put(d, at, at, k));
+        return Rewritten::Done(cells::put(d, at, at, k));
     }
     fold_expression(text, s, lo, hi, d, at, first)
 }
@@ -83,7 +87,7 @@ fn fold_right(
     first: usize,
     mid: usize,
     m: usize,
-) -> Folded
+) -> Rewritten
     requires { ⌜ RightAt (now text) (now s) lo hi (now d) at first mid m ⌝ }
     ensures { λ r. ⌜ FoldsRight (now (text .entry)) (now (s .entry)) lo hi (now (d .entry)) at first mid m r (now (d .exit)) ⌝ }
 {
@@ -94,12 +98,12 @@ fn fold_right(
     let place = first + count(lo, end);
     if fold_operator::is_neutral(o, cells::cell_at(d, m)) {
         return match fold_operand(text, s, mid, end, d, at, next) {
-            Folded::Done(n) => fold_operator::fold_neutral(d, at, n, place, origin),
-            Folded::Refused(number, p) => Folded::Refused(number, p),
+            Rewritten::Done(n) => fold_operator::fold_neutral(d, at, n, place, origin),
+            Rewritten::Refused(number, p) => Rewritten::Refused(number, p),
         };
     }
     match fold_operand(text, s, mid, end, d, m, next) {
-        Folded::Done(n) => fold_operator::fold_binary(text, d, at, m, n, o, place, origin),
-        Folded::Refused(number, p) => Folded::Refused(number, p),
+        Rewritten::Done(n) => fold_operator::fold_binary(text, d, at, m, n, o, place, origin),
+        Rewritten::Refused(number, p) => Rewritten::Refused(number, p),
     }
 }

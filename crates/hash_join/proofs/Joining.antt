@@ -18,28 +18,28 @@ use Rattle.cells.specs.declared.Cell.{Cell}
 use Rattle.cells.specs.Cells.{cell-words, sized, cell-at, tag-at, start-at}
 use Rattle.cells.specs.Room.{Wrote, Seals, Copies}
 use Rattle.cells.proofs.Laws.{then}
-use Rattle.words.specs.Words.{cell, join-own, operand-words, root, node-words}
-use Rattle.words.specs.Place.{NodeHere, ExpressionHere, ExpressionAt}
-use Rattle.words.proofs.Expressions.{shape}
-use Rattle.words.proofs.Nodes.{node-shape, node-in, node-long, node-cell-is, node-tag, own-part, over-source, join-left, join-right}
-use Rattle.words.proofs.Sizes.{words-long, sized-long}
-use Rattle.words.proofs.Tags.{over-tag, tagged, by-leaf, by-over, by-join}
+use Rattle.cells.specs.words.Words.{cell, join-own, operand-words, root, node-words}
+use Rattle.cells.specs.words.Place.{NodeHere, ExpressionHere, ExpressionAt}
+use Rattle.cells.proofs.words.Expressions.{shape}
+use Rattle.cells.proofs.words.Nodes.{node-shape, node-in, node-long, node-cell-is, node-tag, own-part, over-source, join-left, join-right}
+use Rattle.cells.proofs.words.Sizes.{words-long, sized-long}
+use Rattle.cells.proofs.words.Tags.{over-tag, tagged, by-leaf, by-over, by-join}
 use Rattle.nodes.specs.Own.{OwnStart, SourceCount}
 use Rattle.nodes.specs.Columns.{ColumnsAt, ColumnCount}
-use Rattle.records.specs.Records.{Tables}
+use Rattle.layout.specs.records.Records.{Tables}
 use Rattle.nodes.proofs.Widths.{few-columns}
-use Rattle.kept.specs.Kept.{sound-narrow}
-use Rattle.column_numbers.specs.Columns.{source-of}
-use Rattle.column_lookup.specs.Lookup.{pair}
-use Rattle.column_lookup.specs.declared.ColumnPair.{ColumnPair}
-use Rattle.column_lookup.specs.declared.ColumnPair.the-variants as ColumnPair
-use Rattle.column_numbers.specs.declared.LeftColumn.{LeftColumn}
-use Rattle.column_numbers.specs.declared.RightColumn.{RightColumn}
-use Rattle.column_numbers.specs.declared.JoinedColumn.{JoinedColumn}
-use Rattle.column_numbers.specs.declared.SourceColumn.{SourceColumn}
-use Rattle.column_numbers.specs.declared.SourceColumn.the-variants.{Left, Right}
-use Rattle.stream.specs.Stream.{StreamAt, Streams, Finishes}
-use Rattle.stream.proofs.Streams.{reading-total, written-done, finishes-node}
+use Rattle.edits.specs.kept.SoundAs.{sound-narrow}
+use Rattle.columns.specs.column_numbers.Columns.{source-of}
+use Rattle.columns.specs.column_lookup.Lookup.{pair}
+use Rattle.columns.specs.declared.column_lookup.ColumnPair.{ColumnPair}
+use Rattle.columns.specs.declared.column_lookup.ColumnPair.the-variants as ColumnPair
+use Rattle.columns.specs.declared.column_numbers.LeftColumn.{LeftColumn}
+use Rattle.columns.specs.declared.column_numbers.RightColumn.{RightColumn}
+use Rattle.columns.specs.declared.column_numbers.JoinedColumn.{JoinedColumn}
+use Rattle.columns.specs.declared.column_numbers.SourceColumn.{SourceColumn}
+use Rattle.columns.specs.declared.column_numbers.SourceColumn.the-variants.{Left, Right}
+use Rattle.edits.specs.stream.Stream.{StreamAt, Streams, Finishes}
+use Rattle.edits.proofs.stream.Streams.{reading-total, written-done, finishes-node}
 use Rattle.hash_join.specs.Hash.{sides, hash-sides, hash-cell, JoinAt, Rewrites, Writes}
 use Rattle.hash_join.specs.declared.HashColumns.{HashColumns}
 use Rattle.hash_join.specs.declared.HashColumns.the-variants.{Pair, None}

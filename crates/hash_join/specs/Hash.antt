@@ -11,10 +11,10 @@ use Rattle.sql.specs.Plan.{Join, Node, join}
 use Rattle.sql.specs.Optimizer.{hash-join, HashJoin}
 use Rattle.cells.specs.declared.Cell.{Cell}
 use Rattle.cells.specs.Room.{Wrote}
-use Rattle.words.specs.Words.{node-words}
-use Rattle.words.specs.Place.{NodeHere}
+use Rattle.cells.specs.words.Words.{node-words}
+use Rattle.cells.specs.words.Place.{NodeHere}
 use Rattle.nodes.specs.Own.{OwnStart}
-use Rattle.records.specs.Records.{Tables}
+use Rattle.layout.specs.records.Records.{Tables}
 use Rattle.hash_join.specs.declared.HashColumns.{HashColumns}
 use Rattle.hash_join.specs.declared.HashColumns.the-variants.{Pair, None}
 use Rattle.sheet.specs.Tags

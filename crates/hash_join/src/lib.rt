@@ -5,10 +5,14 @@ ghost use Rattle.sql.specs.Answer.{done};
 ghost use Rattle.sql.specs.Optimizer.{HashJoin};
 ghost use Rattle.nodes.specs.Own.{OwnStart, SourceCount};
 ghost use Rattle.nodes.specs.Columns.{ColumnsAt, ColumnCount};
-ghost use Rattle.records.specs.Records.{Tables};
-ghost use Rattle.column_lookup.specs.Lookup.{pair};
-ghost use Rattle.stream.specs.Stream.{StreamAt, Streams};
+ghost use Rattle.layout.specs.records.Records.{Tables};
+ghost use Rattle.columns.specs.column_lookup.Lookup.{pair};
+ghost use Rattle.edits.specs.stream.Stream.{StreamAt, Streams};
 ghost use Rattle.hash_join.specs.Hash.{sides, hash-sides, hash-cell, JoinAt, Rewrites, Writes};
+use columns::column_lookup;
+use columns::column_numbers;
+use edits::stream;
+use sheet::tags;
 
 // The columns of a hash join.
 enum HashColumns {
@@ -50,38 +54,46 @@ fn hash_join_cell(
     }
 }
 
-// hash_join of the join that ends before hi, whose own words start at m and whose left source has n columns: behind its sources, which were written to y
-// from lo up to at.
-fn hash_join(x: &[u32], m: usize, hi: usize, y: &mut [u32], lo: usize, at: usize, n: usize) -> usize
-    requires { ⌜ JoinAt (now x) m hi ⌝ }
-    ensures { λ r. ⌜ Rewrites n (now (x .entry)) m hi (now (y .entry)) lo at r (now (y .exit)) ⌝ }
+// hash_join (optimizer.rs) of the join that ends before hi, whose own words start at m and whose left source has n columns: behind its sources, which were
+// written to `output` from lo up to at.
+fn hash_join_node(
+    plan: &[u32],
+    m: usize,
+    hi: usize,
+    output: &mut [u32],
+    lo: usize,
+    at: usize,
+    n: usize,
+) -> usize
+    requires { ⌜ JoinAt (now plan) m hi ⌝ }
+    ensures { λ r. ⌜ Rewrites n (now (plan .entry)) m hi (now (output .entry)) lo at r (now (output .exit)) ⌝ }
 {
     let end = hi - cells::CELL_WORDS;
     if m == end {
-        return stream::finish(x, m, hi, y, lo, at);
+        return stream::finish(plan, m, hi, output, lo, at);
     }
-    let columns = column_lookup::equijoin(x, m, end);
+    let columns = column_lookup::equijoin(plan, m, end);
     let HashColumns::Pair(left_column, right_column) = one_on_each_side(columns, n) else {
-        return stream::finish(x, m, hi, y, lo, at);
+        return stream::finish(plan, m, hi, output, lo, at);
     };
-    let cell = hash_join_cell(cells::cell_at(x, hi), left_column, right_column);
-    cells::put(y, lo, at, cell)
+    let cell = hash_join_cell(cells::cell_at(plan, hi), left_column, right_column);
+    cells::put(output, lo, at, cell)
 }
 
 // The columns of the node from lo to hi over one source, which has n columns.
-fn over_columns(x: &[u32], lo: usize, hi: usize, tables: &[u8], m: usize, n: usize) -> usize
-    requires { ⌜ ColumnsAt (now tables) (now x) lo hi ⌝ }
-    requires { ⌜ SourceCount (now x) lo hi 1 ⌝ }
-    requires { ⌜ OwnStart (now x) lo hi m ⌝ }
-    requires { ⌜ ColumnCount (now tables) (now x) lo m n ⌝ }
-    ensures { λ r. ⌜ ColumnCount (now (tables .entry)) (now (x .entry)) lo hi r ⌝ }
+fn over_columns(plan: &[u32], lo: usize, hi: usize, tables: &[u8], m: usize, n: usize) -> usize
+    requires { ⌜ ColumnsAt (now tables) (now plan) lo hi ⌝ }
+    requires { ⌜ SourceCount (now plan) lo hi 1 ⌝ }
+    requires { ⌜ OwnStart (now plan) lo hi m ⌝ }
+    requires { ⌜ ColumnCount (now tables) (now plan) lo m n ⌝ }
+    ensures { λ r. ⌜ ColumnCount (now (tables .entry)) (now (plan .entry)) lo hi r ⌝ }
 {
-    let tag = cells::tag_at(x, hi);
+    let tag = cells::tag_at(plan, hi);
     if tag == tags::AGGREGATE {
-        return nodes::columns(x, lo, hi, tables);
+        return nodes::columns(plan, lo, hi, tables);
     }
     if tags::PROJECTION <= tag {
-        return nodes::columns(x, lo, hi, tables);
+        return nodes::columns(plan, lo, hi, tables);
     }
     n
 }
@@ -93,28 +105,35 @@ struct Written {
 }
 
 // The node from lo to hi with all its joins rewritten.
-fn hash_joins(x: &[u32], lo: usize, hi: usize, y: &mut [u32], at: usize, tables: &[u8]) -> Written
-    requires { ⌜ ColumnsAt (now tables) (now x) lo hi ⌝ }
-    ensures { λ r. ⌜ Writes (now (tables .entry)) (now (x .entry)) lo hi (now (y .entry)) at (r .end) (now (y .exit)) ⌝ }
-    ensures { λ r. ⌜ ColumnCount (now (tables .entry)) (now (x .entry)) lo hi (r .columns) ⌝ }
+fn hash_joins(
+    plan: &[u32],
+    lo: usize,
+    hi: usize,
+    output: &mut [u32],
+    at: usize,
+    tables: &[u8],
+) -> Written
+    requires { ⌜ ColumnsAt (now tables) (now plan) lo hi ⌝ }
+    ensures { λ r. ⌜ Writes (now (tables .entry)) (now (plan .entry)) lo hi (now (output .entry)) at (r .end) (now (output .exit)) ⌝ }
+    ensures { λ r. ⌜ ColumnCount (now (tables .entry)) (now (plan .entry)) lo hi (r .columns) ⌝ }
 {
-    let sources = nodes::source_count(x, lo, hi);
+    let sources = nodes::source_count(plan, lo, hi);
     if sources == 0 {
-        let columns = nodes::columns(x, lo, hi, tables);
-        let end = cells::copy(x, lo, hi, y, at);
+        let columns = nodes::columns(plan, lo, hi, tables);
+        let end = cells::copy(plan, lo, hi, output, at);
         return Written { end, columns };
     }
-    let m = nodes::own_start(x, lo, hi);
+    let m = nodes::own_start(plan, lo, hi);
     if sources == 1 {
-        let s = hash_joins_of_source(x, lo, m, y, at, tables);
-        let columns = over_columns(x, lo, hi, tables, m, s.columns);
-        let end = stream::finish(x, m, hi, y, at, s.end);
+        let s = hash_joins_of_source(plan, lo, m, output, at, tables);
+        let columns = over_columns(plan, lo, hi, tables, m, s.columns);
+        let end = stream::finish(plan, m, hi, output, at, s.end);
         return Written { end, columns };
     }
-    let mid = cells::start(x, m);
-    let l = hash_joins_of_source(x, lo, mid, y, at, tables);
-    let r = hash_joins_of_source(x, mid, m, y, l.end, tables);
-    let end = hash_join(x, m, hi, y, at, r.end, l.columns);
+    let mid = cells::start(plan, m);
+    let l = hash_joins_of_source(plan, lo, mid, output, at, tables);
+    let r = hash_joins_of_source(plan, mid, m, output, l.end, tables);
+    let end = hash_join_node(plan, m, hi, output, at, r.end, l.columns);
     Written {
         end,
         columns: l.columns + r.columns,
@@ -123,30 +142,30 @@ fn hash_joins(x: &[u32], lo: usize, hi: usize, y: &mut [u32], at: usize, tables:
 
 // hash_joins of a node's source. A source of one cell, as a Scan without a filter, stays as it is, and needs no call of hash_joins.
 fn hash_joins_of_source(
-    x: &[u32],
+    plan: &[u32],
     lo: usize,
     hi: usize,
-    y: &mut [u32],
+    output: &mut [u32],
     at: usize,
     tables: &[u8],
 ) -> Written
-    requires { ⌜ ColumnsAt (now tables) (now x) lo hi ⌝ }
-    ensures { λ r. ⌜ Writes (now (tables .entry)) (now (x .entry)) lo hi (now (y .entry)) at (r .end) (now (y .exit)) ⌝ }
-    ensures { λ r. ⌜ ColumnCount (now (tables .entry)) (now (x .entry)) lo hi (r .columns) ⌝ }
+    requires { ⌜ ColumnsAt (now tables) (now plan) lo hi ⌝ }
+    ensures { λ r. ⌜ Writes (now (tables .entry)) (now (plan .entry)) lo hi (now (output .entry)) at (r .end) (now (output .exit)) ⌝ }
+    ensures { λ r. ⌜ ColumnCount (now (tables .entry)) (now (plan .entry)) lo hi (r .columns) ⌝ }
 {
     if hi - lo == cells::CELL_WORDS {
-        let columns = nodes::columns(x, lo, hi, tables);
-        let end = cells::copy(x, lo, hi, y, at);
+        let columns = nodes::columns(plan, lo, hi, tables);
+        let end = cells::copy(plan, lo, hi, output, at);
         return Written { end, columns };
     }
-    hash_joins(x, lo, hi, y, at, tables)
+    hash_joins(plan, lo, hi, output, at, tables)
 }
 
-// The pass: the plan in the first t words of x is written to y.
-pub fn optimize(x: &[u32], t: usize, y: &mut [u32], tables: &[u8]) -> usize
-    requires { ⌜ StreamAt (Tables (now tables)) (now x) 0 t 0 (now y) 0 ⌝ }
-    ensures { λ r. ⌜ Streams (Tables (now (tables .entry))) (λ room schema rest p. done (HashJoin schema p)) (now (x .entry)) 0 t 0 (now (y .entry)) 0 r (now (y .exit)) ⌝ }
+// The pass: the plan in the first `used` words of `plan` is written to `output`.
+pub fn hash_join(plan: &[u32], used: usize, output: &mut [u32], tables: &[u8]) -> usize
+    requires { ⌜ StreamAt (Tables (now tables)) (now plan) 0 used 0 (now output) 0 ⌝ }
+    ensures { λ r. ⌜ Streams (Tables (now (tables .entry))) (λ room schema rest p. done (HashJoin schema p)) (now (plan .entry)) 0 used 0 (now (output .entry)) 0 r (now (output .exit)) ⌝ }
 {
-    let plan = hash_joins(x, 0, t, y, 0, tables);
-    plan.end
+    let written = hash_joins(plan, 0, used, output, 0, tables);
+    written.end
 }

@@ -1,4 +1,4 @@
--- IndexLookup of a chain (crate chain) is the chain over IndexLookup of the node below it.
+-- IndexLookup of a chain (module chain) is the chain over IndexLookup of the node below it.
 use Prim.Native.Nat.{ℕ, _+_, _-_, _≤_, _<_}
 use native.Mathlib.Omega.{arith}
 use mathlib.Core.Path.{_≡_, refl, sym, _∙_, subst}
@@ -9,13 +9,13 @@ use Rattle.sql.specs.Expression.{Marked}
 use Rattle.sql.specs.Plan.{Other, Node, over}
 use Rattle.sql.specs.Answer.{Answer, done, refused, _>>=_}
 use Rattle.sql.specs.Room.{IndexLookup}
-use Rattle.words.specs.Place.{NodeHere, NodeAt}
-use Rattle.chain.specs.Chain.{chain, sizes, GoesDown, ChainAt, Follows}
-use Rattle.chain.proofs.Chains.{chain-long, chain-end, each, chain-left}
-use Rattle.chain.proofs.Edits.{chain-source, chain-with}
-use Rattle.kept.specs.Kept.{Kept, kept}
-use Rattle.stream.specs.Stream.{Reading, StreamAt, Streamed, Streams}
-use Rattle.stream.proofs.Streams.{written-done, done-long, done-wrote, done-here, streamed-stop}
+use Rattle.cells.specs.words.Place.{NodeHere, NodeAt}
+use Rattle.edits.specs.chain.Chain.{chain, sizes, GoesDown, ChainAt, Follows}
+use Rattle.edits.proofs.chain.Chains.{chain-long, chain-end, each, chain-left}
+use Rattle.edits.proofs.chain.Edits.{chain-source, chain-with}
+use Rattle.edits.specs.kept.SoundAs.{Sound-as, kept}
+use Rattle.edits.specs.stream.Stream.{Reading, StreamAt, Streamed, Streams}
+use Rattle.edits.proofs.stream.Streams.{written-done, done-long, done-wrote, done-here, streamed-stop}
 
 lookup-chain : (room : ℕ) (schema : Schema) (rest : ℕ) (os : List (Marked Other)) (p : Node)
     → IndexLookup room schema rest (chain os p) ≡ (IndexLookup room schema (rest + sizes os) p >>= λ q. done (chain os q))
@@ -28,7 +28,7 @@ pub stream-stands : {Lent : Schema → Type 0} {f : ℕ → Schema → ℕ → N
 stream-stands {f = f} {tail = tail} {y = y} {at = at} {u = u} {y₁ = y₁} g a h =
     go (f (g .room) (g .schema) (g .rest) (g .p)) (a (g .schema) (g .text) (g .tables) (g .lent) (g .room) (g .rest) (g .p) (g .reading))
   where
-    go : (o : Answer Node) → Streamed (Kept (g .schema) (g .text) (g .tables) (g .p)) y at tail u y₁ o → NodeAt y₁ at u
+    go : (o : Answer Node) → Streamed (Sound-as (g .schema) (g .text) (g .tables) (g .p)) y at tail u y₁ o → NodeAt y₁ at u
     go (done q) s = record { p = q; here = done-here q (omega (arith, g .reading .fits)) s }
     go (refused number place) s = absurd (omega (arith, s .is .0))
 
@@ -78,21 +78,21 @@ module _ {x : List ℕ} {n lo hi left end : ℕ} (d : GoesDown x n lo hi left en
     -- the node below is refused
     pub chain-stop : length y₁ < u → Streams Lent IndexLookup x lo hi tail y at u y₁
     chain-stop z schema text tables lent room rest p h =
-        by-chain (λ p. Streamed (Kept schema text tables p) y at tail u y₁ (IndexLookup room schema rest p))
+        by-chain (λ p. Streamed (Sound-as schema text tables p) y at tail u y₁ (IndexLookup room schema rest p))
         (λ os p v h. rw (lookup-chain room schema rest os p)
         (streamed-stop (IndexLookup room schema (rest + sizes os) p) (a schema text tables lent room (rest + sizes os) p (below-reading os p v h)) (λ q. done (chain os q)) z))
         p h
 
     pub chain-go : length y₁ ≡ length y → {r : ℕ} {y₂ : List ℕ} → length y₂ ≡ length y₁ → Follows x end hi y₁ at u r y₂ → Streams Lent IndexLookup x lo hi tail y at r y₂
     chain-go k₁ {r} {y₂} k₂ f schema text tables lent room rest p h =
-        by-chain (λ p. Streamed (Kept schema text tables p) y at tail r y₂ (IndexLookup room schema rest p))
+        by-chain (λ p. Streamed (Sound-as schema text tables p) y at tail r y₂ (IndexLookup room schema rest p))
         (λ os p v h. rw (lookup-chain room schema rest os p)
         (go os p v h (IndexLookup room schema (rest + sizes os) p) (a schema text tables lent room (rest + sizes os) p (below-reading os p v h))))
         p h
       where
         go : (os : List (Marked Other)) (p : Node) → NodeHere x lo end p → Reading schema text tables x lo hi tail y at room rest (chain os p)
-            → (o : Answer Node) → Streamed (Kept schema text tables p) y at (tail + (hi - end)) u y₁ o
-            → Streamed (Kept schema text tables (chain os p)) y at tail r y₂ (o >>= λ q. done (chain os q))
+            → (o : Answer Node) → Streamed (Sound-as schema text tables p) y at (tail + (hi - end)) u y₁ o
+            → Streamed (Sound-as schema text tables (chain os p)) y at tail r y₂ (o >>= λ q. done (chain os q))
         go os p v h (done q) s =
             let i : at ≤ length y = omega (arith, h .fits) in
             written-done (chain os q) (chain-with (kept schema text tables) os p q (h .fit) (s .is .1 .1)) (k₂ ∙ k₁)

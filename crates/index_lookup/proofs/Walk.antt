@@ -13,16 +13,16 @@ use Rattle.sql.specs.Answer.{Answer, done, _>>=_}
 use Rattle.sql.specs.Room.{IndexLookup}
 use Rattle.cells.specs.Cells.{cell-words, start-at}
 use Rattle.cells.specs.Room.{Copies}
-use Rattle.words.specs.Words.{cell, operand-words, root}
-use Rattle.words.proofs.Expressions.{shape}
-use Rattle.words.proofs.Nodes.{node-long}
-use Rattle.words.proofs.Sizes.{sized-long}
+use Rattle.cells.specs.words.Words.{cell, operand-words, root}
+use Rattle.cells.proofs.words.Expressions.{shape}
+use Rattle.cells.proofs.words.Nodes.{node-long}
+use Rattle.cells.proofs.words.Sizes.{sized-long}
 use Rattle.nodes.specs.Own.{OwnStart, SourceCount}
-use Rattle.stream.specs.Stream.{Streams, Finishes}
-use Rattle.stream.proofs.Sources.{one-cell, source-stop, source-go, over-done, left-stop, right-stop, both-go, join-done}
-use Rattle.lookup_step.specs.Lookup.{HasFilter}
-use Rattle.records.specs.Records.{Records}
-use Rattle.lookup_step.proofs.Steps.{leaf-copied}
+use Rattle.edits.specs.stream.Stream.{Streams, Finishes}
+use Rattle.edits.proofs.stream.Sources.{one-cell, source-stop, source-go, over-done, left-stop, right-stop, both-go, join-done}
+use Rattle.index_lookup.specs.lookup_step.Lookup.{HasFilter}
+use Rattle.layout.specs.records.Records.{Records}
+use Rattle.index_lookup.proofs.lookup_step.Steps.{leaf-copied}
 
 after-source : ℕ → Schema → ℕ → ℕ → Over → Node → Node → Answer Node
 after-source room schema rest og o n q = done (over og o q)

@@ -10,6 +10,9 @@ ghost use Rattle.sheet.specs.Parts as Sheet;
 ghost use Rattle.sheet.specs.Cell.{cell, cell-from, origins, tag-of, field-ok, fields-ok, float-ok, cell-ok, bad-cell, bad-number};
 ghost use Rattle.layout.specs.Layout.{Number, Whole, Laid, IsTable, IsCell, IsColumn, table-from, table-at, column-from, column-at, column-fields-ok, bad-column, as-cell, found};
 ghost use Rattle.layout.specs.Row.{field-of, tag-from};
+use sheet::tags;
+
+pub mod records;
 
 // ---- numbers, little-endian
 

@@ -18,7 +18,7 @@ use Rattle.value.specs.Arithmetic.{checked, add-integers, divide-integers, iden
 use Rattle.value.specs.Arithmetic as Defined
 use Rattle.value.specs.Undefined.{is-null, is-nan}
 use Rattle.value.specs.Undefined as Undefined
-use Rattle.value.proofs.Comparison.{equal-floats, less-floats, greater-floats, less-integers, greater-integers, swapped-bytes}
+use Rattle.value.proofs.Compared.{equal-floats, less-floats, greater-floats, less-integers, greater-integers, swapped-bytes}
 use Rattle.literal.specs.Rust.{Ok, Err, _⇒_, _else_}
 use Rattle.literal.specs.Value.{document-01, in-i64, i64-eq, bytes-eq, bytes-lt, Boolean, Integer, eq, is-undefined, checked-add, checked-div}
 use Rattle.literal.specs.Expression.{evaluate-and, evaluate-or, evaluate-not, evaluate-equal, evaluate-greater-than, evaluate-less-than, evaluate-is-nan, evaluate-identity, evaluate-negate}

@@ -13,12 +13,12 @@ use Rattle.sheet.specs.Content.{constant-cell, label-cell, target-cell, item-ce
 use Rattle.cells.specs.declared.Cell.{Cell}
 use Rattle.cells.specs.Cells.{cell-words, sized, cell-at, tag-at, Part}
 use Rattle.cells.proofs.Laws.{lt-or-ge}
-use Rattle.words.specs.Words.{cell, all-words, root, operand-words, expression-words, optional-words, constant-words, label-words, target-words, item-words, key-words, agg-words, row-words, leaf-own, over-own, join-own, own-words, source-words, node-cell, leaf-cell, over-cell, join-cell, source-count}
-use Rattle.words.specs.Place.{NodeHere, NodeAt}
-use Rattle.words.proofs.Expressions.{tag-cell, shape, by-leaf}
-use Rattle.words.proofs.Nodes.{node-cell-is, node-tag, own-part, node-in, node-long}
-use Rattle.words.proofs.Sizes.{over-long}
-use Rattle.words.proofs.Tags.{tag-of, tagged, tag-known, told, sources-by-tag, by-aggregate, by-filter, by-remap, by-nested-loop}
+use Rattle.cells.specs.words.Words.{cell, all-words, root, operand-words, expression-words, optional-words, constant-words, label-words, target-words, item-words, key-words, agg-words, row-words, leaf-own, over-own, join-own, own-words, source-words, node-cell, leaf-cell, over-cell, join-cell, source-count}
+use Rattle.cells.specs.words.Place.{NodeHere, NodeAt}
+use Rattle.cells.proofs.words.Expressions.{tag-cell, shape, by-leaf}
+use Rattle.cells.proofs.words.Nodes.{node-cell-is, node-tag, own-part, node-in, node-long}
+use Rattle.cells.proofs.words.Sizes.{over-long}
+use Rattle.cells.proofs.words.Tags.{tag-of, tagged, tag-known, told, sources-by-tag, by-aggregate, by-filter, by-remap, by-nested-loop}
 use Rattle.nodes.specs.Trees.{Trees, Parts, PartsAt, trees-start}
 use Rattle.nodes.specs.Trees as trees
 use Rattle.nodes.specs.Own.{leaf-count, over-count, join-count, own-count, OwnStart, SourcedAt, OwnTrees, SourceCount}

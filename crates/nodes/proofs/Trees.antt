@@ -8,7 +8,7 @@ use lib.ListN.{length, length-append}
 use Rattle.cells.specs.declared.Cell.{Cell}
 use Rattle.cells.specs.Cells.{cell-words, words, sized, tag-at, start-at, Part, Sized}
 use Rattle.cells.proofs.Laws.{part-left, part-right, part-in, seam, tag-is, start-is, has-size}
-use Rattle.words.specs.Words.{all-words}
+use Rattle.cells.specs.words.Words.{all-words}
 use Rattle.nodes.specs.Trees.{Trees, none, one-more, TreesAt, Parts, no-part, one-part-more, PartsAt, trees-start}
 
 -- ---- trees from their list

@@ -19,15 +19,15 @@ use Rattle.cells.specs.declared.Cell.{Cell}
 use Rattle.cells.specs.Cells.{cell-words, words, sized, cell-at, tag-at, start-at, Part, Sized}
 use Rattle.cells.proofs.Laws.{part-left, part-right, part-in, cell-is, cell-in}
 use Rattle.cells.specs.Room.{most-words}
-use Rattle.words.specs.Words.{cell, all-words, expression-words, target-words, row-words, node-words, source-words, own-words, node-cell, leaf-cell, over-cell, source-count}
-use Rattle.words.specs.Place.{NodeHere, NodeAt}
-use Rattle.words.proofs.Nodes.{node-cell-is, node-tag, node-in, node-long, node-start, node-size-at, source-part, own-part, over-source, sources-sized, join-left, join-right}
-use Rattle.words.proofs.Tags.{tag-of, tagged, leaf-tag, over-tag, by-leaf, by-over, by-join, by-nothing, by-values, over-aggregate, over-projection, over-remap}
-use Rattle.words.proofs.Sizes.{words-long}
+use Rattle.cells.specs.words.Words.{cell, all-words, expression-words, target-words, row-words, node-words, source-words, own-words, node-cell, leaf-cell, over-cell, source-count}
+use Rattle.cells.specs.words.Place.{NodeHere, NodeAt}
+use Rattle.cells.proofs.words.Nodes.{node-cell-is, node-tag, node-in, node-long, node-start, node-size-at, source-part, own-part, over-source, sources-sized, join-left, join-right}
+use Rattle.cells.proofs.words.Tags.{tag-of, tagged, leaf-tag, over-tag, by-leaf, by-over, by-join, by-nothing, by-values, over-aggregate, over-projection, over-remap}
+use Rattle.cells.proofs.words.Sizes.{words-long}
 use Rattle.nodes.specs.Trees.{Trees, TreesAt, trees-start}
 use Rattle.nodes.specs.Own.{own-count, OwnStart, SourceCount}
 use Rattle.nodes.specs.Columns.{Narrow-over, Narrow, ColumnsAt, ColumnCount, past, TargetsAt, RemapColumns, through-over, through, GoesThrough}
-use Rattle.records.specs.Records.{table-width, Tables}
+use Rattle.layout.specs.records.Records.{table-width, Tables}
 use Rattle.nodes.proofs.Trees.{all-trees, trees-start-is, trees-long}
 use Rattle.nodes.proofs.Own.{own-trees}
 

@@ -9,9 +9,9 @@ use Rattle.sql.specs.Schema.{Schema}
 use Rattle.sql.specs.Plan.{limit, offset, order, projection, remap, aggregate, Over, filter, other, Node, leaf, over, join, remap-columns, columns}
 use Rattle.cells.specs.Cells.{Part}
 use Rattle.cells.specs.Room.{most-words}
-use Rattle.words.specs.Words.{all-words, target-words}
-use Rattle.words.specs.Place.{NodeHere}
-use Rattle.records.specs.Records.{Tables}
+use Rattle.cells.specs.words.Words.{all-words, target-words}
+use Rattle.cells.specs.words.Place.{NodeHere}
+use Rattle.layout.specs.records.Records.{Tables}
 
 -- No Remap of the node, or below it, has a Target above 255; a sheet's Targets hold no more.
 abbrev pub Narrow-over : Over → Type 0

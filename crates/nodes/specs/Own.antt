@@ -6,8 +6,8 @@ use mathlib.Core.Option.{Option, none, some}
 use lib.ListN.{length}
 use Rattle.sql.specs.Expression.{Expression}
 use Rattle.sql.specs.Plan.{Leaf, scan, lookup, nothing, values, limit, offset, order, projection, remap, aggregate, Over, filter, other, Join, nested-loop, hash, Node, leaf, over, join}
-use Rattle.words.specs.Words.{source-words, source-count}
-use Rattle.words.specs.Place.{NodeHere, NodeAt}
+use Rattle.cells.specs.words.Words.{source-words, source-count}
+use Rattle.cells.specs.words.Place.{NodeHere, NodeAt}
 
 -- how many trees a node's own words are
 abbrev pub optional-count : Option Expression → ℕ

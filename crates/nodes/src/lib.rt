@@ -3,10 +3,14 @@ ghost use mathlib.Core.Logic.{_⊎_};
 ghost use mathlib.Core.Path.{_≡_};
 ghost use Prim.Native.Nat.{ℕ, _+_, _-_, _≤_, _<_, max};
 ghost use Rattle.cells.specs.Cells.{tag-at};
-ghost use Rattle.words.specs.Place.{NodeAt};
+ghost use Rattle.cells.specs.words.Place.{NodeAt};
 ghost use Rattle.nodes.specs.Trees.{TreesAt, PartsAt, trees-start};
 ghost use Rattle.nodes.specs.Own.{OwnStart, SourcedAt, OwnTrees, SourceCount};
 ghost use Rattle.nodes.specs.Columns.{ColumnsAt, ColumnCount, past, TargetsAt, RemapColumns, GoesThrough};
+use layout::records;
+use sheet::tags;
+
+pub mod labels;
 
 // Where the last n trees start that end before hi.
 pub fn trees_start(s: &[u32], n: usize, hi: usize) -> usize
@@ -218,7 +222,7 @@ fn said_columns(s: &[u32], lo: usize, hi: usize, m: usize, tables: &[u8]) -> usi
     own_columns(s, lo, hi, m, tables)
 }
 
-// plan.rs, columns: how many columns the node from lo to hi emits. tables are the table records (crate records). The node's cells are met from the
+// plan.rs, columns: how many columns the node from lo to hi emits. tables are the table records (module records). The node's cells are met from the
 // last to the first: one whose columns are those of its sources gives way to these, which end where its own words start.
 pub fn columns(s: &[u32], lo: usize, hi: usize, tables: &[u8]) -> usize
     requires { ⌜ ColumnsAt (now tables) (now s) lo hi ⌝ }

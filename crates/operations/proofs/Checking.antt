@@ -16,8 +16,8 @@ use Rattle.sheet_laws.specs.Plan.{Bytes, parts-of, plan-size}
 use Rattle.sound.specs.Refusals.{Refused-by, From-to, plan-refused}
 use Rattle.checker.specs.Checker.{numbers, outcome}
 use Rattle.checker.specs.declared.Answer as Code
-use Rattle.hand_out.specs.HandOut.{Counted}
-use Rattle.sheet_passes.specs.Rooms.{FitsIn}
+use Rattle.operations.specs.hand_out.HandOut.{Counted}
+use Rattle.operations.specs.sheet_passes.Rooms.{FitsIn}
 
 outcome-of : (a : Code.Answer) (out : List ℕ) (m : Numbers) → numbers a ≡ m → outcome a out ≡ record { numbers = m; output = out }
 outcome-of a out m e = ap (λ (z : Numbers). record { numbers = z; output = out }) e

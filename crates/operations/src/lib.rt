@@ -7,23 +7,35 @@ ghost use Prim.Native.Nat.{_≤_};
 ghost use Rattle.sheet.specs.Operations.{one-pass, all-five};
 ghost use Rattle.checker.specs.Checker.{outcome};
 ghost use Rattle.optimizer.specs.Choices.{Choice};
-ghost use Rattle.hand_out.specs.HandOut.{Counted};
-ghost use Rattle.sheet_passes.specs.Rooms.{FitsIn, RunsIn};
+ghost use Rattle.operations.specs.hand_out.HandOut.{Counted};
+ghost use Rattle.operations.specs.sheet_passes.Rooms.{FitsIn, RunsIn};
 
-// Buffers for 24 cells, where plans of up to 16 are tried: copies of lookups make a small join's plan half as large again, and a second run takes longer than the
-// clearing of some more words. Each size has a function of its own, so that a small plan has a small frame: each page of a frame is touched when the function is
-// entered.
+pub mod hand_out;
+pub mod sheet_passes;
+
+// Buffers for 24 cells, where plans of up to 16 are tried: copies of lookups make a small join's plan half as large again, and a second run takes longer than
+// the clearing of some more words. Each size has a function of its own, so that a small plan has a small frame: each page of a frame is touched when the
+// function is entered.
 fn in_24(s: &[u8], c: Chosen, count: usize, out: &mut [u8]) -> Answer
     requires { ⌜ Choice c ⌝ }
     requires { ⌜ FitsIn 24 (now s) ⌝ }
     requires { ⌜ Counted (now s) count ⌝ }
     ensures { λ a. ⌜ RunsIn 24 (now (s .entry)) c count (now (out .entry)) a (now (out .exit)) ⌝ }
 {
-    let mut x = [0u32; 24 * cells::CELL_WORDS];
-    let mut y = [0u32; 24 * cells::CELL_WORDS];
-    let mut z = [0u32; 24 * cells::CELL_WORDS];
-    let mut w = [0u32; 24 * cells::CELL_WORDS];
-    sheet_passes::run(s, c, count, &mut x, &mut y, &mut z, &mut w, out)
+    let mut plan = [0u32; 24 * cells::CELL_WORDS];
+    let mut output = [0u32; 24 * cells::CELL_WORDS];
+    let mut scratch = [0u32; 24 * cells::CELL_WORDS];
+    let mut spare = [0u32; 24 * cells::CELL_WORDS];
+    sheet_passes::run(
+        s,
+        c,
+        count,
+        &mut plan,
+        &mut output,
+        &mut scratch,
+        &mut spare,
+        out,
+    )
 }
 
 // Buffers for 96 cells, where plans of up to 64 are tried.
@@ -33,11 +45,20 @@ fn in_96(s: &[u8], c: Chosen, count: usize, out: &mut [u8]) -> Answer
     requires { ⌜ Counted (now s) count ⌝ }
     ensures { λ a. ⌜ RunsIn 96 (now (s .entry)) c count (now (out .entry)) a (now (out .exit)) ⌝ }
 {
-    let mut x = [0u32; 96 * cells::CELL_WORDS];
-    let mut y = [0u32; 96 * cells::CELL_WORDS];
-    let mut z = [0u32; 96 * cells::CELL_WORDS];
-    let mut w = [0u32; 96 * cells::CELL_WORDS];
-    sheet_passes::run(s, c, count, &mut x, &mut y, &mut z, &mut w, out)
+    let mut plan = [0u32; 96 * cells::CELL_WORDS];
+    let mut output = [0u32; 96 * cells::CELL_WORDS];
+    let mut scratch = [0u32; 96 * cells::CELL_WORDS];
+    let mut spare = [0u32; 96 * cells::CELL_WORDS];
+    sheet_passes::run(
+        s,
+        c,
+        count,
+        &mut plan,
+        &mut output,
+        &mut scratch,
+        &mut spare,
+        out,
+    )
 }
 
 // Buffers for 224 cells, where plans of up to 192 are tried.
@@ -47,11 +68,20 @@ fn in_224(s: &[u8], c: Chosen, count: usize, out: &mut [u8]) -> Answer
     requires { ⌜ Counted (now s) count ⌝ }
     ensures { λ a. ⌜ RunsIn 224 (now (s .entry)) c count (now (out .entry)) a (now (out .exit)) ⌝ }
 {
-    let mut x = [0u32; 224 * cells::CELL_WORDS];
-    let mut y = [0u32; 224 * cells::CELL_WORDS];
-    let mut z = [0u32; 224 * cells::CELL_WORDS];
-    let mut w = [0u32; 224 * cells::CELL_WORDS];
-    sheet_passes::run(s, c, count, &mut x, &mut y, &mut z, &mut w, out)
+    let mut plan = [0u32; 224 * cells::CELL_WORDS];
+    let mut output = [0u32; 224 * cells::CELL_WORDS];
+    let mut scratch = [0u32; 224 * cells::CELL_WORDS];
+    let mut spare = [0u32; 224 * cells::CELL_WORDS];
+    sheet_passes::run(
+        s,
+        c,
+        count,
+        &mut plan,
+        &mut output,
+        &mut scratch,
+        &mut spare,
+        out,
+    )
 }
 
 // Buffers for 704 cells, where plans of up to 640 are tried.
@@ -61,11 +91,20 @@ fn in_704(s: &[u8], c: Chosen, count: usize, out: &mut [u8]) -> Answer
     requires { ⌜ Counted (now s) count ⌝ }
     ensures { λ a. ⌜ RunsIn 704 (now (s .entry)) c count (now (out .entry)) a (now (out .exit)) ⌝ }
 {
-    let mut x = [0u32; 704 * cells::CELL_WORDS];
-    let mut y = [0u32; 704 * cells::CELL_WORDS];
-    let mut z = [0u32; 704 * cells::CELL_WORDS];
-    let mut w = [0u32; 704 * cells::CELL_WORDS];
-    sheet_passes::run(s, c, count, &mut x, &mut y, &mut z, &mut w, out)
+    let mut plan = [0u32; 704 * cells::CELL_WORDS];
+    let mut output = [0u32; 704 * cells::CELL_WORDS];
+    let mut scratch = [0u32; 704 * cells::CELL_WORDS];
+    let mut spare = [0u32; 704 * cells::CELL_WORDS];
+    sheet_passes::run(
+        s,
+        c,
+        count,
+        &mut plan,
+        &mut output,
+        &mut scratch,
+        &mut spare,
+        out,
+    )
 }
 
 // Buffers for 2,048 cells.
@@ -75,11 +114,20 @@ fn in_2048(s: &[u8], c: Chosen, count: usize, out: &mut [u8]) -> Answer
     requires { ⌜ Counted (now s) count ⌝ }
     ensures { λ a. ⌜ RunsIn 2048 (now (s .entry)) c count (now (out .entry)) a (now (out .exit)) ⌝ }
 {
-    let mut x = [0u32; 2048 * cells::CELL_WORDS];
-    let mut y = [0u32; 2048 * cells::CELL_WORDS];
-    let mut z = [0u32; 2048 * cells::CELL_WORDS];
-    let mut w = [0u32; 2048 * cells::CELL_WORDS];
-    sheet_passes::run(s, c, count, &mut x, &mut y, &mut z, &mut w, out)
+    let mut plan = [0u32; 2048 * cells::CELL_WORDS];
+    let mut output = [0u32; 2048 * cells::CELL_WORDS];
+    let mut scratch = [0u32; 2048 * cells::CELL_WORDS];
+    let mut spare = [0u32; 2048 * cells::CELL_WORDS];
+    sheet_passes::run(
+        s,
+        c,
+        count,
+        &mut plan,
+        &mut output,
+        &mut scratch,
+        &mut spare,
+        out,
+    )
 }
 
 // The chosen passes on a sheet that is accepted, of at most so many cells: in small buffers that hold it, and where these have no room in larger

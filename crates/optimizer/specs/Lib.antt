@@ -1,2 +1,4 @@
-pub mod Settled
+pub mod SmallRoom
 pub mod Choices
+pub mod passes
+pub mod predicates

@@ -1,127 +1,130 @@
-// optimizer.rs, OPTIMIZERS: one pass by its number, and the five in turn, on plans in their working form (crate passes).
-use fold_operator::Folded;
+// optimizer.rs, OPTIMIZERS: one pass by its number, and the five in turn, on plans in their working form (module passes).
+use folding::fold_operator::Rewritten;
 ghost use mathlib.Core.Path.{_≡_};
 ghost use Prim.Native.Nat.{_≤_};
 ghost use lib.ListN.{length};
 ghost use Rattle.sql.specs.Optimizer.{in-turn};
 ghost use Rattle.sql.specs.Room;
-ghost use Rattle.passes.specs.Passes.{Lent, PlanAt, Alike, Runs, For-all};
+ghost use Rattle.optimizer.specs.passes.Passes.{Lent, PlanAt, Buffers, Runs, For-all};
 ghost use Rattle.optimizer.specs.Choices.{Choice, chosen};
-ghost use Rattle.optimizer.specs.Settled.{from-pushdown, from-lookup, from-hash};
+ghost use Rattle.optimizer.specs.SmallRoom.{from-pushdown, from-lookup, from-hash};
 
-// One pass by its number, 1 to 5. The plan that it gives is in y.
+pub mod passes;
+pub mod predicates;
+
+// One pass by its number, 1 to 5. The plan that it gives is in `output`.
 pub fn pass(
     k: usize,
     text: &[u8],
-    x: &mut [u32],
-    y: &mut [u32],
-    z: &mut [u32],
-    w: &mut [u32],
-    t: usize,
+    plan: &mut [u32],
+    output: &mut [u32],
+    scratch: &mut [u32],
+    spare: &mut [u32],
+    used: usize,
     tables: &[u8],
     columns: &[u8],
-) -> Folded
+) -> Rewritten
     requires { ⌜ (1 ≤ k) × (k ≤ 5) ⌝ }
-    requires { ⌜ PlanAt (For-all (now text) (now tables) (now columns)) (now x) t ⌝ }
-    requires { ⌜ Alike (now x) (now y) (now z) (now w) ⌝ }
-    ensures { λ r. ⌜ Runs (For-all (now (text .entry)) (now (tables .entry)) (now (columns .entry))) (λ room schema p. Room.pass room schema k p) (now (x .entry)) t (now (y .exit)) r ⌝ }
+    requires { ⌜ PlanAt (For-all (now text) (now tables) (now columns)) (now plan) used ⌝ }
+    requires { ⌜ Buffers (now plan) (now output) (now scratch) (now spare) ⌝ }
+    ensures { λ r. ⌜ Runs (For-all (now (text .entry)) (now (tables .entry)) (now (columns .entry))) (λ room schema p. Room.pass room schema k p) (now (plan .entry)) used (now (output .exit)) r ⌝ }
 {
     if k == 1 {
-        return passes::fold(text, x, y, t);
+        return passes::constant_folding(text, plan, output, used);
     }
     if k == 2 {
-        return passes::push_down(x, y, z, w, t, tables);
+        return passes::filter_pushdown(plan, output, scratch, spare, used, tables);
     }
     if k == 3 {
-        return passes::look_up(x, y, z, w, t, tables, columns);
+        return passes::index_lookup(plan, output, scratch, spare, used, tables, columns);
     }
     if k == 4 {
-        return passes::hash_join(x, y, t, tables);
+        return passes::hash_join(plan, output, used, tables);
     }
-    passes::short_circuit(x, y, z, t, tables, columns)
+    passes::short_circuit(plan, output, scratch, used, tables, columns)
 }
 
-// The passes from the fourth on. The plan that they give is in z.
+// The passes from the fourth on. The plan that they give is in `output`.
 fn from_hash(
-    x: &mut [u32],
-    y: &mut [u32],
-    z: &mut [u32],
-    t: usize,
+    plan: &mut [u32],
+    scratch: &mut [u32],
+    output: &mut [u32],
+    used: usize,
     tables: &[u8],
     columns: &[u8],
-) -> Folded
-    requires { ⌜ PlanAt (Lent (now tables) (now columns)) (now x) t ⌝ }
-    requires { ⌜ (length (now y) ≡ length (now x)) × (length (now z) ≡ length (now x)) ⌝ }
-    ensures { λ r. ⌜ Runs (Lent (now (tables .entry)) (now (columns .entry))) (λ room schema p. in-turn (from-hash room schema) p) (now (x .entry)) t (now (z .exit)) r ⌝ }
+) -> Rewritten
+    requires { ⌜ PlanAt (Lent (now tables) (now columns)) (now plan) used ⌝ }
+    requires { ⌜ (length (now scratch) ≡ length (now plan)) × (length (now output) ≡ length (now plan)) ⌝ }
+    ensures { λ r. ⌜ Runs (Lent (now (tables .entry)) (now (columns .entry))) (λ room schema p. in-turn (from-hash room schema) p) (now (plan .entry)) used (now (output .exit)) r ⌝ }
 {
-    match passes::hash_join(x, y, t, tables) {
-        Folded::Done(n) => passes::short_circuit(y, z, x, n, tables, columns),
-        Folded::Refused(number, place) => Folded::Refused(number, place),
+    match passes::hash_join(plan, scratch, used, tables) {
+        Rewritten::Done(n) => passes::short_circuit(scratch, output, plan, n, tables, columns),
+        Rewritten::Refused(number, place) => Rewritten::Refused(number, place),
     }
 }
 
-// The passes from the third on. The plan that they give is in y.
+// The passes from the third on. The plan that they give is in `output`.
 fn from_lookup(
-    x: &mut [u32],
-    y: &mut [u32],
-    z: &mut [u32],
-    w: &mut [u32],
-    t: usize,
+    plan: &mut [u32],
+    output: &mut [u32],
+    scratch: &mut [u32],
+    spare: &mut [u32],
+    used: usize,
     tables: &[u8],
     columns: &[u8],
-) -> Folded
-    requires { ⌜ PlanAt (Lent (now tables) (now columns)) (now x) t ⌝ }
-    requires { ⌜ Alike (now x) (now y) (now z) (now w) ⌝ }
-    ensures { λ r. ⌜ Runs (Lent (now (tables .entry)) (now (columns .entry))) (λ room schema p. in-turn (from-lookup room schema) p) (now (x .entry)) t (now (y .exit)) r ⌝ }
+) -> Rewritten
+    requires { ⌜ PlanAt (Lent (now tables) (now columns)) (now plan) used ⌝ }
+    requires { ⌜ Buffers (now plan) (now output) (now scratch) (now spare) ⌝ }
+    ensures { λ r. ⌜ Runs (Lent (now (tables .entry)) (now (columns .entry))) (λ room schema p. in-turn (from-lookup room schema) p) (now (plan .entry)) used (now (output .exit)) r ⌝ }
 {
-    match passes::look_up(x, z, y, w, t, tables, columns) {
-        Folded::Done(n) => from_hash(z, x, y, n, tables, columns),
-        Folded::Refused(number, place) => Folded::Refused(number, place),
+    match passes::index_lookup(plan, scratch, output, spare, used, tables, columns) {
+        Rewritten::Done(n) => from_hash(scratch, plan, output, n, tables, columns),
+        Rewritten::Refused(number, place) => Rewritten::Refused(number, place),
     }
 }
 
-// The passes from the second on. The plan that they give is in y. The second to the fourth leave a plan without a predicate as it is (crate predicates), and aren't
-// run then.
+// The passes from the second on. The plan that they give is in `output`. The second to the fourth leave a plan without a predicate as it is (module
+// predicates), and aren't run then.
 fn from_pushdown(
-    x: &mut [u32],
-    y: &mut [u32],
-    z: &mut [u32],
-    w: &mut [u32],
-    t: usize,
+    plan: &mut [u32],
+    output: &mut [u32],
+    scratch: &mut [u32],
+    spare: &mut [u32],
+    used: usize,
     tables: &[u8],
     columns: &[u8],
-) -> Folded
-    requires { ⌜ PlanAt (Lent (now tables) (now columns)) (now x) t ⌝ }
-    requires { ⌜ Alike (now x) (now y) (now z) (now w) ⌝ }
-    ensures { λ r. ⌜ Runs (Lent (now (tables .entry)) (now (columns .entry))) (λ room schema p. in-turn (from-pushdown room schema) p) (now (x .entry)) t (now (y .exit)) r ⌝ }
+) -> Rewritten
+    requires { ⌜ PlanAt (Lent (now tables) (now columns)) (now plan) used ⌝ }
+    requires { ⌜ Buffers (now plan) (now output) (now scratch) (now spare) ⌝ }
+    ensures { λ r. ⌜ Runs (Lent (now (tables .entry)) (now (columns .entry))) (λ room schema p. in-turn (from-pushdown room schema) p) (now (plan .entry)) used (now (output .exit)) r ⌝ }
 {
-    if !predicates::has_predicate(x, t) {
-        return passes::short_circuit(x, y, z, t, tables, columns);
+    if !predicates::has_predicate(plan, used) {
+        return passes::short_circuit(plan, output, scratch, used, tables, columns);
     }
-    match passes::push_down_in_place(x, y, z, w, t, tables) {
-        Folded::Done(n) => from_lookup(x, y, z, w, n, tables, columns),
-        Folded::Refused(number, place) => Folded::Refused(number, place),
+    match passes::filter_pushdown_in_place(plan, output, scratch, spare, used, tables) {
+        Rewritten::Done(n) => from_lookup(plan, output, scratch, spare, n, tables, columns),
+        Rewritten::Refused(number, place) => Rewritten::Refused(number, place),
     }
 }
 
-// All five in turn. The plan that they give is in y.
+// All five in turn. The plan that they give is in `output`.
 pub fn optimize(
     text: &[u8],
-    x: &mut [u32],
-    y: &mut [u32],
-    z: &mut [u32],
-    w: &mut [u32],
-    t: usize,
+    plan: &mut [u32],
+    output: &mut [u32],
+    scratch: &mut [u32],
+    spare: &mut [u32],
+    used: usize,
     tables: &[u8],
     columns: &[u8],
-) -> Folded
-    requires { ⌜ PlanAt (For-all (now text) (now tables) (now columns)) (now x) t ⌝ }
-    requires { ⌜ Alike (now x) (now y) (now z) (now w) ⌝ }
-    ensures { λ r. ⌜ Runs (For-all (now (text .entry)) (now (tables .entry)) (now (columns .entry))) (λ room schema p. Room.optimize room schema p) (now (x .entry)) t (now (y .exit)) r ⌝ }
+) -> Rewritten
+    requires { ⌜ PlanAt (For-all (now text) (now tables) (now columns)) (now plan) used ⌝ }
+    requires { ⌜ Buffers (now plan) (now output) (now scratch) (now spare) ⌝ }
+    ensures { λ r. ⌜ Runs (For-all (now (text .entry)) (now (tables .entry)) (now (columns .entry))) (λ room schema p. Room.optimize room schema p) (now (plan .entry)) used (now (output .exit)) r ⌝ }
 {
-    match passes::fold(text, x, z, t) {
-        Folded::Done(n) => from_pushdown(z, y, x, w, n, tables, columns),
-        Folded::Refused(number, place) => Folded::Refused(number, place),
+    match passes::constant_folding(text, plan, scratch, used) {
+        Rewritten::Done(n) => from_pushdown(scratch, output, plan, spare, n, tables, columns),
+        Rewritten::Refused(number, place) => Rewritten::Refused(number, place),
     }
 }
 
@@ -131,25 +134,25 @@ pub enum Chosen {
     All,
 }
 
-// The chosen passes. The plan that they give is in y.
+// The chosen passes. The plan that they give is in `output`.
 pub fn run(
     c: Chosen,
     text: &[u8],
-    x: &mut [u32],
-    y: &mut [u32],
-    z: &mut [u32],
-    w: &mut [u32],
-    t: usize,
+    plan: &mut [u32],
+    output: &mut [u32],
+    scratch: &mut [u32],
+    spare: &mut [u32],
+    used: usize,
     tables: &[u8],
     columns: &[u8],
-) -> Folded
+) -> Rewritten
     requires { ⌜ Choice c ⌝ }
-    requires { ⌜ PlanAt (For-all (now text) (now tables) (now columns)) (now x) t ⌝ }
-    requires { ⌜ Alike (now x) (now y) (now z) (now w) ⌝ }
-    ensures { λ r. ⌜ Runs (For-all (now (text .entry)) (now (tables .entry)) (now (columns .entry))) (chosen c) (now (x .entry)) t (now (y .exit)) r ⌝ }
+    requires { ⌜ PlanAt (For-all (now text) (now tables) (now columns)) (now plan) used ⌝ }
+    requires { ⌜ Buffers (now plan) (now output) (now scratch) (now spare) ⌝ }
+    ensures { λ r. ⌜ Runs (For-all (now (text .entry)) (now (tables .entry)) (now (columns .entry))) (chosen c) (now (plan .entry)) used (now (output .exit)) r ⌝ }
 {
     match c {
-        Chosen::One(k) => pass(k, text, x, y, z, w, t, tables, columns),
-        Chosen::All => optimize(text, x, y, z, w, t, tables, columns),
+        Chosen::One(k) => pass(k, text, plan, output, scratch, spare, used, tables, columns),
+        Chosen::All => optimize(text, plan, output, scratch, spare, used, tables, columns),
     }
 }

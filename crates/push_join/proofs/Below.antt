@@ -32,26 +32,26 @@ use Rattle.cells.specs.declared.Cell as Word
 use Rattle.cells.specs.Cells.{cell-words, Part}
 use Rattle.cells.specs.Room.{Wrote}
 use Rattle.cells.proofs.Laws.{part-is, wrote-up}
-use Rattle.words.specs.Words.{expression-words, optional-words, node-words}
-use Rattle.words.specs.Place.{ExpressionHere, NodeHere}
-use Rattle.words.proofs.Sizes.{words-long}
-use Rattle.encode.specs.Encode.{as-cell, cells-in}
-use Rattle.encode.proofs.Says.{optional-in, optional-under, node-in}
-use Rattle.records.specs.Records.{Tables}
-use Rattle.edit.specs.Edit.{Left}
-use Rattle.kept.specs.Kept.{Kept}
-use Rattle.kept.specs.Pass.{PassAt, Passes}
-use Rattle.column_numbers.specs.declared.Change.{Change}
-use Rattle.column_numbers.specs.declared.Change.the-variants.{Down, Replace}
-use Rattle.column_numbers.specs.Columns.{changed, changed-cell, changed-sized, Rewrites}
-use Rattle.column_numbers.specs.Flat.{flat, cells-before}
-use Rattle.column_numbers.proofs.Flat.{flat-words}
-use Rattle.conjuncts.proofs.Appending.{appends-vec, written-part}
-use Rattle.copied_lookups.specs.declared.Source.{Source}
-use Rattle.copied_lookups.specs.declared.Source.the-variants as Source
-use Rattle.push_into.specs.Push.{is-some}
-use Rattle.push_into.proofs.Taking.{no-true}
-use Rattle.push_part.specs.Part.{part-for, own-end, WritesOwn}
+use Rattle.cells.specs.words.Words.{expression-words, optional-words, node-words}
+use Rattle.cells.specs.words.Place.{ExpressionHere, NodeHere}
+use Rattle.cells.proofs.words.Sizes.{words-long}
+use Rattle.encoding.specs.encode.Encode.{as-cell, cells-in}
+use Rattle.encoding.proofs.encode.Says.{optional-in, optional-under, node-in}
+use Rattle.layout.specs.records.Records.{Tables}
+use Rattle.edits.specs.edit.Edit.{Left}
+use Rattle.edits.specs.kept.SoundAs.{Sound-as}
+use Rattle.edits.specs.kept.Pass.{PassAt, Passes}
+use Rattle.columns.specs.declared.column_numbers.Change.{Change}
+use Rattle.columns.specs.declared.column_numbers.Change.the-variants.{Down, Replace}
+use Rattle.columns.specs.column_numbers.Columns.{changed, changed-cell, changed-sized, Rewrites}
+use Rattle.columns.specs.column_numbers.Flat.{flat, cells-before}
+use Rattle.columns.proofs.column_numbers.Flat.{flat-words}
+use Rattle.columns.proofs.conjuncts.Appending.{appends-vec, written-part}
+use Rattle.split_join.specs.declared.copied_lookups.Source.{Source}
+use Rattle.split_join.specs.declared.copied_lookups.Source.the-variants as Source
+use Rattle.split_join.specs.push_into.Push.{is-some}
+use Rattle.split_join.proofs.push_into.Taking.{no-true}
+use Rattle.split_join.specs.push_part.Part.{part-for, own-end, WritesOwn}
 use Rattle.split_join.specs.Split.{stays}
 use Rattle.push_join.specs.Below.{Cell-below, Below, Steps-below, Parts-below, Arrays-below, Splits-below, Held-below, Passes-below}
 
@@ -481,7 +481,7 @@ pub passes-below : {records x : List ℕ} {t lo tail k : ℕ} {x′ : List ℕ} 
 passes-below {records} {x} {t} {lo} {tail} {k} {x′} g e f = (f, below)
   where
     go : (cells : ℕ) → length x ≤ cell-words * cells → k ≤ length x → (pre post : List ℕ) (p : Node) → length pre ≡ lo → length post ≡ tail → (answer : Answer Node)
-        → Left (Kept (g .schema) (g .text) (g .tables) p) x′ k pre post answer → Below (most-columns cells) x′ lo (k - tail)
+        → Left (Sound-as (g .schema) (g .text) (g .tables) p) x′ k pre post answer → Below (most-columns cells) x′ lo (k - tail)
     go cells i h pre post p a b (done q) w =
         subst (λ (j : ℕ). Below (most-columns cells) x′ j (k - tail)) a
         (subst (λ (j : ℕ). Below (most-columns cells) x′ (length pre) (k - j)) b

@@ -22,20 +22,20 @@ use Rattle.cells.specs.declared.Cell.{Cell}
 use Rattle.cells.specs.Cells.{cell-words, cell-at}
 use Rattle.cells.specs.Room.{Short, Wrote}
 use Rattle.cells.proofs.Laws.{lt-or-ge, wrote-up}
-use Rattle.words.specs.Words.{expression-words, node-words}
-use Rattle.words.specs.Place.{ExpressionHere, ExpressionAt, Maps, NodeHere, NodeAt}
-use Rattle.words.proofs.Sizes.{expression-long}
-use Rattle.words.proofs.Tags.{by-nested-loop}
+use Rattle.cells.specs.words.Words.{expression-words, node-words}
+use Rattle.cells.specs.words.Place.{ExpressionHere, ExpressionAt, Maps, NodeHere, NodeAt}
+use Rattle.cells.proofs.words.Sizes.{expression-long}
+use Rattle.cells.proofs.words.Tags.{by-nested-loop}
 use Rattle.nodes.specs.Own.{OwnStart}
 use Rattle.nodes.specs.Columns.{Narrow}
-use Rattle.records.specs.Records.{Tables}
+use Rattle.layout.specs.records.Records.{Tables}
 use Rattle.nodes.proofs.Widths.{tag-here, flag-here}
 use Rattle.sound.specs.Pushdown.{join-rule-keeps}
-use Rattle.edit.specs.Edit.{Holds, Left, Placed}
-use Rattle.edit.proofs.Edits.{holds-here, total-cells, left-refused, placed-left, edit-same}
-use Rattle.kept.specs.Kept.{Kept, kept, sound-narrow}
-use Rattle.kept.specs.Pass.{PassAt, Passes}
-use Rattle.conjuncts.proofs.Appending.{written-part}
+use Rattle.edits.specs.edit.Edit.{Holds, Left, Placed}
+use Rattle.edits.proofs.edit.Edits.{holds-here, total-cells, left-refused, placed-left, edit-same}
+use Rattle.edits.specs.kept.SoundAs.{Sound-as, kept, sound-narrow}
+use Rattle.edits.specs.kept.Pass.{PassAt, Passes}
+use Rattle.columns.proofs.conjuncts.Appending.{written-part}
 use Rattle.split_join.specs.Split.{HasPredicate, SplitAt, Splits}
 use Rattle.split_join.proofs.Splitting.{by-split, predicate-here}
 
@@ -161,8 +161,8 @@ module _ {x : List ℕ} {t lo tail : ℕ} (f : HasPredicate x lo (t - tail) true
       → normal-forms-fit room schema (some q) ≡ false)
       → Passes Room.maybe-push-join records x t lo tail n x
   refuse {n = n} i g schema text tables given room rest s pre post p fit h =
-      when-split (λ p. Left (Kept schema text tables p) x n pre post (Room.maybe-push-join room schema rest p))
-      (λ og outer q l r u. subst (λ (a : Answer Node). Left (Kept schema text tables (join og outer (nested-loop (some q)) l r)) x n pre post a)
+      when-split (λ p. Left (Sound-as schema text tables p) x n pre post (Room.maybe-push-join room schema rest p))
+      (λ og outer q l r u. subst (λ (a : Answer Node). Left (Sound-as schema text tables (join og outer (nested-loop (some q)) l r)) x n pre post a)
       (sym (answered room schema rest og outer q l r false (g room schema (s .all) (s .short) og outer q l r (holds-here u)))) (left-refused i))
       p h
 
@@ -193,7 +193,7 @@ module _ {x : List ℕ} {t lo tail : ℕ} (f : HasPredicate x lo (t - tail) true
 
         pub pass-split : Passes Room.maybe-push-join records x t lo tail r x′
         pass-split schema text tables given room rest s pre post p fit h =
-            subst (λ (a : Answer Node). Left (Kept schema text tables p) x′ r pre post a)
+            subst (λ (a : Answer Node). Left (Sound-as schema text tables p) x′ r pre post a)
             (sym (when-split (λ p. Room.maybe-push-join room schema rest p ≡ step room schema rest (Optimizer.maybe-push-join schema p))
             (λ og outer q l r h. answered room schema rest og outer q l r true (both-fit own lz nnf i lw cnf j room schema (az ∙ s .all) (aw ∙ s .all) og outer q l r (holds-here h))) p h))
             (placed-left (Optimizer.maybe-push-join schema p) s lx (h .low) (h .high) (join-rule-keeps schema text tables p (fit .0)) (placed schema given p h))

@@ -2,7 +2,7 @@
 -- words is below `left + right`, the columns of the join; in what is pushed into a source it is below that source's columns. A source that is written again keeps the
 -- numbers of all that stands below it. They are below the most columns of a plan that the array has room for (crate sheet_laws, Counts): 262,144, for 2,048 cells.
 --
--- This is said of what a function has written when it returns; and, where one rewrites what it wrote, which map_columns alone does (crate column_numbers), of each step
+-- This is said of what a function has written when it returns; and, where one rewrites what it wrote, which map_columns alone does (module column_numbers), of each step
 -- of that too. All other writes append, copy words as they stand, or set a size. Nothing is said of words that the splitter only moves, those of x before and behind the
 -- join, nor of what push_filters gathers in y of Filters, which is no split.
 use Prim.Native.Nat.{ℕ, _+_, _-_, _*_, _%_, _≤_, _<_}
@@ -22,18 +22,18 @@ use Rattle.sheet_laws.specs.Counts.{most-columns}
 use Rattle.sound.specs.Sound.{Sound}
 use Rattle.cells.specs.Cells.{cell-words}
 use Rattle.cells.specs.Room.{Wrote}
-use Rattle.words.specs.Words.{expression-words, node-words}
-use Rattle.words.specs.Place.{ExpressionHere, Maps, NodeHere}
-use Rattle.encode.specs.Encode.{cells-in}
-use Rattle.edit.specs.Edit.{Placed}
-use Rattle.kept.specs.Pass.{PassAt}
-use Rattle.column_numbers.specs.declared.Change.{Change}
-use Rattle.column_numbers.specs.declared.Change.the-variants.{Down, Replace}
-use Rattle.column_numbers.specs.Columns.{Rewrites}
-use Rattle.conjuncts.specs.Conjuncts.{AppendsEach}
-use Rattle.copied_lookups.specs.declared.Source.the-variants.{Left, Right}
-use Rattle.push_into.specs.Push.{is-some}
-use Rattle.push_part.specs.Part.{WritesPart, WritesOwn, PushesPart}
+use Rattle.cells.specs.words.Words.{expression-words, node-words}
+use Rattle.cells.specs.words.Place.{ExpressionHere, Maps, NodeHere}
+use Rattle.encoding.specs.encode.Encode.{cells-in}
+use Rattle.edits.specs.edit.Edit.{Placed}
+use Rattle.edits.specs.kept.Pass.{PassAt}
+use Rattle.columns.specs.declared.column_numbers.Change.{Change}
+use Rattle.columns.specs.declared.column_numbers.Change.the-variants.{Down, Replace}
+use Rattle.columns.specs.column_numbers.Columns.{Rewrites}
+use Rattle.columns.specs.conjuncts.Conjuncts.{AppendsEach}
+use Rattle.split_join.specs.declared.copied_lookups.Source.the-variants.{Left, Right}
+use Rattle.split_join.specs.push_into.Push.{is-some}
+use Rattle.split_join.specs.push_part.Part.{WritesPart, WritesOwn, PushesPart}
 use Rattle.split_join.specs.Split.{Stays}
 
 -- The column numbers that a cell holds are below n: a Column's in a, a Target's in a if it has flag 1, a HashJoin's in a and b, an IndexLookup's in the low

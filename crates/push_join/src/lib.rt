@@ -1,12 +1,15 @@
-// optimizer.rs, maybe_push_join: one split of a join's predicate (crate split_join), as a step of a pass. The plan is edited in place (crate edit): it stands in
-// the first t words of x, the node from lo up to t - tail.
+// optimizer.rs, maybe_push_join: one split of a join's predicate (crate split_join), as a step of a pass. The plan is edited in place (module edit): it stands
+// in the first `used` words of `plan`, the node from lo up to `used - tail`.
 ghost use mathlib.Core.Path.{_≡_};
 ghost use lib.ListN.{length};
 ghost use Rattle.sql.specs.Room;
-ghost use Rattle.words.specs.Place.{NodeAt};
-ghost use Rattle.kept.specs.Pass.{PassAt, Passes};
+ghost use Rattle.cells.specs.words.Place.{NodeAt};
+ghost use Rattle.edits.specs.kept.Pass.{PassAt, Passes};
 ghost use Rattle.split_join.specs.Split.{HasPredicate};
 ghost use Rattle.push_join.specs.Below.{Passes-below};
+use normal_forms::cnf;
+use normal_forms::nnf;
+use sheet::tags;
 
 // Whether the node from lo to hi is a NestedLoopJoin with a predicate.
 fn has_predicate(s: &[u32], lo: usize, hi: usize) -> bool
@@ -20,37 +23,38 @@ fn has_predicate(s: &[u32], lo: usize, hi: usize) -> bool
     false
 }
 
-// One split of the predicate of the node there, if it is a join with a predicate. The results of into_nnf and into_cnf go to z and w, and y is scratch; each has
-// room for as many cells as x. A result past the end of x is refusal 14. What column numbers these arrays hold is said in specs/Below.antt.
+// One split of the predicate of the node there, if it is a join with a predicate. The results of into_nnf and into_cnf go to `nnf` and `cnf`, each of
+// which, like `scratch`, has room for as many cells as `plan`. A result past the end of `plan` is refusal 14. What column numbers these arrays hold is said
+// in specs/Below.antt.
 pub fn maybe_push_join(
-    x: &mut [u32],
-    y: &mut [u32],
-    z: &mut [u32],
-    w: &mut [u32],
-    t: usize,
+    plan: &mut [u32],
+    scratch: &mut [u32],
+    nnf: &mut [u32],
+    cnf: &mut [u32],
+    used: usize,
     lo: usize,
     tail: usize,
     tables: &[u8],
 ) -> usize
-    requires { ⌜ PassAt (now tables) (now x) t lo tail ⌝ }
-    requires { ⌜ length (now y) ≡ length (now x) ⌝ }
-    requires { ⌜ length (now z) ≡ length (now x) ⌝ }
-    requires { ⌜ length (now w) ≡ length (now x) ⌝ }
-    ensures { λ r. ⌜ Passes Room.maybe-push-join (now (tables .entry)) (now (x .entry)) t lo tail r (now (x .exit)) ⌝ }
-    ensures { λ r. ⌜ Passes-below (now (x .entry)) lo tail r (now (x .exit)) ⌝ }
+    requires { ⌜ PassAt (now tables) (now plan) used lo tail ⌝ }
+    requires { ⌜ length (now scratch) ≡ length (now plan) ⌝ }
+    requires { ⌜ length (now nnf) ≡ length (now plan) ⌝ }
+    requires { ⌜ length (now cnf) ≡ length (now plan) ⌝ }
+    ensures { λ r. ⌜ Passes Room.maybe-push-join (now (tables .entry)) (now (plan .entry)) used lo tail r (now (plan .exit)) ⌝ }
+    ensures { λ r. ⌜ Passes-below (now (plan .entry)) lo tail r (now (plan .exit)) ⌝ }
 {
-    let hi = t - tail;
-    if has_predicate(x, lo, hi) {
-        let m = nodes::own_start(x, lo, hi);
-        let k = nnf::into_nnf(x, m, hi - cells::CELL_WORDS, z, 0);
-        if z.len() < k {
+    let hi = used - tail;
+    if has_predicate(plan, lo, hi) {
+        let m = nodes::own_start(plan, lo, hi);
+        let k = nnf::into_nnf(plan, m, hi - cells::CELL_WORDS, nnf, 0);
+        if nnf.len() < k {
             return k;
         }
-        let end = cnf::distribute(z, 0, k, w, 0);
-        if w.len() < end {
+        let end = cnf::distribute(nnf, 0, k, cnf, 0);
+        if cnf.len() < end {
             return end;
         }
-        return split_join::split(x, y, w, end, z, t, lo, m, tail, tables);
+        return split_join::split(plan, scratch, cnf, end, nnf, used, lo, m, tail, tables);
     }
-    t
+    used
 }

@@ -10,7 +10,7 @@ use Rattle.value.specs.Value.{Truth, False, Unknown, True, Datum, integer, floa
 use Rattle.value.specs.Comparison.{Finding, Comparison, Null, Found, Less, Equal, Greater, Unordered, NotComparable, rounded, number-of, compare-integers, compare-floats, compare-bytes, compare, is-equal}
 use Rattle.value.specs.ComparisonLaws.{swapped}
 use Rattle.value.specs.Undefined.{is-null, is-nan}
-use Rattle.value.proofs.Comparison.{equal-floats, swapped-floats, equal-integers, equal-bytes}
+use Rattle.value.proofs.Compared.{equal-floats, swapped-floats, equal-integers, equal-bytes}
 use Rattle.value.proofs.ComparisonLaws.{comparison-laws}
 use Rattle.same_rows.specs.Booleans.{false≢true}
 use Rattle.same_rows.specs.Floats.{eq-left, eq-nan}

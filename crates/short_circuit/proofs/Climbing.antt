@@ -1,4 +1,4 @@
--- Laws on the way up through a chain of bare nodes (crate chain), from the node below it on.
+-- Laws on the way up through a chain of bare nodes (module chain), from the node below it on.
 use Prim.Native.Nat.{ℕ, _+_, _-_, _≤_, _<_}
 use native.Mathlib.Omega.{arith}
 use mathlib.Core.Path.{_≡_, refl, sym, _∙_, subst}
@@ -8,11 +8,11 @@ use Rattle.cells.specs.Cells.{cell-words}
 use Rattle.cells.specs.Room.{most-words}
 use Rattle.nodes.specs.Own.{OwnStart, SourceCount}
 use Rattle.nodes.specs.Columns.{ColumnsAt}
-use Rattle.records.specs.Records.{RecordsAt}
-use Rattle.chain.specs.Chain.{Bare, no-more, one-more}
-use Rattle.chain.proofs.Bare.{bare-in}
-use Rattle.stream.specs.Stream.{Finishes}
-use Rattle.stream.proofs.Streams.{stream-in}
+use Rattle.layout.specs.records.Records.{RecordsAt}
+use Rattle.edits.specs.chain.Chain.{Bare, no-more, one-more}
+use Rattle.edits.proofs.chain.Bare.{bare-in}
+use Rattle.edits.specs.stream.Stream.{Finishes}
+use Rattle.edits.proofs.stream.Streams.{stream-in}
 use Rattle.short_circuit.specs.ShortCircuit.{CircuitsNode, CircuitAt, Circuits, Climbing}
 use Rattle.short_circuit.proofs.Pass.{records-at, source-at, over-ready, over-stop, over-circuits}
 

@@ -17,18 +17,18 @@ use Rattle.cells.specs.declared.Cell.{Cell}
 use Rattle.cells.specs.Cells.{cell-words, sized, origin-at, Part}
 use Rattle.cells.specs.Room.{Short, most-words, Wrote, Seals, Copies}
 use Rattle.cells.proofs.Laws.{fits}
-use Rattle.words.specs.Words.{cell, all-words, label-words, node-words}
-use Rattle.words.specs.Place.{NodeHere}
-use Rattle.words.proofs.Nodes.{node-in, node-cell-is}
-use Rattle.words.proofs.Sizes.{words-long, all-single, sized-long}
+use Rattle.cells.specs.words.Words.{cell, all-words, label-words, node-words}
+use Rattle.cells.specs.words.Place.{NodeHere}
+use Rattle.cells.proofs.words.Nodes.{node-in, node-cell-is}
+use Rattle.cells.proofs.words.Sizes.{words-long, all-single, sized-long}
 use Rattle.nodes.specs.Columns.{Narrow, ColumnsAt, ColumnCount}
-use Rattle.records.specs.Records.{Records, RecordsAt, Tables}
-use Rattle.records.proofs.Laws.{tables-said}
+use Rattle.layout.specs.records.Records.{Records, RecordsAt, Tables}
+use Rattle.layout.proofs.records.Laws.{tables-said}
 use Rattle.nodes.proofs.Widths.{few-columns}
-use Rattle.column_labels.specs.ColumnLabels.{marked, WritesLabels}
-use Rattle.remove_useless.specs.RemoveUseless.{Removes}
-use Rattle.remove_useless.proofs.Standing.{wrote-part, wrote-here}
-use Rattle.is_empty.specs.IsEmpty.{IsEmpty}
+use Rattle.short_circuit.specs.column_labels.ColumnLabels.{marked, WritesLabels}
+use Rattle.short_circuit.specs.remove_useless.RemoveUseless.{Removes}
+use Rattle.short_circuit.proofs.remove_useless.Standing.{wrote-part, wrote-here}
+use Rattle.short_circuit.specs.is_empty.IsEmpty.{IsEmpty}
 use Rattle.short_circuit.specs.ShortCircuit.{Fitted, Empties, CircuitsNode}
 
 -- ---- what is written, with room behind it

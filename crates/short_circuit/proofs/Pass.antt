@@ -22,20 +22,20 @@ use Rattle.sound.specs.Circuit.{one-keeps}
 use Rattle.cells.specs.Cells.{cell-words, tag-at, start-at}
 use Rattle.cells.specs.Room.{most-words, Copies}
 use Rattle.cells.proofs.Laws.{lt-or-ge}
-use Rattle.words.specs.Words.{node-words}
-use Rattle.words.specs.Place.{NodeAt}
-use Rattle.words.proofs.Nodes.{node-tag, node-in, node-long}
-use Rattle.words.proofs.Tags.{tagged, by-leaf, by-over, by-join, by-scan}
-use Rattle.words.proofs.Sizes.{expression-long, words-long}
+use Rattle.cells.specs.words.Words.{node-words}
+use Rattle.cells.specs.words.Place.{NodeAt}
+use Rattle.cells.proofs.words.Nodes.{node-tag, node-in, node-long}
+use Rattle.cells.proofs.words.Tags.{tagged, by-leaf, by-over, by-join, by-scan}
+use Rattle.cells.proofs.words.Sizes.{expression-long, words-long}
 use Rattle.nodes.specs.Own.{OwnStart, SourceCount}
 use Rattle.nodes.specs.Columns.{ColumnsAt}
-use Rattle.records.specs.Records.{Records, RecordsAt}
-use Rattle.records.proofs.Laws.{tables-said}
-use Rattle.edit.specs.Edit.{Shares}
-use Rattle.kept.specs.Kept.{Kept, sound-narrow}
-use Rattle.stream.specs.Stream.{Reading, Streamed, Finishes}
-use Rattle.stream.proofs.Streams.{done-here, done-before, copied-done, streamed-with, streamed-stop, streamed-go}
-use Rattle.stream.proofs.Sources.{source-reading, over-done, left-reading, right-reading, join-done}
+use Rattle.layout.specs.records.Records.{Records, RecordsAt}
+use Rattle.layout.proofs.records.Laws.{tables-said}
+use Rattle.edits.specs.edit.Edit.{Shares}
+use Rattle.edits.specs.kept.SoundAs.{Sound-as, sound-narrow}
+use Rattle.edits.specs.stream.Stream.{Reading, Streamed, Finishes}
+use Rattle.edits.proofs.stream.Streams.{done-here, done-before, copied-done, streamed-with, streamed-stop, streamed-go}
+use Rattle.edits.proofs.stream.Sources.{source-reading, over-done, left-reading, right-reading, join-done}
 use Rattle.short_circuit.specs.ShortCircuit.{Fitted, CircuitsNode, CircuitAt, Circuits}
 use Rattle.short_circuit.proofs.Node.{wrote-fitted, fitted-over}
 
@@ -54,7 +54,7 @@ fitted-step {room = room} {rest = rest} q i s k a =
 -- The node q, in whose place p was, has been written.
 module _ {records columns′ : List ℕ} {schema : Schema} {text : List ℕ} {tables : ℕ} (g : Records records columns′ schema)
     {y : List ℕ} {at tail v : ℕ} {y₁ : List ℕ} (p q : Node) (h : at ≤ length y) (k : length y₁ ≡ length y)
-    (s : Streamed (Kept schema text tables p) y at tail v y₁ (done q)) where
+    (s : Streamed (Sound-as schema text tables p) y at tail v y₁ (done q)) where
   pub written-at : length y ≤ most-words → ColumnsAt records y₁ at v
   written-at i =
       record {
@@ -67,7 +67,7 @@ module _ {records columns′ : List ℕ} {schema : Schema} {text : List ℕ} {ta
       }
 
   pub written-next : Named schema (length text) → {room rest n : ℕ} {y₂ : List ℕ} → length y₂ ≡ length y₁ → Shares y at tail room rest
-      → CircuitsNode records columns′ y₁ at v tail n y₂ → Streamed (Kept schema text tables p) y at tail n y₂ (short-circuit room schema rest q)
+      → CircuitsNode records columns′ y₁ at v tail n y₂ → Streamed (Sound-as schema text tables p) y at tail n y₂ (short-circuit room schema rest q)
   unfolding short-circuit
   written-next named {n = n} {y₂ = y₂} k₂ r f =
       fitted-step (Optimizer.short-circuit schema q)
@@ -124,7 +124,7 @@ module _ {records columns′ x : List ℕ} {lo hi tail : ℕ} {y : List ℕ} {at
 
   -- a node that was written is ready for short_circuit
   ready : {v : ℕ} {y₁ : List ℕ} (p q : Node) → at ≤ length y → length y₁ ≡ length y
-      → Streamed (Kept (d .stream .schema) (d .stream .text) (d .stream .tables) p) y at tail v y₁ (done q)
+      → Streamed (Sound-as (d .stream .schema) (d .stream .text) (d .stream .tables) p) y at tail v y₁ (done q)
       → ColumnsAt records y₁ at v × ((v + tail ≤ length y₁) × (length y₁ ≤ most-words))
   ready p q h k s = (written-at (d .stream .lent) p q h k s (d .stream .short-out), (s .is .0, omega (arith, d .stream .short-out)))
 
@@ -157,7 +157,7 @@ module _ {records columns′ x : List ℕ} {lo hi tail : ℕ} {y : List ℕ} {at
       with-left : (P : Type 0)
           → ((og : ℕ) (outer : Bool) (j : Join) (l r : Node)
           → (h : Reading (d .stream .schema) (d .stream .text) (d .stream .tables) x lo hi tail y at (d .stream .room) (d .stream .rest) (join og outer j l r))
-          → (p : Node) → Streamed (Kept (d .stream .schema) (d .stream .text) (d .stream .tables) l) y at (tail + (hi - mid)) u y₁ (done p) → P)
+          → (p : Node) → Streamed (Sound-as (d .stream .schema) (d .stream .text) (d .stream .tables) l) y at (tail + (hi - mid)) u y₁ (done p) → P)
           → P
       with-left P f =
           with-join c P
@@ -190,18 +190,18 @@ module _ {records columns′ x : List ℕ} {lo hi tail : ℕ} {y : List ℕ} {at
       → CircuitsNode records columns′ y₁ at v tail n y₂ → Circuits records columns′ x lo hi tail y at n y₂
   unfolding ShortCircuit
   leaf-circuits c {v} {y₁} k a {n} {y₂} k₂ f schema text tables g named room rest p h =
-      by-leaf (λ p. Reading schema text tables x lo hi tail y at room rest p → Streamed (Kept schema text tables p) y at tail n y₂ (ShortCircuit room schema rest p))
+      by-leaf (λ p. Reading schema text tables x lo hi tail y at room rest p → Streamed (Sound-as schema text tables p) y at tail n y₂ (ShortCircuit room schema rest p))
       (λ og l h. written-next g (leaf og l) (leaf og l) (omega (arith, h .fits)) k (copied-done (leaf og l) h k a) named k₂ (h .shares) f) p (sym (c p (h .here))) h
 
   -- a Scan without a filter stays as it is
   pub scan-circuits : hi - lo ≡ cell-words → tag-at x hi ≡ 62 → {n : ℕ} {y₁ : List ℕ} → length y₁ ≡ length y → Copies x lo hi y at n y₁ → Circuits records columns′ x lo hi tail y at n y₁
   unfolding ShortCircuit short-circuit
   scan-circuits e i {n} {y₁} k a schema text tables g named room rest p h =
-      by-scan (λ p. Reading schema text tables x lo hi tail y at room rest p → Streamed (Kept schema text tables p) y at tail n y₁ (ShortCircuit room schema rest p)) go
+      by-scan (λ p. Reading schema text tables x lo hi tail y at room rest p → Streamed (Sound-as schema text tables p) y at tail n y₁ (ShortCircuit room schema rest p)) go
       p (sym (tagged p) ∙ sym (node-tag p (h .here)) ∙ i) h
     where
       go : (og t : ℕ) (al : Option ℕ) (q : Option Expression) → Reading schema text tables x lo hi tail y at room rest (leaf og (scan t al q))
-          → Streamed (Kept schema text tables (leaf og (scan t al q))) y at tail n y₁ (ShortCircuit room schema rest (leaf og (scan t al q)))
+          → Streamed (Sound-as schema text tables (leaf og (scan t al q))) y at tail n y₁ (ShortCircuit room schema rest (leaf og (scan t al q)))
       go og t al none h =
           let s = h .here .part .high in
           fitted-step (leaf og (scan t al none)) (h .fit) (h .shares) k (wrote-fitted (omega (arith, h .fits)) (h .shares .short) (a (node-words (leaf og (scan t al none))) (h .here .part)))
@@ -212,7 +212,7 @@ module _ {records columns′ x : List ℕ} {lo hi tail : ℕ} {y : List ℕ} {at
     pub over-stop : length y₁ < u → Circuits records columns′ x lo hi tail y at u y₁
     unfolding ShortCircuit
     over-stop z schema text tables g named room rest p h =
-        by-over (λ p. Reading schema text tables x lo hi tail y at room rest p → Streamed (Kept schema text tables p) y at tail u y₁ (ShortCircuit room schema rest p))
+        by-over (λ p. Reading schema text tables x lo hi tail y at room rest p → Streamed (Sound-as schema text tables p) y at tail u y₁ (ShortCircuit room schema rest p))
         (λ og o n h. streamed-stop (ShortCircuit room schema (rest + over-size o) n) (a schema text tables g named room (rest + over-size o) n (source-reading own og o n h))
         (λ q. short-circuit room schema rest (over og o q)) z) p (sym (c p (h .here))) h
 
@@ -220,7 +220,7 @@ module _ {records columns′ x : List ℕ} {lo hi tail : ℕ} {y : List ℕ} {at
         → length y₃ ≡ length y₂ → CircuitsNode records columns′ y₂ at v tail n y₃ → Circuits records columns′ x lo hi tail y at n y₃
     unfolding ShortCircuit
     over-circuits k₁ z {v} {y₂} k₂ e {n} {y₃} k₃ f schema text tables g named room rest p h =
-        by-over (λ p. Reading schema text tables x lo hi tail y at room rest p → Streamed (Kept schema text tables p) y at tail n y₃ (ShortCircuit room schema rest p))
+        by-over (λ p. Reading schema text tables x lo hi tail y at room rest p → Streamed (Sound-as schema text tables p) y at tail n y₃ (ShortCircuit room schema rest p))
         (λ og o i h. streamed-go (ShortCircuit room schema (rest + over-size o) i) (a schema text tables g named room (rest + over-size o) i (source-reading own og o i h))
         (λ q. short-circuit room schema rest (over og o q)) z
         (λ q s. written-next g (over og o i) (over og o q) (omega (arith, h .fits)) (k₂ ∙ k₁) (over-done own og o i h k₁ q s k₂ e) named k₃ (h .shares) f))
@@ -232,7 +232,7 @@ module _ {records columns′ x : List ℕ} {lo hi tail : ℕ} {y : List ℕ} {at
     pub left-stop : length y₁ < u → Circuits records columns′ x lo hi tail y at u y₁
     unfolding ShortCircuit
     left-stop z schema text tables g named room rest p h =
-        by-join (λ p. Reading schema text tables x lo hi tail y at room rest p → Streamed (Kept schema text tables p) y at tail u y₁ (ShortCircuit room schema rest p))
+        by-join (λ p. Reading schema text tables x lo hi tail y at room rest p → Streamed (Sound-as schema text tables p) y at tail u y₁ (ShortCircuit room schema rest p))
         (λ og outer j l r h. streamed-stop (ShortCircuit room schema (rest + (node-size r + join-size j)) l)
         (a schema text tables g named room (rest + (node-size r + join-size j)) l (left-reading own st og outer j l r h))
         (λ p. ShortCircuit room schema (rest + (node-size p + join-size j)) r >>= λ q. short-circuit room schema rest (join og outer j p q)) z) p (sym (c p (h .here))) h
@@ -240,14 +240,14 @@ module _ {records columns′ x : List ℕ} {lo hi tail : ℕ} {y : List ℕ} {at
     module _ (k₁ : length y₁ ≡ length y) (z : u ≤ length y₁) {v : ℕ} {y₂ : List ℕ} (b : Circuits records columns′ x mid m (tail + (hi - m)) y₁ u v y₂) where
       left-went : {n : ℕ} {y₃ : List ℕ} (schema : Schema) (text : List ℕ) (tables : ℕ) → Records records columns′ schema → Named schema (length text) → (room rest : ℕ)
           → ((og : ℕ) (outer : Bool) (j : Join) (l r : Node) (h : Reading schema text tables x lo hi tail y at room rest (join og outer j l r))
-          → (p : Node) (s : Streamed (Kept schema text tables l) y at (tail + (hi - mid)) u y₁ (done p))
-          → Streamed (Kept schema text tables r) y₁ u (tail + (hi - m)) v y₂ (ShortCircuit room schema (rest + (node-size p + join-size j)) r)
-          → Streamed (Kept schema text tables (join og outer j l r)) y at tail n y₃
+          → (p : Node) (s : Streamed (Sound-as schema text tables l) y at (tail + (hi - mid)) u y₁ (done p))
+          → Streamed (Sound-as schema text tables r) y₁ u (tail + (hi - m)) v y₂ (ShortCircuit room schema (rest + (node-size p + join-size j)) r)
+          → Streamed (Sound-as schema text tables (join og outer j l r)) y at tail n y₃
           (ShortCircuit room schema (rest + (node-size p + join-size j)) r >>= λ q. short-circuit room schema rest (join og outer j p q)))
-          → (p : Node) → Reading schema text tables x lo hi tail y at room rest p → Streamed (Kept schema text tables p) y at tail n y₃ (ShortCircuit room schema rest p)
+          → (p : Node) → Reading schema text tables x lo hi tail y at room rest p → Streamed (Sound-as schema text tables p) y at tail n y₃ (ShortCircuit room schema rest p)
       unfolding ShortCircuit
       left-went {n} {y₃} schema text tables g named room rest e p h =
-          by-join (λ p. Reading schema text tables x lo hi tail y at room rest p → Streamed (Kept schema text tables p) y at tail n y₃ (ShortCircuit room schema rest p))
+          by-join (λ p. Reading schema text tables x lo hi tail y at room rest p → Streamed (Sound-as schema text tables p) y at tail n y₃ (ShortCircuit room schema rest p))
           (λ og outer j l r h. streamed-go (ShortCircuit room schema (rest + (node-size r + join-size j)) l)
           (a schema text tables g named room (rest + (node-size r + join-size j)) l (left-reading own st og outer j l r h))
           (λ p. ShortCircuit room schema (rest + (node-size p + join-size j)) r >>= λ q. short-circuit room schema rest (join og outer j p q)) z

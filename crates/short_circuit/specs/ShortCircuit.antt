@@ -1,5 +1,5 @@
 -- Contracts of pass 5. The labels that an emptied node keeps name tables and columns, so what is handed out can be written again only if the schema's
--- names lie inside the text: beside what a streamed pass is lent of the schema (crate stream), this pass is told so.
+-- names lie inside the text: beside what a streamed pass is lent of the schema (module stream), this pass is told so.
 use Prim.Native.Nat.{ℕ, _+_, _-_, _≤_, _<_}
 use mathlib.Core.Path.{_≡_}
 use mathlib.Core.List.{List, _++_}
@@ -9,13 +9,13 @@ use Rattle.sql.specs.Plan.{node-origin, nothing, Node, leaf, column-labels}
 use Rattle.sql.specs.Optimizer.{short-circuit}
 use Rattle.sql.specs.Room.{ShortCircuit}
 use Rattle.sound.specs.Sound.{Named}
-use Rattle.words.specs.Words.{node-words}
-use Rattle.words.specs.Place.{NodeHere}
-use Rattle.records.specs.Records.{Records}
-use Rattle.column_labels.specs.ColumnLabels.{marked}
-use Rattle.chain.specs.Chain.{Bare}
-use Rattle.kept.specs.Kept.{Kept}
-use Rattle.stream.specs.Stream.{Reading, StreamAt, Streamed}
+use Rattle.cells.specs.words.Words.{node-words}
+use Rattle.cells.specs.words.Place.{NodeHere}
+use Rattle.layout.specs.records.Records.{Records}
+use Rattle.short_circuit.specs.column_labels.ColumnLabels.{marked}
+use Rattle.edits.specs.chain.Chain.{Bare}
+use Rattle.edits.specs.kept.SoundAs.{Sound-as}
+use Rattle.edits.specs.stream.Stream.{Reading, StreamAt, Streamed}
 
 -- w is appended to the first `at` words of y, which makes n words, and tail words have room behind it; or there is no room, and n is past the end.
 pub record Fitted (y : List ℕ) (at : ℕ) (w : List ℕ) (tail n : ℕ) (y′ : List ℕ) : Type 0 where
@@ -42,9 +42,9 @@ pub record CircuitAt (records columns x : List ℕ) (lo hi tail : ℕ) (y : List
 abbrev pub Circuits : (records columns x : List ℕ) (lo hi tail : ℕ) (y : List ℕ) (at n : ℕ) → List ℕ → Type 0
 Circuits records columns x lo hi tail y at n y′ =
     (schema : Schema) (text : List ℕ) (tables : ℕ) → Records records columns schema → Named schema (length text) → (room rest : ℕ) (p : Node)
-    → Reading schema text tables x lo hi tail y at room rest p → Streamed (Kept schema text tables p) y at tail n y′ (ShortCircuit room schema rest p)
+    → Reading schema text tables x lo hi tail y at room rest p → Streamed (Sound-as schema text tables p) y at tail n y′ (ShortCircuit room schema rest p)
 
--- What becomes of the node of x from lo up to `end` stands in y, u words with the first `at` of y₀, and bare nodes (crate chain) stand over it up to hi.
+-- What becomes of the node of x from lo up to `end` stands in y, u words with the first `at` of y₀, and bare nodes (module chain) stand over it up to hi.
 pub record Climbing (records columns x : List ℕ) (lo end hi tail : ℕ) (y₀ : List ℕ) (at u : ℕ) (y : List ℕ) : Type 0 where
   pub bare : Bare x lo hi end
   pub given : CircuitAt records columns x lo hi tail y₀ at

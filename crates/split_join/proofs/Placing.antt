@@ -13,18 +13,18 @@ use Rattle.sql.specs.Optimizer.{split}
 use Rattle.cells.specs.Cells.{cell-words, words, sized, start-at, origin-at, Part, Sized}
 use Rattle.cells.specs.Room.{Short, Wrote}
 use Rattle.cells.proofs.Laws.{part-left, part-right, nothing, then, fits-to}
-use Rattle.words.specs.Words.{cell, expression-words, optional-words, node-words, source-words, own-words, node-cell, join-cell}
-use Rattle.words.specs.Place.{ExpressionHere, ExpressionAt, NodeHere, NodeAt}
-use Rattle.words.proofs.Nodes.{node-shape, node-in, source-part, sources-sized, join-left, join-right}
-use Rattle.words.proofs.Sizes.{sized-long}
+use Rattle.cells.specs.words.Words.{cell, expression-words, optional-words, node-words, source-words, own-words, node-cell, join-cell}
+use Rattle.cells.specs.words.Place.{ExpressionHere, ExpressionAt, NodeHere, NodeAt}
+use Rattle.cells.proofs.words.Nodes.{node-shape, node-in, source-part, sources-sized, join-left, join-right}
+use Rattle.cells.proofs.words.Sizes.{sized-long}
 use Rattle.nodes.specs.Own.{OwnStart}
 use Rattle.nodes.specs.Columns.{ColumnsAt, ColumnCount}
-use Rattle.edit.specs.Edit.{Holds, Placed, Reseals, ReplacesOwn}
-use Rattle.edit.proofs.Edits.{holds-here}
-use Rattle.copied_lookups.specs.declared.Source.the-variants.{Left, Right}
-use Rattle.push_into.proofs.Taking.{origin-here}
-use Rattle.push_part.specs.Part.{part-for, own-end, WritesOwn, PushesPart}
-use Rattle.push_part.proofs.Parts.{rest, rest-is, sources-stay, own-end-long}
+use Rattle.edits.specs.edit.Edit.{Holds, Placed, SetsSize, ReplacesOwn}
+use Rattle.edits.proofs.edit.Edits.{holds-here}
+use Rattle.split_join.specs.declared.copied_lookups.Source.the-variants.{Left, Right}
+use Rattle.split_join.proofs.push_into.Taking.{origin-here}
+use Rattle.split_join.specs.push_part.Part.{part-for, own-end, WritesOwn, PushesPart}
+use Rattle.split_join.proofs.push_part.Parts.{rest, rest-is, sources-stay, own-end-long}
 use Rattle.split_join.specs.Split.{stays, new-left, new-right, joined, JoinHere, JoinAt, PredicateAt, SplitAt, Stays, Rejoins, ReplacesEnd, SplitsRight, SplitsBoth, Splits}
 use Rattle.split_join.proofs.Splitting.{split-is}
 
@@ -172,7 +172,7 @@ module _ {x₁ : List ℕ} {u : ℕ} {pre post : List ℕ} (kept : List ℕ) (q 
     seal-room : (own ≤ u) × ((k ≤ u - own) × ((start + cell-words + (u - own - k) ≤ u) × (u ≤ length x₁)))
     seal-room = (omega (arith, total), (omega (arith, total, own-is), (omega (arith, total, own-is, own-end-long q), z)))
 
-    sealed : {v : ℕ} {x₂ : List ℕ} → length x₂ ≡ length x₁ → Reseals x₁ u start (u - own - k) v x₂ → Placed x₂ v pre post (joined (kept ++ (node-words q ++ more)) og outer o)
+    sealed : {v : ℕ} {x₂ : List ℕ} → length x₂ ≡ length x₁ → SetsSize x₁ u start (u - own - k) v x₂ → Placed x₂ v pre post (joined (kept ++ (node-words q ++ more)) og outer o)
     unfolding before after
     sealed {v} {x₂} e c =
         let j = cell og (join-cell outer (nested-loop o)) in
@@ -240,7 +240,7 @@ module _ (og n : ℕ) {x : List ℕ} {t lo mid m tail : ℕ} {cnf : List ℕ} {e
           (right-low (h .outer) (h .p) (h .l) (h .r) (h .here) (e .e) (e .here)) (right-start (h .outer) (h .p) (h .l) (h .r) (h .here) (e .e) (e .here))
           (right-own (h .outer) (h .p) (h .l) (h .r) (h .here) (e .e) (e .here)) l₀ short
 
-      pub right-done : {v : ℕ} {x₂ : List ℕ} → length x₂ ≡ length x₁ → Reseals x₁ u mid (u - own - k) v x₂ → SplitsRight og n x t lo mid m tail cnf end v x₂
+      pub right-done : {v : ℕ} {x₂ : List ℕ} → length x₂ ≡ length x₁ → SetsSize x₁ u mid (u - own - k) v x₂ → SplitsRight og n x t lo mid m tail cnf end v x₂
       right-done {v} {x₂} l₂ c pre post outer p l r h e a =
           subst (λ (w : List ℕ). Placed x₂ v pre post w) (right-shape outer p l r h e a)
           (sealed (node-words l) (new-right og n (ands e) r) [] og outer (stays og n (ands e) l r) (right-placed outer p l r h e a) z (right-low outer p l r h e a)
@@ -289,7 +289,7 @@ module _ (og n : ℕ) {x : List ℕ} {t lo mid m tail : ℕ} {cnf : List ℕ} {e
           (left-placed (h .outer) (h .p) (h .l) (h .r) (h .here) (e .e) (e .here)) z (omega (arith, h .here .holds .low))
           (left-start (h .outer) (h .p) (h .l) (h .r) (h .here) (e .e) (e .here)) (left-own (h .outer) (h .p) (h .l) (h .r) (h .here) (e .e) (e .here)) l₀ short
 
-      pub left-done : {v : ℕ} {x₂ : List ℕ} → length x₂ ≡ length x₁ → Reseals x₁ u lo (u - own - k) v x₂ → SplitsBoth og n x t lo mid m tail cnf end v x₂
+      pub left-done : {v : ℕ} {x₂ : List ℕ} → length x₂ ≡ length x₁ → SetsSize x₁ u lo (u - own - k) v x₂ → SplitsBoth og n x t lo mid m tail cnf end v x₂
       left-done {v} {x₂} l₃ c pre post outer p l r h e a =
           subst (λ (w : List ℕ). Placed x₂ v pre post w) (left-shape outer p l r h e a)
           (sealed [] (new-left og n (ands e) l) (node-words (new-right og n (ands e) r)) og outer (stays og n (ands e) l r) (left-placed outer p l r h e a) z (omega (arith, h .holds .low))

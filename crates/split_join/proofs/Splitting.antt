@@ -16,19 +16,19 @@ use Rattle.cells.specs.declared.Cell.{Cell}
 use Rattle.cells.specs.Cells.{cell-words, sized, cell-at}
 use Rattle.cells.specs.Room.{Wrote, Seals}
 use Rattle.cells.proofs.Laws.{then, wrote-up, no-more}
-use Rattle.words.specs.Words.{cell, optional-words, join-cell}
-use Rattle.words.specs.Place.{ExpressionHere, ExpressionAt, NodeHere, NodeAt}
-use Rattle.words.proofs.Nodes.{node-cell-is, own-part, node-in}
-use Rattle.words.proofs.Sizes.{sized-long}
+use Rattle.cells.specs.words.Words.{cell, optional-words, join-cell}
+use Rattle.cells.specs.words.Place.{ExpressionHere, ExpressionAt, NodeHere, NodeAt}
+use Rattle.cells.proofs.words.Nodes.{node-cell-is, own-part, node-in}
+use Rattle.cells.proofs.words.Sizes.{sized-long}
 use Rattle.nodes.specs.Own.{OwnStart}
 use Rattle.nodes.proofs.Widths.{flag-here}
-use Rattle.conjuncts.specs.Conjuncts.{GatheredAt, AppendsEach}
-use Rattle.conjuncts.proofs.Lists.{shift-none}
-use Rattle.conjuncts.proofs.Appending.{words-long, appends-then, appends-vec, gathered-more}
-use Rattle.copied_lookups.specs.declared.Source.the-variants.{Left, Right}
-use Rattle.copied_lookups.proofs.Refers.{right-refers}
-use Rattle.push_into.proofs.Taking.{no-true, put-long}
-use Rattle.push_part.specs.Part.{part-for, ComesBack}
+use Rattle.columns.specs.conjuncts.Conjuncts.{GatheredAt, AppendsEach}
+use Rattle.columns.proofs.conjuncts.Lists.{shift-none}
+use Rattle.columns.proofs.conjuncts.Appending.{words-long, appends-then, appends-vec, gathered-more}
+use Rattle.split_join.specs.declared.copied_lookups.Source.the-variants.{Left, Right}
+use Rattle.split_join.proofs.copied_lookups.Refers.{right-refers}
+use Rattle.split_join.proofs.push_into.Taking.{no-true, put-long}
+use Rattle.split_join.specs.push_part.Part.{part-for, ComesBack}
 use Rattle.split_join.specs.Split.{stays, new-left, new-right, joined, PredicateAt, HasPredicate, Stays, Rejoins}
 
 -- ---- a join with a predicate

@@ -13,13 +13,13 @@ use Rattle.sql.specs.Room.{join-predicate}
 use Rattle.sheet.specs.Cells.{present}
 use Rattle.cells.specs.Cells.{cell-words, sized}
 use Rattle.cells.specs.Room.{Short, most-words, Wrote}
-use Rattle.words.specs.Words.{cell, optional-words, node-words, join-cell}
-use Rattle.words.specs.Place.{ExpressionHere, NodeHere}
+use Rattle.cells.specs.words.Words.{cell, optional-words, node-words, join-cell}
+use Rattle.cells.specs.words.Place.{ExpressionHere, NodeHere}
 use Rattle.nodes.specs.Columns.{Narrow}
-use Rattle.records.specs.Records.{Tables}
-use Rattle.edit.specs.Edit.{Holds, Placed}
-use Rattle.copied_lookups.specs.declared.Source.the-variants.{Left, Right}
-use Rattle.push_part.specs.Part.{part-for}
+use Rattle.layout.specs.records.Records.{Tables}
+use Rattle.edits.specs.edit.Edit.{Holds, Placed}
+use Rattle.split_join.specs.declared.copied_lookups.Source.the-variants.{Left, Right}
+use Rattle.split_join.specs.push_part.Part.{part-for}
 
 -- The predicate of the join of l and r after the split: the conjuncts that stay, and what comes back from l and from r, in the joined row's columns.
 abbrev pub stays : (origin n : ℕ) → List Expression → Node → Node → Option Expression

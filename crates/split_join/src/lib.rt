@@ -1,14 +1,21 @@
-// optimizer.rs, maybe_push_join: a join after one split of its predicate. The conjuncts of the predicate are pushed into the join's sources, as far as these take
-// them. The plan is edited in place (crate edit): it stands in the first t words of x, the join from lo up to t - tail. What stands before the first word that
-// changes stays where it is; what comes behind that word, up to the join's end, is written to the scratch y and takes its place at once. So where the join
-// is as long as before, which it often is, the words behind it stay where they are too. `origin` is the join's; each And that is put together has it.
-use copied_lookups::Source;
+// optimizer.rs, maybe_push_join: a join after one split of its predicate. The conjuncts of the predicate are pushed into the join's sources, as far as these
+// take them. The plan is edited in place (module edit): it stands in the first `used` words of `plan`, the join from lo up to `used - tail`. What stands before
+// the first word that changes stays where it is; what comes behind that word, up to the join's end, is written to the scratch y and takes its place at once. So
+// where the join is as long as before, which it often is, the words behind it stay where they are too. `origin` is the join's; each And that is put together
+// has it.
+use crate::copied_lookups::Source;
 ghost use mathlib.Core.Path.{_≡_};
 ghost use Prim.Native.Nat.{_-_, _≤_};
 ghost use lib.ListN.{length};
-ghost use Rattle.words.specs.Place.{ExpressionAt, NodeAt};
+ghost use Rattle.cells.specs.words.Place.{ExpressionAt, NodeAt};
 ghost use Rattle.nodes.specs.Own.{OwnStart};
 ghost use Rattle.split_join.specs.Split.{PredicateAt, JoinAt, SplitAt, Stays, Rejoins, ReplacesEnd, SplitsRight, SplitsBoth, Splits};
+use columns::conjuncts;
+use edits::edit;
+
+pub mod copied_lookups;
+pub mod push_into;
+pub mod push_part;
 
 // The new predicate of a join of the sources from lo to mid and from mid to m, behind the first `at` words of d: the conjuncts that stay, and behind them what
 // comes back from each source. The left source has n columns.
@@ -63,16 +70,16 @@ fn rejoin(s: &[u32], lo: usize, hi: usize, d: &mut [u32], mid: usize, at: usize)
     cells::put(d, 0, at, c)
 }
 
-// The first `at` words of y, the new predicate and the join's cell in the place of the join's words from word `from` on, which is one of its sources' words or m.
-// The sources end at mid and at m, and the left one has n columns. The predicate's normal form stands in cnf up to word `end`; g is lent for the conjuncts of
-// one source at a time.
+// The first `at` words of y, the new predicate and the join's cell in the place of the join's words from word `from` on, which is one of its sources' words or
+// m. The sources end at mid and at m, and the left one has n columns. The predicate's normal form stands in cnf up to word `end`; g is lent for the conjuncts
+// of one source at a time.
 fn replace_end(
-    x: &mut [u32],
+    plan: &mut [u32],
     y: &mut [u32],
     cnf: &[u32],
     end: usize,
     g: &mut [u32],
-    t: usize,
+    used: usize,
     lo: usize,
     mid: usize,
     m: usize,
@@ -82,26 +89,26 @@ fn replace_end(
     at: usize,
     origin: u32,
 ) -> usize
-    requires { ⌜ JoinAt (now x) t lo mid m tail origin ⌝ }
+    requires { ⌜ JoinAt (now plan) used lo mid m tail origin ⌝ }
     requires { ⌜ (lo ≤ from) × (from ≤ m) ⌝ }
-    requires { ⌜ length (now y) ≡ length (now x) ⌝ }
+    requires { ⌜ length (now y) ≡ length (now plan) ⌝ }
     requires { ⌜ ExpressionAt (now cnf) 0 end ⌝ }
     requires { ⌜ length (now g) ≡ length (now cnf) ⌝ }
-    ensures { λ r. ⌜ ReplacesEnd origin n (now (x .entry)) (now (y .entry)) t lo mid m tail (now (cnf .entry)) end from at r (now (x .exit)) ⌝ }
+    ensures { λ r. ⌜ ReplacesEnd origin n (now (plan .entry)) (now (y .entry)) used lo mid m tail (now (cnf .entry)) end from at r (now (plan .exit)) ⌝ }
 {
-    let b = joined_predicate(x, lo, mid, m, cnf, end, g, y, at, n, origin);
-    let c = rejoin(x, lo, t - tail, y, at, b);
-    edit::replace_own(x, y, c, t, lo, from, tail)
+    let b = joined_predicate(plan, lo, mid, m, cnf, end, g, y, at, n, origin);
+    let c = rejoin(plan, lo, used - tail, y, at, b);
+    edit::replace_own(plan, y, c, used, lo, from, tail)
 }
 
 // The join with the new predicate, and with the right source's part in that source. The left source stays where it is, as it is.
 fn split_right(
-    x: &mut [u32],
+    plan: &mut [u32],
     y: &mut [u32],
     cnf: &[u32],
     end: usize,
     g: &mut [u32],
-    t: usize,
+    used: usize,
     lo: usize,
     mid: usize,
     m: usize,
@@ -109,32 +116,62 @@ fn split_right(
     n: usize,
     origin: u32,
 ) -> usize
-    requires { ⌜ JoinAt (now x) t lo mid m tail origin ⌝ }
-    requires { ⌜ length (now y) ≡ length (now x) ⌝ }
+    requires { ⌜ JoinAt (now plan) used lo mid m tail origin ⌝ }
+    requires { ⌜ length (now y) ≡ length (now plan) ⌝ }
     requires { ⌜ ExpressionAt (now cnf) 0 end ⌝ }
     requires { ⌜ length (now g) ≡ length (now cnf) ⌝ }
-    ensures { λ r. ⌜ SplitsRight origin n (now (x .entry)) t lo mid m tail (now (cnf .entry)) end r (now (x .exit)) ⌝ }
+    ensures { λ r. ⌜ SplitsRight origin n (now (plan .entry)) used lo mid m tail (now (cnf .entry)) end r (now (plan .exit)) ⌝ }
 {
-    let k = push_part::own_part(x, mid, m, cnf, end, g, y, Source::Right, n, n, origin);
+    let k = push_part::own_part(plan, mid, m, cnf, end, g, y, Source::Right, n, n, origin);
     if k == 0 {
-        return replace_end(x, y, cnf, end, g, t, lo, mid, m, tail, n, m, 0, origin);
+        return replace_end(
+            plan,
+            y,
+            cnf,
+            end,
+            g,
+            used,
+            lo,
+            mid,
+            m,
+            tail,
+            n,
+            m,
+            0,
+            origin,
+        );
     }
-    let own = nodes::own_start(x, mid, m);
-    let u = replace_end(x, y, cnf, end, g, t, lo, mid, m, tail, n, own, k, origin);
-    if x.len() < u {
+    let own = nodes::own_start(plan, mid, m);
+    let u = replace_end(
+        plan,
+        y,
+        cnf,
+        end,
+        g,
+        used,
+        lo,
+        mid,
+        m,
+        tail,
+        n,
+        own,
+        k,
+        origin,
+    );
+    if plan.len() < u {
         return u;
     }
-    edit::reseal(x, u, mid, u - own - k)
+    edit::set_size(plan, u, mid, u - own - k)
 }
 
 // The join with the new predicate, and with each source's part in that source. If the left source takes a part, the right one is written again behind it.
 fn split_both(
-    x: &mut [u32],
+    plan: &mut [u32],
     y: &mut [u32],
     cnf: &[u32],
     end: usize,
     g: &mut [u32],
-    t: usize,
+    used: usize,
     lo: usize,
     mid: usize,
     m: usize,
@@ -142,47 +179,62 @@ fn split_both(
     n: usize,
     origin: u32,
 ) -> usize
-    requires { ⌜ JoinAt (now x) t lo mid m tail origin ⌝ }
-    requires { ⌜ length (now y) ≡ length (now x) ⌝ }
+    requires { ⌜ JoinAt (now plan) used lo mid m tail origin ⌝ }
+    requires { ⌜ length (now y) ≡ length (now plan) ⌝ }
     requires { ⌜ ExpressionAt (now cnf) 0 end ⌝ }
     requires { ⌜ length (now g) ≡ length (now cnf) ⌝ }
-    ensures { λ r. ⌜ SplitsBoth origin n (now (x .entry)) t lo mid m tail (now (cnf .entry)) end r (now (x .exit)) ⌝ }
+    ensures { λ r. ⌜ SplitsBoth origin n (now (plan .entry)) used lo mid m tail (now (cnf .entry)) end r (now (plan .exit)) ⌝ }
 {
-    let k = push_part::own_part(x, lo, mid, cnf, end, g, y, Source::Left, n, 0, origin);
+    let k = push_part::own_part(plan, lo, mid, cnf, end, g, y, Source::Left, n, 0, origin);
     if k == 0 {
-        return split_right(x, y, cnf, end, g, t, lo, mid, m, tail, n, origin);
+        return split_right(plan, y, cnf, end, g, used, lo, mid, m, tail, n, origin);
     }
-    let own = nodes::own_start(x, lo, mid);
-    let b = push_part::push_part(x, mid, m, cnf, end, g, y, k, Source::Right, n, n, origin);
-    let u = replace_end(x, y, cnf, end, g, t, lo, mid, m, tail, n, own, b, origin);
-    if x.len() < u {
+    let own = nodes::own_start(plan, lo, mid);
+    let b = push_part::push_part(plan, mid, m, cnf, end, g, y, k, Source::Right, n, n, origin);
+    let u = replace_end(
+        plan,
+        y,
+        cnf,
+        end,
+        g,
+        used,
+        lo,
+        mid,
+        m,
+        tail,
+        n,
+        own,
+        b,
+        origin,
+    );
+    if plan.len() < u {
         return u;
     }
-    edit::reseal(x, u, lo, u - own - k)
+    edit::set_size(plan, u, lo, u - own - k)
 }
 
-// The join, whose predicate starts at m, after the split of its predicate. tables are the table records (crate records).
+// The join, whose predicate starts at m, after the split of its predicate. tables are the table records (module records).
 pub fn split(
-    x: &mut [u32],
+    plan: &mut [u32],
     y: &mut [u32],
     cnf: &[u32],
     end: usize,
     g: &mut [u32],
-    t: usize,
+    used: usize,
     lo: usize,
     m: usize,
     tail: usize,
     tables: &[u8],
 ) -> usize
-    requires { ⌜ SplitAt (now tables) (now x) t lo tail ⌝ }
-    requires { ⌜ OwnStart (now x) lo (t - tail) m ⌝ }
-    requires { ⌜ length (now y) ≡ length (now x) ⌝ }
+    requires { ⌜ SplitAt (now tables) (now plan) used lo tail ⌝ }
+    requires { ⌜ OwnStart (now plan) lo (used - tail) m ⌝ }
+    requires { ⌜ length (now y) ≡ length (now plan) ⌝ }
     requires { ⌜ ExpressionAt (now cnf) 0 end ⌝ }
     requires { ⌜ length (now g) ≡ length (now cnf) ⌝ }
-    ensures { λ r. ⌜ Splits (now (tables .entry)) (now (x .entry)) t lo tail (now (cnf .entry)) end r (now (x .exit)) ⌝ }
+    ensures { λ r. ⌜ Splits (now (tables .entry)) (now (plan .entry)) used lo tail (now (cnf .entry)) end r (now (plan .exit)) ⌝ }
 {
-    let mid = cells::start(x, m);
-    let n = nodes::columns(x, lo, mid, tables);
-    let origin = cells::origin_at(x, t - tail);
-    split_both(x, y, cnf, end, g, t, lo, mid, m, tail, n, origin)
+    let mid = cells::start(plan, m);
+    let n = nodes::columns(plan, lo, mid, tables);
+    let origin = cells::origin_at(plan, used - tail);
+    split_both(plan, y, cnf, end, g, used, lo, mid, m, tail, n, origin)
 }

@@ -21,9 +21,9 @@ use Rattle.layout.specs.declared.Found.{Found}
 use Rattle.layout.specs.declared.Found.the-variants.{At, Nothing}
 use Rattle.layout.proofs.Known.{cells-pass}
 use Rattle.layout.proofs.Laws.{cells-are, cell-there}
-use Rattle.arity.specs.Sort
-use Rattle.arity.specs.Arity.{sort-of, children-of}
-use Rattle.arity.proofs.Laws.{Known, content-known}
+use Rattle.structure.specs.arity.Sort
+use Rattle.structure.specs.arity.Arity.{sort-of, children-of}
+use Rattle.structure.proofs.arity.Laws.{Known, content-known}
 use Rattle.structure.specs.Sorts.{expression-sort, sorts, reduced}
 use Rattle.structure.specs.Structure.{place, plan-of, stacked, left, Reduces}
 use Rattle.structure.proofs.Reduce.{sorted, reduce-sorts}

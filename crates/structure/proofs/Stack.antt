@@ -17,10 +17,10 @@ use Rattle.layout.specs.Layout.{as-cell}
 use Rattle.layout.specs.declared.Cell.{Cell}
 use Rattle.layout.specs.declared.Found.{Found}
 use Rattle.layout.specs.declared.Found.the-variants.{At, Nothing}
-use Rattle.arity.specs.Sort
-use Rattle.arity.specs.Arity.{sort-of, childless, parts-only, children-of, Sorted, Asked}
-use Rattle.arity.specs.declared.Children.{Children}
-use Rattle.arity.proofs.Laws.{sorted-by, asked-by}
+use Rattle.structure.specs.arity.Sort
+use Rattle.structure.specs.arity.Arity.{sort-of, childless, parts-only, children-of, Sorted, Asked}
+use Rattle.structure.specs.declared.arity.Children.{Children}
+use Rattle.structure.proofs.arity.Laws.{sorted-by, asked-by}
 use Rattle.structure.specs.Sorts.{serves, if-so, taken, reduced}
 use Rattle.structure.specs.Structure.{stacked, left, Takes, Reduces, Operates}
 

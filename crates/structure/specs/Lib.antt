@@ -1,2 +1,3 @@
 pub mod Sorts
 pub mod Structure
+pub mod arity

@@ -6,8 +6,8 @@ use mathlib.Core.Option.{Option, none, some}
 use lib.Dec.{eqb}
 use Rattle.sql.specs.Expression.{Expression, constant, column, unary, binary}
 use Rattle.sheet.specs.Tree.{Tree, expression-tree, label-tree, item-tree, key-tree, target-tree, agg-tree, row-tree, node-tree, Stack, bind}
-use Rattle.arity.specs.Sort
-use Rattle.arity.specs.declared.Children.{Children}
+use Rattle.structure.specs.arity.Sort
+use Rattle.structure.specs.declared.arity.Children.{Children}
 
 abbrev pub expression-sort : Expression → ℕ
 expression-sort (constant og v) = Sort.constant

@@ -10,8 +10,8 @@ use Rattle.sheet.specs.Parts.{cell-count}
 use Rattle.sheet.specs.Tree.{read}
 use Rattle.sheet.specs.Check.{text, cells-of, one-plan}
 use Rattle.sheet.specs.Content.{content-of}
-use Rattle.arity.specs.Sort
-use Rattle.arity.specs.Arity.{sort-of, parts-only, children-of}
+use Rattle.structure.specs.arity.Sort
+use Rattle.structure.specs.arity.Arity.{sort-of, parts-only, children-of}
 use Rattle.layout.specs.Layout.{as-cell}
 use Rattle.layout.specs.declared.Cell.{Cell}
 use Rattle.layout.specs.declared.Found.{Found}

@@ -10,6 +10,9 @@ ghost use Rattle.layout.specs.Layout.{Whole, found};
 ghost use Rattle.structure.specs.Sorts as Sorts;
 ghost use Rattle.structure.specs.Structure.{place, plan-of, Takes, Reduces, Operates};
 use layout::Found;
+use sheet::tags;
+
+pub mod arity;
 
 // A constant serves where an expression is asked for.
 fn serves(have: u8, want: usize) -> bool

@@ -11,7 +11,7 @@ use lib.Ieee.{binary64, ofBits, toBits, ofInt}
 use Rattle.value.specs.Value.{Value, boolean, Result, ok}
 use Rattle.value.specs.Arithmetic.{written}
 use Rattle.value.specs.Comparison.{Comparison, Found, compare-floats, compare, answer, is-equal, is-greater, is-less}
-use Rattle.value.proofs.Comparison.{by-tests, is-unordered, equal-floats, less-floats, greater-floats, unordered-floats}
+use Rattle.value.proofs.Compared.{by-tests, is-unordered, equal-floats, less-floats, greater-floats, unordered-floats}
 use Rattle.value.proofs.ComparisonLaws.{less-where, equal-where, greater-where, unordered-where}
 use Rattle.sql.specs.Expression.{Binary, function, Equal, GreaterThan, LessThan, Add, Divide, evaluate-binary}
 use Rattle.ieee754.specs.Ieee754 as Ieee754

@@ -17,7 +17,7 @@ use Rattle.value.specs.Comparison.{Finding, Comparison, Null, Found, Les
 use Rattle.value.specs.Undefined.{is-nan}
 use Rattle.value.specs.ComparisonLaws.{turned, swapped, Family, booleans, numbers, strings, family, Before, prefix, differ, Finds, Comparison-laws}
 use Rattle.value.proofs.Laws.{false≢true}
-use Rattle.value.proofs.Comparison.{is-unordered, by-tests, between, unordered-floats, rounded-is-number, swapped-floats, less-integers, greater-integers, equal-integers, same-integers, swapped-integers, swapped-bytes, equal-bytes, same-bytes}
+use Rattle.value.proofs.Compared.{is-unordered, by-tests, between, unordered-floats, rounded-is-number, swapped-floats, less-integers, greater-integers, equal-integers, same-integers, swapped-integers, swapped-bytes, equal-bytes, same-bytes}
 
 -- ---- a finding is told by its test
 

@@ -1,4 +1,4 @@
 pub mod Laws
 pub mod Patterns
-pub mod Comparison
+pub mod Compared
 pub mod ComparisonLaws

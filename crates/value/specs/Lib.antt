@@ -7,3 +7,5 @@ pub mod Undefined
 pub mod ComparisonLaws
 pub mod Meaning
 pub mod Examples
+pub mod Operands
+pub mod Findings

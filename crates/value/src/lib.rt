@@ -1,4 +1,4 @@
-// value.rs: the values of expressions, and what And, Or, Not, Is Null and Is NaN give of them. The other operators are in crates arithmetic and comparison.
+// value.rs: the values of expressions, and what And, Or, Not, Is Null and Is NaN give of them. The other operators are in modules arithmetic and comparison.
 ghost use Prim.Native.Nat.{ℕ};
 ghost use mathlib.Core.Path.{_≡_};
 ghost use mathlib.Core.List.{List};
@@ -8,6 +8,8 @@ ghost use Rattle.value.specs.Meaning.{meaning, error, result, integer-bi
 ghost use Rattle.value.specs.Value.{number};
 ghost use Rattle.value.specs.Undefined.{is-undefined, is-null, is-nan};
 
+pub mod arithmetic;
+pub mod comparison;
 pub mod logic;
 
 // A value of an expression.

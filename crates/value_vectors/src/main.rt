@@ -8,6 +8,8 @@ use value::Error;
 use value::Result;
 use value::Value;
 ghost use Prim.Native.Nat.{_+_, _≤_};
+use value::arithmetic;
+use value::comparison;
 
 const STDIN: i32 = 0;
 

@@ -13,7 +13,7 @@ use Rattle.checker.proofs.check_plan.Reads as reads
 use Rattle.checker.proofs.check_plan.Lts as lts
 use Rattle.checker.proofs.check_targets.Reads as check-targets-reads
 use Rattle.checker.proofs.refusal.Reads as refusal-reads
-use Rattle.scope.proofs.outside.Reads as outside-reads
+use Rattle.checker.proofs.scope.outside.Reads as outside-reads
 use Rattle.structure.proofs.lacking.Reads as lacking-reads
 
 lacking-requires : tie.Need-lacking-requires

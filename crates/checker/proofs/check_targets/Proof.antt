@@ -16,7 +16,7 @@ use Rattle.checker.proofs.check_targets.Reads as reads
 use Rattle.checker.proofs.check_targets.Lts as lts
 use Rattle.checker.proofs.refusal.Reads as refusal-reads
 use Rattle.layout.proofs.parts_of.Reads as parts-of-reads
-use Rattle.targets.proofs.target_repeated.Reads as target-repeated-reads
+use Rattle.checker.proofs.targets.target_repeated.Reads as target-repeated-reads
 
 target-repeated-requires : tie.Need-target-repeated-requires
 target-repeated-requires c κs = search needs

@@ -15,11 +15,11 @@ use Rattle.constant_folding.proofs.+fold_node+fold_source.Lts-fold_sour
 use Rattle.cells.proofs.cell_at.Reads as cell-at-reads
 use Rattle.cells.proofs.copy.Reads as copy-reads
 use Rattle.cells.proofs.put.Reads as put-reads
-use Rattle.chain.proofs.descend_bare.Reads as descend-bare-reads
-use Rattle.chain.proofs.follow.Reads as follow-reads
+use Rattle.edits.proofs.chain.descend_bare.Reads as descend-bare-reads
+use Rattle.edits.proofs.chain.follow.Reads as follow-reads
 use Rattle.constant_folding.proofs.last_source.Reads as last-source-reads
 use Rattle.constant_folding.proofs.refuse.Reads as refuse-reads
-use Rattle.fold_parts.proofs.fold_own.Reads as fold-own-reads
+use Rattle.constant_folding.proofs.fold_parts.fold_own.Reads as fold-own-reads
 use Rattle.nodes.proofs.own_start.Reads as own-start-reads
 use Rattle.constant_folding.proofs.+fold_node+fold_source.{statement}
 use Rattle.constant_folding.proofs.+fold_node+fold_source.Tie.{close}

@@ -1,4 +1,4 @@
-use Rattle.words.proofs.Nodes.{node-in}
+use Rattle.cells.proofs.words.Nodes.{node-in}
 use Rattle.constant_folding.proofs.Plans.{source-at, plan-folded}
 use native.Mathlib.Omega.{arith}
 use borrow.Author.Needs.{needs}

@@ -2,7 +2,7 @@ use Rattle.constant_folding.proofs.Nodes.{refuses-then, refuses-first}
 use borrow.Author.Needs.{needs}
 use Rattle.constant_folding.proofs.refuse.Statement.{statement}
 use Rattle.constant_folding.proofs.refuse.Tie as tie
-use Rattle.fold_parts.proofs.fold_own.Reads as fold-own-reads
+use Rattle.constant_folding.proofs.fold_parts.fold_own.Reads as fold-own-reads
 
 fold-own-requires : tie.Need-fold-own-requires
 fold-own-requires c κs = c .before .before .before .before .pre

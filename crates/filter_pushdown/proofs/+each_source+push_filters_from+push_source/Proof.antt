@@ -1,9 +1,9 @@
 use borrow.Author.Needs.{needs}
 use Rattle.filter_pushdown.proofs.Sources.{none-left, own-inside, source-next, source-full, source-fits, source-done, right-end, mid-inside, left-next, left-full, back-inside, right-next, right-full, both-fit, both-done}
-use Rattle.push_filters.proofs.Pushing.{pass-at, pass-in, pass-next, buffers-next}
+use Rattle.filter_pushdown.proofs.push_filters.Pushing.{pass-at, pass-in, pass-next, buffers-next}
 use Rattle.filter_pushdown.proofs.From.{cell-same, from-full, from-again}
 use Rattle.filter_pushdown.proofs.Descending.{chain-zero, chain-count, chain-end, chain-next, chain-full, chain-inside, chain-as-long, chain-done}
-use Rattle.edit.proofs.Edits.{total}
+use Rattle.edits.proofs.edit.Edits.{total}
 use Rattle.sql.specs.Room
 use Prim.Native.Nat.{ℕ, _+_, _*_, _<_}
 use native.Mathlib.Omega.{arith}
@@ -19,10 +19,10 @@ use Rattle.filter_pushdown.proofs.push_source.Reads as push-source
 use Rattle.filter_pushdown.proofs.push_source.Kinds as push-source-kinds
 use Rattle.filter_pushdown.proofs.+each_source+push_filters_from+push_source.Lts-push_source as push-source-lts
 use Rattle.cells.proofs.start.Reads as start-reads
-use Rattle.chain.proofs.descend.Reads as descend-reads
-use Rattle.chain.proofs.reseal.Reads as chain-reseal-reads
-use Rattle.edit.proofs.reseal.Reads as reseal-reads
-use Rattle.push_filters.proofs.push_filters_in_place.Reads as push-filters-in-place-reads
+use Rattle.edits.proofs.chain.descend.Reads as descend-reads
+use Rattle.edits.proofs.chain.set_sizes.Reads as chain-reseal-reads
+use Rattle.edits.proofs.edit.set_size.Reads as set-size-reads
+use Rattle.filter_pushdown.proofs.push_filters.push_filters_in_place.Reads as push-filters-in-place-reads
 use Rattle.nodes.proofs.own_start.Reads as own-start-reads
 use Rattle.nodes.proofs.source_count.Reads as source-count-reads
 use Rattle.filter_pushdown.proofs.+each_source+push_filters_from+push_source.{statement}
@@ -70,7 +70,7 @@ push-source-below t =
     and 5 push-source-kinds.ps (falls 5 push-source-kinds.ps _<_ μ-push-source t) push-source.Pre
 
 abbrev each-source-claims : ℕ → each-source-lts.Claims
-each-source-claims t = (source-count-reads.Asked, source-count-reads.Learnt, own-start-reads.Asked, own-start-reads.Learnt, push-source-below t, push-source.Post, reseal-reads.Asked, reseal-reads.Learnt, start-reads.Asked, start-reads.Learnt)
+each-source-claims t = (source-count-reads.Asked, source-count-reads.Learnt, own-start-reads.Asked, own-start-reads.Learnt, push-source-below t, push-source.Post, set-size-reads.Asked, set-size-reads.Learnt, start-reads.Asked, start-reads.Learnt)
 
 abbrev push-filters-from-claims : ℕ → push-filters-from-lts.Claims
 push-filters-from-claims t = (descend-reads.Asked, descend-reads.Learnt, push-filters-in-place-reads.Asked, push-filters-in-place-reads.Learnt, each-source-below t, each-source.Post, chain-reseal-reads.Asked, chain-reseal-reads.Learnt)
@@ -102,11 +102,11 @@ each-source-push-source-requires t c κs = (omega (arith, c .before .before .bef
 each-source-returns-2 : (t : ℕ) → each-source-lts.Need-returns-2 (each-source-claims t) (each-source-at t) each-source.Post
 each-source-returns-2 t c = source-full (c .before .before .before .before .before .before .before .before .before .before .before .before .before .before .before .before .before .before .before .before .before .before .before .before .before .args .n) (c .before .before .before .before .before .before .before .before .before .before .before .before .before .before .before .before .before .before .source-count .ensures) (c .before .before .before .before .before .before .before .before .before .before .before .before .before .before .before .own-start .ensures) (c .before .before .before .before .before .before .before .before .before .before .before .before .before .before .if2 .taken) (c .before .before .before .before .before .before .before .before .before .push-source .ensures) (c .if3 .taken)
 
-each-source-reseal-requires : (t : ℕ) → each-source-lts.Need-reseal-requires (each-source-claims t) (each-source-at t) each-source.Post
-each-source-reseal-requires t c κs = (source-fits (c .before .before .before .before .before .before .before .before .before .before .before .before .before .before .before .before .before .before .before .before .before .before .before .before .before .before .args .n) (c .before .before .before .before .before .before .before .before .before .before .before .before .before .before .before .before .before .before .before .source-count .ensures) (c .before .before .before .before .before .before .before .before .before .before .before .before .before .before .before .before .own-start .ensures) (c .before .before .before .before .before .before .before .before .before .before .before .before .before .before .before .if2 .taken) (c .before .before .before .before .before .before .before .before .before .before .push-source .ensures) (c .before .if3 .left) (c .before .before .before .before .before .before .before .before .before .before .before .before .before .before .before .before .before .before .before .before .before .before .before .before .before .before .pre .1 .0), c .before .if3 .left)
+each-source-set-size-requires : (t : ℕ) → each-source-lts.Need-set-size-requires (each-source-claims t) (each-source-at t) each-source.Post
+each-source-set-size-requires t c κs = (source-fits (c .before .before .before .before .before .before .before .before .before .before .before .before .before .before .before .before .before .before .before .before .before .before .before .before .before .before .args .n) (c .before .before .before .before .before .before .before .before .before .before .before .before .before .before .before .before .before .before .before .source-count .ensures) (c .before .before .before .before .before .before .before .before .before .before .before .before .before .before .before .before .own-start .ensures) (c .before .before .before .before .before .before .before .before .before .before .before .before .before .before .before .if2 .taken) (c .before .before .before .before .before .before .before .before .before .before .push-source .ensures) (c .before .if3 .left) (c .before .before .before .before .before .before .before .before .before .before .before .before .before .before .before .before .before .before .before .before .before .before .before .before .before .before .pre .1 .0), c .before .if3 .left)
 
 each-source-returns-3 : (t : ℕ) → each-source-lts.Need-returns-3 (each-source-claims t) (each-source-at t) each-source.Post
-each-source-returns-3 t c = source-done (c .before .before .before .before .before .before .before .before .before .before .before .before .before .before .before .before .before .before .before .before .before .before .before .before .before .before .before .before .before .args .n) (c .before .before .before .before .before .before .before .before .before .before .before .before .before .before .before .before .before .before .before .before .before .before .source-count .ensures) (c .before .before .before .before .before .before .before .before .before .before .before .before .before .before .before .before .before .before .before .own-start .ensures) (c .before .before .before .before .before .before .before .before .before .before .before .before .before .before .before .before .before .before .if2 .taken) (c .before .before .before .before .before .before .before .before .before .before .before .before .before .push-source .ensures) (c .before .before .before .before .before .before .before .before .before .before .before .before .before .push-source .kept .0) (c .before .before .before .before .if3 .left) (c .before .before .reseal .kept .0) (c .before .before .reseal .ensures)
+each-source-returns-3 t c = source-done (c .before .before .before .before .before .before .before .before .before .before .before .before .before .before .before .before .before .before .before .before .before .before .before .before .before .before .before .before .before .args .n) (c .before .before .before .before .before .before .before .before .before .before .before .before .before .before .before .before .before .before .before .before .before .before .source-count .ensures) (c .before .before .before .before .before .before .before .before .before .before .before .before .before .before .before .before .before .before .before .own-start .ensures) (c .before .before .before .before .before .before .before .before .before .before .before .before .before .before .before .before .before .before .if2 .taken) (c .before .before .before .before .before .before .before .before .before .before .before .before .before .push-source .ensures) (c .before .before .before .before .before .before .before .before .before .before .before .before .before .push-source .kept .0) (c .before .before .before .before .if3 .left) (c .before .before .set-size .kept .0) (c .before .before .set-size .ensures)
 
 each-source-start-requires : (t : ℕ) → each-source-lts.Need-start-requires (each-source-claims t) (each-source-at t) each-source.Post
 each-source-start-requires t c κs = right-end (c .before .before .before .before .before .before .before .before .before .before .before .before .args .n) (c .before .before .before .before .before .source-count .ensures) (c .before .before .own-start .ensures) (c .before .before .before .before .if1 .left) (c .before .if2 .left) (c .before .before .before .before .before .before .before .before .before .before .before .before .pre .1 .0)
@@ -132,11 +132,11 @@ each-source-push-source-requires-3 t c κs = (omega (arith, c .before .before .b
 each-source-returns-5 : (t : ℕ) → each-source-lts.Need-returns-5 (each-source-claims t) (each-source-at t) each-source.Post
 each-source-returns-5 t c = right-full (c .before .before .before .before .before .before .before .before .before .before .before .before .before .before .before .before .before .before .before .before .before .before .before .before .before .before .before .before .before .before .before .before .before .before .before .before .before .before .before .before .before .args .n) (c .before .before .before .before .before .before .before .before .before .before .before .before .before .before .before .before .before .before .before .before .before .before .before .before .before .before .before .before .before .before .before .before .before .before .source-count .ensures) (c .before .before .before .before .before .before .before .before .before .before .before .before .before .before .before .before .before .before .before .before .before .before .before .before .before .before .before .before .before .before .before .own-start .ensures) (c .before .before .before .before .before .before .before .before .before .before .before .before .before .before .before .before .before .before .before .before .before .before .before .before .before .before .before .before .before .before .before .before .before .if1 .left) (c .before .before .before .before .before .before .before .before .before .before .before .before .before .before .before .before .before .before .before .before .before .before .before .before .before .before .before .before .before .before .if2 .left) (c .before .before .before .before .before .before .before .before .before .before .before .before .before .before .before .before .before .before .before .before .before .before .before .before .before .before .before .before .before .before .before .before .before .before .before .before .before .before .before .before .before .pre .1 .0) (c .before .before .before .before .before .before .before .before .before .before .before .before .before .before .before .before .before .before .before .before .before .before .before .before .before .before .before .before .start .ensures) (c .before .before .before .before .before .before .before .before .before .before .before .before .before .before .before .before .before .before .before .before .before .before .before .push-source2 .ensures) (c .before .before .before .before .before .before .before .before .before .before .before .before .before .before .if4 .left) (c .before .before .before .before .before .before .before .before .before .before .before .before .before .before .before .before .before .before .before .before .before .before .before .push-source2 .kept .0) (c .before .before .before .before .before .before .before .before .before .push-source3 .ensures) (c .if5 .taken)
 
-each-source-reseal-requires-2 : (t : ℕ) → each-source-lts.Need-reseal-requires-2 (each-source-claims t) (each-source-at t) each-source.Post
-each-source-reseal-requires-2 t c κs = (both-fit (c .before .before .before .before .before .before .before .before .before .before .before .before .before .before .before .before .before .before .before .before .before .before .before .before .before .before .before .before .before .before .before .before .before .before .before .before .before .before .before .before .before .before .args .n) (c .before .before .before .before .before .before .before .before .before .before .before .before .before .before .before .before .before .before .before .before .before .before .before .before .before .before .before .before .before .before .before .before .before .before .before .source-count .ensures) (c .before .before .before .before .before .before .before .before .before .before .before .before .before .before .before .before .before .before .before .before .before .before .before .before .before .before .before .before .before .before .before .before .own-start .ensures) (c .before .before .before .before .before .before .before .before .before .before .before .before .before .before .before .before .before .before .before .before .before .before .before .before .before .before .before .before .before .before .before .before .before .before .if1 .left) (c .before .before .before .before .before .before .before .before .before .before .before .before .before .before .before .before .before .before .before .before .before .before .before .before .before .before .before .before .before .before .before .if2 .left) (c .before .before .before .before .before .before .before .before .before .before .before .before .before .before .before .before .before .before .before .before .before .before .before .before .before .before .before .before .before .before .before .before .before .before .before .before .before .before .before .before .before .before .pre .1 .0) (c .before .before .before .before .before .before .before .before .before .before .before .before .before .before .before .before .before .before .before .before .before .before .before .before .before .before .before .before .before .start .ensures) (c .before .before .before .before .before .before .before .before .before .before .before .before .before .before .before .before .before .before .before .before .before .before .before .before .push-source2 .ensures) (c .before .before .before .before .before .before .before .before .before .before .before .before .before .before .before .if4 .left) (c .before .before .before .before .before .before .before .before .before .before .before .before .before .before .before .before .before .before .before .before .before .before .before .before .push-source2 .kept .0) (c .before .before .before .before .before .before .before .before .before .before .push-source3 .ensures) (c .before .if5 .left), c .before .if5 .left)
+each-source-set-size-requires-2 : (t : ℕ) → each-source-lts.Need-set-size-requires-2 (each-source-claims t) (each-source-at t) each-source.Post
+each-source-set-size-requires-2 t c κs = (both-fit (c .before .before .before .before .before .before .before .before .before .before .before .before .before .before .before .before .before .before .before .before .before .before .before .before .before .before .before .before .before .before .before .before .before .before .before .before .before .before .before .before .before .before .args .n) (c .before .before .before .before .before .before .before .before .before .before .before .before .before .before .before .before .before .before .before .before .before .before .before .before .before .before .before .before .before .before .before .before .before .before .before .source-count .ensures) (c .before .before .before .before .before .before .before .before .before .before .before .before .before .before .before .before .before .before .before .before .before .before .before .before .before .before .before .before .before .before .before .before .own-start .ensures) (c .before .before .before .before .before .before .before .before .before .before .before .before .before .before .before .before .before .before .before .before .before .before .before .before .before .before .before .before .before .before .before .before .before .before .if1 .left) (c .before .before .before .before .before .before .before .before .before .before .before .before .before .before .before .before .before .before .before .before .before .before .before .before .before .before .before .before .before .before .before .if2 .left) (c .before .before .before .before .before .before .before .before .before .before .before .before .before .before .before .before .before .before .before .before .before .before .before .before .before .before .before .before .before .before .before .before .before .before .before .before .before .before .before .before .before .before .pre .1 .0) (c .before .before .before .before .before .before .before .before .before .before .before .before .before .before .before .before .before .before .before .before .before .before .before .before .before .before .before .before .before .start .ensures) (c .before .before .before .before .before .before .before .before .before .before .before .before .before .before .before .before .before .before .before .before .before .before .before .before .push-source2 .ensures) (c .before .before .before .before .before .before .before .before .before .before .before .before .before .before .before .if4 .left) (c .before .before .before .before .before .before .before .before .before .before .before .before .before .before .before .before .before .before .before .before .before .before .before .before .push-source2 .kept .0) (c .before .before .before .before .before .before .before .before .before .before .push-source3 .ensures) (c .before .if5 .left), c .before .if5 .left)
 
 each-source-returns-6 : (t : ℕ) → each-source-lts.Need-returns-6 (each-source-claims t) (each-source-at t) each-source.Post
-each-source-returns-6 t c = both-done (c .before .before .before .before .before .before .before .before .before .before .before .before .before .before .before .before .before .before .before .before .before .before .before .before .before .before .before .before .before .before .before .before .before .before .before .before .before .before .before .before .before .before .before .before .before .args .n) (c .before .before .before .before .before .before .before .before .before .before .before .before .before .before .before .before .before .before .before .before .before .before .before .before .before .before .before .before .before .before .before .before .before .before .before .before .before .before .source-count .ensures) (c .before .before .before .before .before .before .before .before .before .before .before .before .before .before .before .before .before .before .before .before .before .before .before .before .before .before .before .before .before .before .before .before .before .before .before .own-start .ensures) (c .before .before .before .before .before .before .before .before .before .before .before .before .before .before .before .before .before .before .before .before .before .before .before .before .before .before .before .before .before .before .before .before .before .before .before .before .before .if1 .left) (c .before .before .before .before .before .before .before .before .before .before .before .before .before .before .before .before .before .before .before .before .before .before .before .before .before .before .before .before .before .before .before .before .before .before .if2 .left) (c .before .before .before .before .before .before .before .before .before .before .before .before .before .before .before .before .before .before .before .before .before .before .before .before .before .before .before .before .before .before .before .before .before .before .before .before .before .before .before .before .before .before .before .before .before .pre .1 .0) (c .before .before .before .before .before .before .before .before .before .before .before .before .before .before .before .before .before .before .before .before .before .before .before .before .before .before .before .before .before .before .before .before .start .ensures) (c .before .before .before .before .before .before .before .before .before .before .before .before .before .before .before .before .before .before .before .before .before .before .before .before .before .before .before .push-source2 .ensures) (c .before .before .before .before .before .before .before .before .before .before .before .before .before .before .before .before .before .before .if4 .left) (c .before .before .before .before .before .before .before .before .before .before .before .before .before .before .before .before .before .before .before .before .before .before .before .before .before .before .before .push-source2 .kept .0) (c .before .before .before .before .before .before .before .before .before .before .before .before .before .push-source3 .ensures) (c .before .before .before .before .before .before .before .before .before .before .before .before .before .push-source3 .kept .0) (c .before .before .before .before .if5 .left) (c .before .before .reseal2 .kept .0) (c .before .before .reseal2 .ensures)
+each-source-returns-6 t c = both-done (c .before .before .before .before .before .before .before .before .before .before .before .before .before .before .before .before .before .before .before .before .before .before .before .before .before .before .before .before .before .before .before .before .before .before .before .before .before .before .before .before .before .before .before .before .before .args .n) (c .before .before .before .before .before .before .before .before .before .before .before .before .before .before .before .before .before .before .before .before .before .before .before .before .before .before .before .before .before .before .before .before .before .before .before .before .before .before .source-count .ensures) (c .before .before .before .before .before .before .before .before .before .before .before .before .before .before .before .before .before .before .before .before .before .before .before .before .before .before .before .before .before .before .before .before .before .before .before .own-start .ensures) (c .before .before .before .before .before .before .before .before .before .before .before .before .before .before .before .before .before .before .before .before .before .before .before .before .before .before .before .before .before .before .before .before .before .before .before .before .before .if1 .left) (c .before .before .before .before .before .before .before .before .before .before .before .before .before .before .before .before .before .before .before .before .before .before .before .before .before .before .before .before .before .before .before .before .before .before .if2 .left) (c .before .before .before .before .before .before .before .before .before .before .before .before .before .before .before .before .before .before .before .before .before .before .before .before .before .before .before .before .before .before .before .before .before .before .before .before .before .before .before .before .before .before .before .before .before .pre .1 .0) (c .before .before .before .before .before .before .before .before .before .before .before .before .before .before .before .before .before .before .before .before .before .before .before .before .before .before .before .before .before .before .before .before .start .ensures) (c .before .before .before .before .before .before .before .before .before .before .before .before .before .before .before .before .before .before .before .before .before .before .before .before .before .before .before .push-source2 .ensures) (c .before .before .before .before .before .before .before .before .before .before .before .before .before .before .before .before .before .before .if4 .left) (c .before .before .before .before .before .before .before .before .before .before .before .before .before .before .before .before .before .before .before .before .before .before .before .before .before .before .before .push-source2 .kept .0) (c .before .before .before .before .before .before .before .before .before .before .before .before .before .push-source3 .ensures) (c .before .before .before .before .before .before .before .before .before .before .before .before .before .push-source3 .kept .0) (c .before .before .before .before .if5 .left) (c .before .before .set-size2 .kept .0) (c .before .before .set-size2 .ensures)
 
 each-source-same-length : (t : ℕ) → each-source-lts.Need-same-length (each-source-claims t) (each-source-at t) each-source.Post
 each-source-same-length t c = search needs
@@ -228,17 +228,17 @@ push-filters-from-each-source-requires t c κs = (omega (arith, c .before .befor
 push-filters-from-returns-3 : (t : ℕ) → push-filters-from-lts.Need-returns-3 (push-filters-from-claims t) (push-filters-from-at t) push-filters-from.Post
 push-filters-from-returns-3 t c = chain-full (c .before .before .before .before .before .before .before .before .before .before .before .before .before .before .before .before .before .before .before .before .before .before .before .before .before .before .before .before .before .before .before .before .before .before .before .before .before .before .before .args .n) (c .before .before .before .before .before .before .before .before .before .before .before .before .before .before .before .before .before .before .before .before .before .before .before .before .before .before .before .before .before .before .before .before .descend .ensures) (from-again (c .before .before .before .before .before .before .before .before .before .before .before .before .before .before .before .before .before .before .before .before .before .before .before .before .before .before .before .before .before .before .before .before .descend .result .left) (c .before .before .before .before .before .before .before .before .before .before .before .before .before .before .before .before .before .before .before .before .before .before .before .before .before .before .before .before .before .before .if1 .left) (c .before .before .before .before .before .before .before .before .before .before .before .before .before .before .before .before .before .before .before .before .before .before .before .before .push-filters-in-place .ensures) (c .before .before .before .before .before .before .before .before .before .before .before .before .before .before .before .if2 .left) (c .before .before .before .before .before .before .before .before .before .before .before .before .before .before .before .before .before .before .before .before .before .before .before .before .push-filters-in-place .kept .0) (c .before .before .before .before .before .before .before .before .before .each-source .ensures)) (c .if3 .taken)
 
-push-filters-from-sub-reseal : (t : ℕ) → push-filters-from-lts.Need-sub-reseal (push-filters-from-claims t) (push-filters-from-at t) push-filters-from.Post
-push-filters-from-sub-reseal t c = chain-inside (c .before .before .before .before .before .before .before .before .before .before .before .before .before .before .before .before .before .before .before .before .before .before .before .before .before .before .before .before .before .before .before .before .before .before .before .before .before .before .before .before .before .args .n) (c .before .before .before .before .before .before .before .before .before .before .before .before .before .before .before .before .before .before .before .before .before .before .before .before .before .before .before .before .before .before .before .before .before .before .descend .ensures) (from-again (c .before .before .before .before .before .before .before .before .before .before .before .before .before .before .before .before .before .before .before .before .before .before .before .before .before .before .before .before .before .before .before .before .before .before .descend .result .left) (c .before .before .before .before .before .before .before .before .before .before .before .before .before .before .before .before .before .before .before .before .before .before .before .before .before .before .before .before .before .before .before .before .if1 .left) (c .before .before .before .before .before .before .before .before .before .before .before .before .before .before .before .before .before .before .before .before .before .before .before .before .before .before .push-filters-in-place .ensures) (c .before .before .before .before .before .before .before .before .before .before .before .before .before .before .before .before .before .if2 .left) (c .before .before .before .before .before .before .before .before .before .before .before .before .before .before .before .before .before .before .before .before .before .before .before .before .before .before .push-filters-in-place .kept .0) (c .before .before .before .before .before .before .before .before .before .before .before .each-source .ensures)) (c .before .before .if3 .left) (c .before .before .before .before .before .before .before .before .before .before .before .before .before .before .before .before .before .before .before .before .before .before .before .before .before .before .before .before .before .before .before .before .before .before .before .before .before .before .before .before .before .pre .1 .0) .0
+push-filters-from-sub-set-sizes : (t : ℕ) → push-filters-from-lts.Need-sub-set-sizes (push-filters-from-claims t) (push-filters-from-at t) push-filters-from.Post
+push-filters-from-sub-set-sizes t c = chain-inside (c .before .before .before .before .before .before .before .before .before .before .before .before .before .before .before .before .before .before .before .before .before .before .before .before .before .before .before .before .before .before .before .before .before .before .before .before .before .before .before .before .before .args .n) (c .before .before .before .before .before .before .before .before .before .before .before .before .before .before .before .before .before .before .before .before .before .before .before .before .before .before .before .before .before .before .before .before .before .before .descend .ensures) (from-again (c .before .before .before .before .before .before .before .before .before .before .before .before .before .before .before .before .before .before .before .before .before .before .before .before .before .before .before .before .before .before .before .before .before .before .descend .result .left) (c .before .before .before .before .before .before .before .before .before .before .before .before .before .before .before .before .before .before .before .before .before .before .before .before .before .before .before .before .before .before .before .before .if1 .left) (c .before .before .before .before .before .before .before .before .before .before .before .before .before .before .before .before .before .before .before .before .before .before .before .before .before .before .push-filters-in-place .ensures) (c .before .before .before .before .before .before .before .before .before .before .before .before .before .before .before .before .before .if2 .left) (c .before .before .before .before .before .before .before .before .before .before .before .before .before .before .before .before .before .before .before .before .before .before .before .before .before .before .push-filters-in-place .kept .0) (c .before .before .before .before .before .before .before .before .before .before .before .each-source .ensures)) (c .before .before .if3 .left) (c .before .before .before .before .before .before .before .before .before .before .before .before .before .before .before .before .before .before .before .before .before .before .before .before .before .before .before .before .before .before .before .before .before .before .before .before .before .before .before .before .before .pre .1 .0) .0
 
-push-filters-from-reseal-requires : (t : ℕ) → push-filters-from-lts.Need-reseal-requires (push-filters-from-claims t) (push-filters-from-at t) push-filters-from.Post
-push-filters-from-reseal-requires t c κs = (chain-inside (c .before .before .before .before .before .before .before .before .before .before .before .before .before .before .before .before .before .before .before .before .before .before .before .before .before .before .before .before .before .before .before .before .before .before .before .before .before .before .before .before .before .args .n) (c .before .before .before .before .before .before .before .before .before .before .before .before .before .before .before .before .before .before .before .before .before .before .before .before .before .before .before .before .before .before .before .before .before .before .descend .ensures) (from-again (c .before .before .before .before .before .before .before .before .before .before .before .before .before .before .before .before .before .before .before .before .before .before .before .before .before .before .before .before .before .before .before .before .before .before .descend .result .left) (c .before .before .before .before .before .before .before .before .before .before .before .before .before .before .before .before .before .before .before .before .before .before .before .before .before .before .before .before .before .before .before .before .if1 .left) (c .before .before .before .before .before .before .before .before .before .before .before .before .before .before .before .before .before .before .before .before .before .before .before .before .before .before .push-filters-in-place .ensures) (c .before .before .before .before .before .before .before .before .before .before .before .before .before .before .before .before .before .if2 .left) (c .before .before .before .before .before .before .before .before .before .before .before .before .before .before .before .before .before .before .before .before .before .before .before .before .before .before .push-filters-in-place .kept .0) (c .before .before .before .before .before .before .before .before .before .before .before .each-source .ensures)) (c .before .before .if3 .left) (c .before .before .before .before .before .before .before .before .before .before .before .before .before .before .before .before .before .before .before .before .before .before .before .before .before .before .before .before .before .before .before .before .before .before .before .before .before .before .before .before .before .pre .1 .0) .1 .0, (chain-inside (c .before .before .before .before .before .before .before .before .before .before .before .before .before .before .before .before .before .before .before .before .before .before .before .before .before .before .before .before .before .before .before .before .before .before .before .before .before .before .before .before .before .args .n) (c .before .before .before .before .before .before .before .before .before .before .before .before .before .before .before .before .before .before .before .before .before .before .before .before .before .before .before .before .before .before .before .before .before .before .descend .ensures) (from-again (c .before .before .before .before .before .before .before .before .before .before .before .before .before .before .before .before .before .before .before .before .before .before .before .before .before .before .before .before .before .before .before .before .before .before .descend .result .left) (c .before .before .before .before .before .before .before .before .before .before .before .before .before .before .before .before .before .before .before .before .before .before .before .before .before .before .before .before .before .before .before .before .if1 .left) (c .before .before .before .before .before .before .before .before .before .before .before .before .before .before .before .before .before .before .before .before .before .before .before .before .before .before .push-filters-in-place .ensures) (c .before .before .before .before .before .before .before .before .before .before .before .before .before .before .before .before .before .if2 .left) (c .before .before .before .before .before .before .before .before .before .before .before .before .before .before .before .before .before .before .before .before .before .before .before .before .before .before .push-filters-in-place .kept .0) (c .before .before .before .before .before .before .before .before .before .before .before .each-source .ensures)) (c .before .before .if3 .left) (c .before .before .before .before .before .before .before .before .before .before .before .before .before .before .before .before .before .before .before .before .before .before .before .before .before .before .before .before .before .before .before .before .before .before .before .before .before .before .before .before .before .pre .1 .0) .1 .1, (c .before .before .if3 .left, omega (arith, c .before .before .if3 .left, c .before .before .before .before .before .before .before .before .before .before .before .each-source .kept .0, c .before .before .before .before .before .before .before .before .before .before .before .before .before .before .before .before .before .before .before .before .before .before .before .before .before .before .push-filters-in-place .kept .0, c .before .before .before .before .before .before .before .before .before .before .before .before .before .before .before .before .before .before .before .before .before .before .before .before .before .before .before .before .before .before .before .before .before .before .before .before .before .before .before .before .before .pre .1 .0 .short))))
+push-filters-from-set-sizes-requires : (t : ℕ) → push-filters-from-lts.Need-set-sizes-requires (push-filters-from-claims t) (push-filters-from-at t) push-filters-from.Post
+push-filters-from-set-sizes-requires t c κs = (chain-inside (c .before .before .before .before .before .before .before .before .before .before .before .before .before .before .before .before .before .before .before .before .before .before .before .before .before .before .before .before .before .before .before .before .before .before .before .before .before .before .before .before .before .args .n) (c .before .before .before .before .before .before .before .before .before .before .before .before .before .before .before .before .before .before .before .before .before .before .before .before .before .before .before .before .before .before .before .before .before .before .descend .ensures) (from-again (c .before .before .before .before .before .before .before .before .before .before .before .before .before .before .before .before .before .before .before .before .before .before .before .before .before .before .before .before .before .before .before .before .before .before .descend .result .left) (c .before .before .before .before .before .before .before .before .before .before .before .before .before .before .before .before .before .before .before .before .before .before .before .before .before .before .before .before .before .before .before .before .if1 .left) (c .before .before .before .before .before .before .before .before .before .before .before .before .before .before .before .before .before .before .before .before .before .before .before .before .before .before .push-filters-in-place .ensures) (c .before .before .before .before .before .before .before .before .before .before .before .before .before .before .before .before .before .if2 .left) (c .before .before .before .before .before .before .before .before .before .before .before .before .before .before .before .before .before .before .before .before .before .before .before .before .before .before .push-filters-in-place .kept .0) (c .before .before .before .before .before .before .before .before .before .before .before .each-source .ensures)) (c .before .before .if3 .left) (c .before .before .before .before .before .before .before .before .before .before .before .before .before .before .before .before .before .before .before .before .before .before .before .before .before .before .before .before .before .before .before .before .before .before .before .before .before .before .before .before .before .pre .1 .0) .1 .0, (chain-inside (c .before .before .before .before .before .before .before .before .before .before .before .before .before .before .before .before .before .before .before .before .before .before .before .before .before .before .before .before .before .before .before .before .before .before .before .before .before .before .before .before .before .args .n) (c .before .before .before .before .before .before .before .before .before .before .before .before .before .before .before .before .before .before .before .before .before .before .before .before .before .before .before .before .before .before .before .before .before .before .descend .ensures) (from-again (c .before .before .before .before .before .before .before .before .before .before .before .before .before .before .before .before .before .before .before .before .before .before .before .before .before .before .before .before .before .before .before .before .before .before .descend .result .left) (c .before .before .before .before .before .before .before .before .before .before .before .before .before .before .before .before .before .before .before .before .before .before .before .before .before .before .before .before .before .before .before .before .if1 .left) (c .before .before .before .before .before .before .before .before .before .before .before .before .before .before .before .before .before .before .before .before .before .before .before .before .before .before .push-filters-in-place .ensures) (c .before .before .before .before .before .before .before .before .before .before .before .before .before .before .before .before .before .if2 .left) (c .before .before .before .before .before .before .before .before .before .before .before .before .before .before .before .before .before .before .before .before .before .before .before .before .before .before .push-filters-in-place .kept .0) (c .before .before .before .before .before .before .before .before .before .before .before .each-source .ensures)) (c .before .before .if3 .left) (c .before .before .before .before .before .before .before .before .before .before .before .before .before .before .before .before .before .before .before .before .before .before .before .before .before .before .before .before .before .before .before .before .before .before .before .before .before .before .before .before .before .pre .1 .0) .1 .1, (c .before .before .if3 .left, omega (arith, c .before .before .if3 .left, c .before .before .before .before .before .before .before .before .before .before .before .each-source .kept .0, c .before .before .before .before .before .before .before .before .before .before .before .before .before .before .before .before .before .before .before .before .before .before .before .before .before .before .push-filters-in-place .kept .0, c .before .before .before .before .before .before .before .before .before .before .before .before .before .before .before .before .before .before .before .before .before .before .before .before .before .before .before .before .before .before .before .before .before .before .before .before .before .before .before .before .before .pre .1 .0 .short))))
 
 push-filters-from-returns-4 : (t : ℕ) → push-filters-from-lts.Need-returns-4 (push-filters-from-claims t) (push-filters-from-at t) push-filters-from.Post
 push-filters-from-returns-4 t c = chain-as-long (c .before .before .before .before .before .before .before .before .before .before .before .before .before .before .before .before .before .before .before .before .before .before .before .before .before .before .before .before .before .before .before .before .before .before .before .before .before .before .before .before .args .n) (c .before .before .before .before .before .before .before .before .before .before .before .before .before .before .before .before .before .before .before .before .before .before .before .before .before .before .before .before .before .before .before .before .before .descend .ensures) (from-again (c .before .before .before .before .before .before .before .before .before .before .before .before .before .before .before .before .before .before .before .before .before .before .before .before .before .before .before .before .before .before .before .before .before .descend .result .left) (c .before .before .before .before .before .before .before .before .before .before .before .before .before .before .before .before .before .before .before .before .before .before .before .before .before .before .before .before .before .before .before .if1 .left) (c .before .before .before .before .before .before .before .before .before .before .before .before .before .before .before .before .before .before .before .before .before .before .before .before .before .push-filters-in-place .ensures) (c .before .before .before .before .before .before .before .before .before .before .before .before .before .before .before .before .if2 .left) (c .before .before .before .before .before .before .before .before .before .before .before .before .before .before .before .before .before .before .before .before .before .before .before .before .before .push-filters-in-place .kept .0) (c .before .before .before .before .before .before .before .before .before .before .each-source .ensures)) (c .before .if3 .left) (c .if4 .taken)
 
 push-filters-from-returns-5 : (t : ℕ) → push-filters-from-lts.Need-returns-5 (push-filters-from-claims t) (push-filters-from-at t) push-filters-from.Post
-push-filters-from-returns-5 t c = chain-done (c .before .before .before .before .before .before .before .before .before .before .before .before .before .before .before .before .before .before .before .before .before .before .before .before .before .before .before .before .before .before .before .before .before .before .before .before .before .before .before .before .before .before .before .before .args .n) (c .before .before .before .before .before .before .before .before .before .before .before .before .before .before .before .before .before .before .before .before .before .before .before .before .before .before .before .before .before .before .before .before .before .before .before .before .before .descend .ensures) (from-again (c .before .before .before .before .before .before .before .before .before .before .before .before .before .before .before .before .before .before .before .before .before .before .before .before .before .before .before .before .before .before .before .before .before .before .before .before .before .descend .result .left) (c .before .before .before .before .before .before .before .before .before .before .before .before .before .before .before .before .before .before .before .before .before .before .before .before .before .before .before .before .before .before .before .before .before .before .before .if1 .left) (c .before .before .before .before .before .before .before .before .before .before .before .before .before .before .before .before .before .before .before .before .before .before .before .before .before .before .before .before .before .push-filters-in-place .ensures) (c .before .before .before .before .before .before .before .before .before .before .before .before .before .before .before .before .before .before .before .before .if2 .left) (c .before .before .before .before .before .before .before .before .before .before .before .before .before .before .before .before .before .before .before .before .before .before .before .before .before .before .before .before .before .push-filters-in-place .kept .0) (c .before .before .before .before .before .before .before .before .before .before .before .before .before .before .each-source .ensures)) (c .before .before .before .before .before .if3 .left) (c .before .before .reseal .kept .0) (c .before .before .reseal .ensures)
+push-filters-from-returns-5 t c = chain-done (c .before .before .before .before .before .before .before .before .before .before .before .before .before .before .before .before .before .before .before .before .before .before .before .before .before .before .before .before .before .before .before .before .before .before .before .before .before .before .before .before .before .before .before .before .args .n) (c .before .before .before .before .before .before .before .before .before .before .before .before .before .before .before .before .before .before .before .before .before .before .before .before .before .before .before .before .before .before .before .before .before .before .before .before .before .descend .ensures) (from-again (c .before .before .before .before .before .before .before .before .before .before .before .before .before .before .before .before .before .before .before .before .before .before .before .before .before .before .before .before .before .before .before .before .before .before .before .before .before .descend .result .left) (c .before .before .before .before .before .before .before .before .before .before .before .before .before .before .before .before .before .before .before .before .before .before .before .before .before .before .before .before .before .before .before .before .before .before .before .if1 .left) (c .before .before .before .before .before .before .before .before .before .before .before .before .before .before .before .before .before .before .before .before .before .before .before .before .before .before .before .before .before .push-filters-in-place .ensures) (c .before .before .before .before .before .before .before .before .before .before .before .before .before .before .before .before .before .before .before .before .if2 .left) (c .before .before .before .before .before .before .before .before .before .before .before .before .before .before .before .before .before .before .before .before .before .before .before .before .before .before .before .before .before .push-filters-in-place .kept .0) (c .before .before .before .before .before .before .before .before .before .before .before .before .before .before .each-source .ensures)) (c .before .before .before .before .before .if3 .left) (c .before .before .set-sizes .kept .0) (c .before .before .set-sizes .ensures)
 
 push-filters-from-same-length : (t : ℕ) → push-filters-from-lts.Need-same-length (push-filters-from-claims t) (push-filters-from-at t) push-filters-from.Post
 push-filters-from-same-length t c = search needs
@@ -334,7 +334,7 @@ pub +each-source+push-filters-from+push-source-spec : {M : Type 1} → statement
     (each-source-same-length-4 t)
     (each-source-same-length-5 t)
     (each-source-returns-2 t)
-    (each-source-reseal-requires t)
+    (each-source-set-size-requires t)
     (each-source-same-length-6 t)
     (each-source-same-length-7 t)
     (each-source-same-length-8 t)
@@ -356,7 +356,7 @@ pub +each-source+push-filters-from+push-source-spec : {M : Type 1} → statement
     (each-source-same-length-16 t)
     (each-source-same-length-17 t)
     (each-source-returns-5 t)
-    (each-source-reseal-requires-2 t)
+    (each-source-set-size-requires-2 t)
     (each-source-same-length-18 t)
     (each-source-same-length-19 t)
     (each-source-same-length-20 t)
@@ -386,8 +386,8 @@ pub +each-source+push-filters-from+push-source-spec : {M : Type 1} → statement
     (push-filters-from-same-length-12 t)
     (push-filters-from-same-length-13 t)
     (push-filters-from-returns-4 t)
-    (push-filters-from-sub-reseal t)
-    (push-filters-from-reseal-requires t)
+    (push-filters-from-sub-set-sizes t)
+    (push-filters-from-set-sizes-requires t)
     (push-filters-from-same-length-14 t)
     (push-filters-from-same-length-15 t)
     (push-filters-from-same-length-16 t)

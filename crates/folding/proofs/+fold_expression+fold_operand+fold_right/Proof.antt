@@ -1,6 +1,6 @@
 -- `folding::fold_expression`, `folding::fold_operand` and `folding::fold_right` meet their contracts. What falls is twice the number of words of the expression, and one more before its left operand is folded, and two more before it is known to be no leaf.
 use Rattle.folding.proofs.Recursion.{at-expression, foldable-in, operand-at, left-at, right-at, operand-count, operands-count, as-answer, folds-leaf, unary-refused, unary-ready, unary-done, left-refused, right-ready, left-done, right-refused, right-alone, right-done, the-left, the-right, left-in, left-operand, neutral-ready, binary-ready}
-use Rattle.words.proofs.Expressions.{at-last}
+use Rattle.cells.proofs.words.Expressions.{at-last}
 use Rattle.cells.specs.Cells.{tag-at}
 use Rattle.cells.specs.declared.Cell.{Cell}
 use Prim.Native.Nat.{ℕ, _+_, _-_, _*_, _<_}
@@ -24,10 +24,10 @@ use Rattle.cells.proofs.start.Reads as start-reads
 use Rattle.cells.proofs.tag_at.Reads as tag-at-reads
 use Rattle.cells.proofs.origin_at.Reads as origin-at-reads
 use Rattle.folding.proofs.count.Reads as count-reads
-use Rattle.fold_operator.proofs.fold_binary.Reads as fold-binary-reads
-use Rattle.fold_operator.proofs.fold_neutral.Reads as fold-neutral-reads
-use Rattle.fold_operator.proofs.fold_unary.Reads as fold-unary-reads
-use Rattle.fold_operator.proofs.is_neutral.Reads as is-neutral-reads
+use Rattle.folding.proofs.fold_operator.fold_binary.Reads as fold-binary-reads
+use Rattle.folding.proofs.fold_operator.fold_neutral.Reads as fold-neutral-reads
+use Rattle.folding.proofs.fold_operator.fold_unary.Reads as fold-unary-reads
+use Rattle.folding.proofs.fold_operator.is_neutral.Reads as is-neutral-reads
 use Rattle.folding.proofs.+fold_expression+fold_operand+fold_right.{statement}
 use Rattle.folding.proofs.+fold_expression+fold_operand+fold_right.Tie.{close}
 

@@ -1,6 +1,6 @@
 use Rattle.nodes.proofs.Widths.{columns-node, counted-as, two-left, source-in, source-columns-at, join-sized, sources-in, left-columns-at, right-columns-at}
-use Rattle.words.proofs.Nodes.{node-in}
-use Rattle.stream.proofs.Sources.{one-cell}
+use Rattle.cells.proofs.words.Nodes.{node-in}
+use Rattle.edits.proofs.stream.Sources.{one-cell}
 use Rattle.hash_join.proofs.Joining.{writes-leaf, writes-over, writes-join, columns-both, join-at, count-few}
 use Prim.Native.Nat.{ℕ, _+_, _-_, _*_, _≤_, _<_}
 use native.Mathlib.Omega.{arith}
@@ -18,12 +18,12 @@ use Rattle.hash_join.proofs.hash_joins_of_source.Kinds as hash-joins-of
 use Rattle.hash_join.proofs.+hash_joins+hash_joins_of_source.Lts-hash_joins_of_source as hash-joins-of-source-lts
 use Rattle.cells.proofs.copy.Reads as copy-reads
 use Rattle.cells.proofs.start.Reads as start-reads
-use Rattle.hash_join.proofs.hash_join.Reads as hash-join-reads
+use Rattle.hash_join.proofs.hash_join_node.Reads as hash-join-node-reads
 use Rattle.hash_join.proofs.over_columns.Reads as over-columns-reads
 use Rattle.nodes.proofs.columns.Reads as columns-reads
 use Rattle.nodes.proofs.own_start.Reads as own-start-reads
 use Rattle.nodes.proofs.source_count.Reads as source-count-reads
-use Rattle.stream.proofs.finish.Reads as finish-reads
+use Rattle.edits.proofs.stream.finish.Reads as finish-reads
 use Rattle.hash_join.proofs.+hash_joins+hash_joins_of_source.{statement}
 use Rattle.hash_join.proofs.+hash_joins+hash_joins_of_source.Tie.{close}
 
@@ -50,7 +50,7 @@ hash-joins-of-source-below t =
     and 3 hash-joins-of-source-kinds.ps (falls 3 hash-joins-of-source-kinds.ps _<_ μ-hash-joins-of-source t) hash-joins-of-source.Pre
 
 abbrev hash-joins-claims : ℕ → hash-joins-lts.Claims
-hash-joins-claims t = (source-count-reads.Asked, source-count-reads.Learnt, columns-reads.Asked, columns-reads.Learnt, copy-reads.Asked, copy-reads.Learnt, own-start-reads.Asked, own-start-reads.Learnt, hash-joins-of-source-below t, hash-joins-of-source.Post, over-columns-reads.Asked, over-columns-reads.Learnt, finish-reads.Asked, finish-reads.Learnt, start-reads.Asked, start-reads.Learnt, hash-join-reads.Asked, hash-join-reads.Learnt)
+hash-joins-claims t = (source-count-reads.Asked, source-count-reads.Learnt, columns-reads.Asked, columns-reads.Learnt, copy-reads.Asked, copy-reads.Learnt, own-start-reads.Asked, own-start-reads.Learnt, hash-joins-of-source-below t, hash-joins-of-source.Post, over-columns-reads.Asked, over-columns-reads.Learnt, finish-reads.Asked, finish-reads.Learnt, start-reads.Asked, start-reads.Learnt, hash-join-node-reads.Asked, hash-join-node-reads.Learnt)
 
 abbrev hash-joins-of-source-claims : ℕ → hash-joins-of-source-lts.Claims
 hash-joins-of-source-claims t = (columns-reads.Asked, columns-reads.Learnt, copy-reads.Asked, copy-reads.Learnt, hash-joins-below t, hash-joins.Post)
@@ -97,8 +97,8 @@ hash-joins-hash-joins-of-source-requires-2 t c κs = let d = two-left (c .before
 hash-joins-hash-joins-of-source-requires-3 : (t : ℕ) → hash-joins-lts.Need-hash-joins-of-source-requires-3 (hash-joins-claims t) (hash-joins-at t) hash-joins.Post
 hash-joins-hash-joins-of-source-requires-3 t c κs = let d = two-left (c .before .before .before .before .before .before .before .before .before .source-count .ensures) (c .before .before .before .before .before .before .before .before .if1 .left) (c .before .before .before .before .before .before .if2 .left) in let (h, (k, i)) = sources-in d (c .before .before .before .before .before .before .before .own-start .ensures) (c .before .before .before .before .before .start .ensures) (columns-node (c .before .before .before .before .before .before .before .before .before .before .before .before .before .pre .1)) in (omega (arith, c .before .before .before .before .before .before .before .before .before .before .before .before .before .pre .0), right-columns-at d (c .before .before .before .before .before .before .before .own-start .ensures) (c .before .before .before .before .before .start .ensures) (c .before .before .before .before .before .before .before .before .before .before .before .before .before .pre .1))
 
-hash-joins-hash-join-requires : (t : ℕ) → hash-joins-lts.Need-hash-join-requires (hash-joins-claims t) (hash-joins-at t) hash-joins.Post
-hash-joins-hash-join-requires t c κs = join-at (two-left (c .before .before .before .before .before .before .before .before .before .before .before .before .before .source-count .ensures) (c .before .before .before .before .before .before .before .before .before .before .before .before .if1 .left) (c .before .before .before .before .before .before .before .before .before .before .if2 .left)) (c .before .before .before .before .before .before .before .before .before .before .before .own-start .ensures) refl (c .before .before .before .before .before .before .before .before .before .before .before .before .before .before .before .before .before .pre .1)
+hash-joins-hash-join-node-requires : (t : ℕ) → hash-joins-lts.Need-hash-join-node-requires (hash-joins-claims t) (hash-joins-at t) hash-joins.Post
+hash-joins-hash-join-node-requires t c κs = join-at (two-left (c .before .before .before .before .before .before .before .before .before .before .before .before .before .source-count .ensures) (c .before .before .before .before .before .before .before .before .before .before .before .before .if1 .left) (c .before .before .before .before .before .before .before .before .before .before .if2 .left)) (c .before .before .before .before .before .before .before .before .before .before .before .own-start .ensures) refl (c .before .before .before .before .before .before .before .before .before .before .before .before .before .before .before .before .before .pre .1)
 
 hash-joins-add-t31 : (t : ℕ) → hash-joins-lts.Need-add-t31 (hash-joins-claims t) (hash-joins-at t) hash-joins.Post
 hash-joins-add-t31 t c = let d = two-left (c .before .before .before .before .before .before .before .before .before .before .before .before .before .before .before .before .before .before .source-count .ensures) (c .before .before .before .before .before .before .before .before .before .before .before .before .before .before .before .before .before .if1 .left) (c .before .before .before .before .before .before .before .before .before .before .before .before .before .before .before .if2 .left) in omega (arith, count-few (left-columns-at d (c .before .before .before .before .before .before .before .before .before .before .before .before .before .before .before .before .own-start .ensures) (c .before .before .before .before .before .before .before .before .before .before .before .before .before .before .start .ensures) (c .before .before .before .before .before .before .before .before .before .before .before .before .before .before .before .before .before .before .before .before .before .before .pre .1)) (c .before .before .before .before .before .before .before .before .before .before .before .before .hash-joins-of-source2 .ensures .1), count-few (right-columns-at d (c .before .before .before .before .before .before .before .before .before .before .before .before .before .before .before .before .own-start .ensures) (c .before .before .before .before .before .before .before .before .before .before .before .before .before .before .start .ensures) (c .before .before .before .before .before .before .before .before .before .before .before .before .before .before .before .before .before .before .before .before .before .before .pre .1)) (c .before .before .before .before .before .before .before .before .hash-joins-of-source3 .ensures .1))
@@ -107,7 +107,7 @@ hash-joins-same-length-3 : (t : ℕ) → hash-joins-lts.Need-same-length-3 (hash
 hash-joins-same-length-3 t c = search needs
 
 hash-joins-returns-3 : (t : ℕ) → hash-joins-lts.Need-returns-3 (hash-joins-claims t) (hash-joins-at t) hash-joins.Post
-hash-joins-returns-3 t c = let d = two-left (c .before .before .before .before .before .before .before .before .before .before .before .before .before .before .before .before .before .before .source-count .ensures) (c .before .before .before .before .before .before .before .before .before .before .before .before .before .before .before .before .before .if1 .left) (c .before .before .before .before .before .before .before .before .before .before .before .before .before .before .before .if2 .left) in (writes-join d (c .before .before .before .before .before .before .before .before .before .before .before .before .before .before .before .before .own-start .ensures) refl (c .before .before .before .before .before .before .before .before .before .before .before .before .before .before .start .ensures) (c .before .before .before .before .before .before .before .before .before .before .before .before .hash-joins-of-source2 .ensures .1) (c .before .before .before .before .before .before .before .before .before .before .before .before .hash-joins-of-source2 .kept .1 .1 .1 .0) (c .before .before .before .before .before .before .before .before .hash-joins-of-source3 .kept .1 .1 .1 .0) (c .before .before .before .before .before .before .before .before .before .before .before .before .hash-joins-of-source2 .ensures .0) (c .before .before .before .before .before .before .before .before .hash-joins-of-source3 .ensures .0) (c .before .before .before .before .hash-join .ensures), columns-both d (c .before .before .before .before .before .before .before .before .before .before .before .before .before .before .before .before .own-start .ensures) refl (c .before .before .before .before .before .before .before .before .before .before .before .before .before .before .start .ensures) (c .before .before .before .before .before .before .before .before .before .before .before .before .hash-joins-of-source2 .ensures .1) (c .before .before .before .before .before .before .before .before .hash-joins-of-source3 .ensures .1))
+hash-joins-returns-3 t c = let d = two-left (c .before .before .before .before .before .before .before .before .before .before .before .before .before .before .before .before .before .before .source-count .ensures) (c .before .before .before .before .before .before .before .before .before .before .before .before .before .before .before .before .before .if1 .left) (c .before .before .before .before .before .before .before .before .before .before .before .before .before .before .before .if2 .left) in (writes-join d (c .before .before .before .before .before .before .before .before .before .before .before .before .before .before .before .before .own-start .ensures) refl (c .before .before .before .before .before .before .before .before .before .before .before .before .before .before .start .ensures) (c .before .before .before .before .before .before .before .before .before .before .before .before .hash-joins-of-source2 .ensures .1) (c .before .before .before .before .before .before .before .before .before .before .before .before .hash-joins-of-source2 .kept .1 .1 .1 .0) (c .before .before .before .before .before .before .before .before .hash-joins-of-source3 .kept .1 .1 .1 .0) (c .before .before .before .before .before .before .before .before .before .before .before .before .hash-joins-of-source2 .ensures .0) (c .before .before .before .before .before .before .before .before .hash-joins-of-source3 .ensures .0) (c .before .before .before .before .hash-join-node .ensures), columns-both d (c .before .before .before .before .before .before .before .before .before .before .before .before .before .before .before .before .own-start .ensures) refl (c .before .before .before .before .before .before .before .before .before .before .before .before .before .before .start .ensures) (c .before .before .before .before .before .before .before .before .before .before .before .before .hash-joins-of-source2 .ensures .1) (c .before .before .before .before .before .before .before .before .hash-joins-of-source3 .ensures .1))
 
 hash-joins-of-source-sub-if1 : (t : ℕ) → hash-joins-of-source-lts.Need-sub-if1 (hash-joins-of-source-claims t) (hash-joins-of-source-at t) hash-joins-of-source.Post
 hash-joins-of-source-sub-if1 t c = omega (arith, node-in (c .before .before .before .pre .1 .p) (c .before .before .before .pre .1 .here) .0)
@@ -149,7 +149,7 @@ pub +hash-joins+hash-joins-of-source-spec : {M : Type 1} → statement M
     (hash-joins-start-requires t)
     (hash-joins-hash-joins-of-source-requires-2 t)
     (hash-joins-hash-joins-of-source-requires-3 t)
-    (hash-joins-hash-join-requires t)
+    (hash-joins-hash-join-node-requires t)
     (hash-joins-add-t31 t)
     (hash-joins-same-length-3 t)
     (hash-joins-returns-3 t))

@@ -9,7 +9,7 @@ use Rattle.hash_join.proofs.one_on_each_side.Statement.{statement}
 use Rattle.hash_join.proofs.one_on_each_side.Tie as tie
 use Rattle.hash_join.proofs.one_on_each_side.Reads as reads
 use Rattle.hash_join.proofs.one_on_each_side.Lts as lts
-use Rattle.column_numbers.proofs.JoinedColumn.source.Reads as source-reads
+use Rattle.columns.proofs.column_numbers.JoinedColumn.source.Reads as source-reads
 
 enum-known-columns : tie.Need-enum-known-columns
 enum-known-columns c = search needs

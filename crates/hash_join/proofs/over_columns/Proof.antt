@@ -1,4 +1,4 @@
-use Rattle.words.proofs.Nodes.{node-in}
+use Rattle.cells.proofs.words.Nodes.{node-in}
 use Rattle.hash_join.proofs.Joining.{columns-through}
 use Prim.Native.Nat.{ℕ, _+_, _-_, _*_, _≤_, _<_}
 use native.Mathlib.Omega.{arith}

@@ -11,7 +11,7 @@ use Rattle.nodes.proofs.leaf_columns.Tie as tie
 use Rattle.nodes.proofs.leaf_columns.Reads as reads
 use Rattle.nodes.proofs.leaf_columns.Lts as lts
 use Rattle.cells.proofs.cell_at.Reads as cell-at-reads
-use Rattle.records.proofs.table_width.Reads as table-width-reads
+use Rattle.layout.proofs.records.table_width.Reads as table-width-reads
 use Rattle.nodes.proofs.trees_start.Reads as trees-start-reads
 
 cell-at-requires : tie.Need-cell-at-requires

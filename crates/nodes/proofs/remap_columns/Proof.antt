@@ -1,5 +1,5 @@
 use Rattle.nodes.proofs.Widths.{Remaining, remaining-all, remaining-in, remaining-few, remaining-next, remaining-none}
-use Rattle.words.specs.Words.{all-words, target-words}
+use Rattle.cells.specs.words.Words.{all-words, target-words}
 use Rattle.cells.specs.Cells.{Part}
 use mathlib.Core.Option.{Option}
 use Prim.Native.Nat.{ℕ, _+_, _-_, _*_, _≤_, _<_}

@@ -1,5 +1,5 @@
 use Rattle.nodes.proofs.Own.{at-in, tag-in, count-told, told-low, told-lookup, told-high, told-last}
-use Rattle.words.proofs.Tags.{told}
+use Rattle.cells.proofs.words.Tags.{told}
 use Prim.Native.Nat.{ℕ, _+_, _-_, _*_, _≤_, _<_}
 use native.Mathlib.Omega.{arith}
 use mathlib.Core.Path.{_≡_, refl, sym, ap, _∙_, subst}

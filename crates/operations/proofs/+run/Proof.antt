@@ -1,4 +1,4 @@
-use Rattle.sheet_passes.proofs.Trying.{in-more, settles, again}
+use Rattle.operations.proofs.sheet_passes.Trying.{in-more, settles, again}
 use Prim.Native.Nat.{ℕ, _+_, _-_, _*_, _≤_, _<_}
 use native.Mathlib.Omega.{arith}
 use mathlib.Core.Path.{_≡_, refl, sym, ap, _∙_, subst}

@@ -1,4 +1,4 @@
-use Rattle.push_into.proofs.Taking.{node-at-in}
+use Rattle.split_join.proofs.push_into.Taking.{node-at-in}
 use Rattle.push_join.proofs.Passing.{another, nested}
 use Rattle.push_join.proofs.has_predicate.Statement.{statement}
 use Rattle.push_join.proofs.has_predicate.Tie as tie

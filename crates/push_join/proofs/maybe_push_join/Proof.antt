@@ -1,5 +1,5 @@
-use Rattle.push_into.proofs.Taking.{node-at-in}
-use Rattle.edit.proofs.Edits.{held-at, held-in}
+use Rattle.split_join.proofs.push_into.Taking.{node-at-in}
+use Rattle.edits.proofs.edit.Edits.{held-at, held-in}
 use Rattle.push_join.proofs.Passing.{split-at, nnf-at, cnf-at, pass-same, nnf-over, cnf-over, pass-split}
 use Rattle.push_join.proofs.Below.{passes-below}
 use Rattle.split_join.proofs.Splitting.{is-known, predicate-at}

@@ -1,7 +1,7 @@
 use Rattle.short_circuit.proofs.Climbing.{below-at}
-use Rattle.chain.proofs.Bare.{bare-in}
+use Rattle.edits.proofs.chain.Bare.{bare-in}
 use Rattle.nodes.proofs.Widths.{counted-as, two-left, join-sized}
-use Rattle.stream.proofs.Sources.{own-in, mid-in}
+use Rattle.edits.proofs.stream.Sources.{own-in, mid-in}
 use Rattle.short_circuit.proofs.Pass.{records-at, leaf-ready, source-at, over-ready, left-at, right-at, join-ready, leaf-circuits, scan-circuits, over-stop, over-circuits, left-stop, right-stop, join-circuits, node-there, node-inside}
 use Prim.Native.Nat.{ℕ, _+_, _-_, _*_, _<_}
 use native.Mathlib.Omega.{arith}
@@ -18,12 +18,12 @@ use Rattle.short_circuit.proofs.+short_circuit+short_circuit_source.Lts
 use Rattle.cells.proofs.copy.Reads as copy-reads
 use Rattle.cells.proofs.start.Reads as start-reads
 use Rattle.cells.proofs.tag_at.Reads as tag-at-reads
-use Rattle.chain.proofs.descend_bare.Reads as descend-bare-reads
+use Rattle.edits.proofs.chain.descend_bare.Reads as descend-bare-reads
 use Rattle.nodes.proofs.own_start.Reads as own-start-reads
 use Rattle.nodes.proofs.source_count.Reads as source-count-reads
 use Rattle.short_circuit.proofs.climb.Reads as climb-reads
 use Rattle.short_circuit.proofs.short_circuit_node.Reads as short-circuit-node-reads
-use Rattle.stream.proofs.finish.Reads as finish-reads
+use Rattle.edits.proofs.stream.finish.Reads as finish-reads
 use Rattle.short_circuit.proofs.+short_circuit+short_circuit_source.{statement}
 use Rattle.short_circuit.proofs.+short_circuit+short_circuit_source.Tie.{close}
 
@@ -107,7 +107,7 @@ short-circuit-short-circuit-source-requires : (t : ℕ) → short-circuit-lts.Ne
 short-circuit-short-circuit-source-requires t c κs = (omega (arith, c .before .before .before .before .before .before .before .before .before .before .before .before .pre .0, (own-in (c .before .before .before .before .before .before .before .before .before .before .before .before .pre .1 .0 .stream) (c .before .before .before .before .own-start .ensures)) .0, (own-in (c .before .before .before .before .before .before .before .before .before .before .before .before .pre .1 .0 .stream) (c .before .before .before .before .own-start .ensures)) .1 .0, bare-in (c .before .before .descend-bare .ensures .down)), (below-at (c .before .before .descend-bare .ensures .down) (source-at (c .before .before .before .before .before .before .before .before .before .before .before .before .pre .1 .0) (counted-as (c .before .before .before .before .before .before .source-count .ensures) (c .before .before .before .if2 .taken)) (c .before .before .before .before .own-start .ensures)), c .before .before .before .before .before .before .before .before .before .before .before .before .pre .1 .1))
 
 short-circuit-climb-requires : (t : ℕ) → short-circuit-lts.Need-climb-requires (short-circuit-claims t) (short-circuit-at t) short-circuit.Post
-short-circuit-climb-requires t c κs = (record { lo = c .before .before .before .before .before .before .before .before .before .before .before .before .before .before .before .before .before .before .before .args .lo; y₀ = c .before .before .before .before .before .before .before .before .before .before .before .before .before .before .before .before .before .before .before .args .y .now; is = (record { bare = (c .before .before .before .before .before .before .before .before .before .descend-bare .ensures .down); given = (source-at (c .before .before .before .before .before .before .before .before .before .before .before .before .before .before .before .before .before .before .before .pre .1 .0) (counted-as (c .before .before .before .before .before .before .before .before .before .before .before .before .before .source-count .ensures) (c .before .before .before .before .before .before .before .before .before .before .if2 .taken)) (c .before .before .before .before .before .before .before .before .before .before .before .own-start .ensures)); long = c .before .before .before .before .before .before .short-circuit-source .kept .1 .1 .1 .1 .0; below = c .before .before .before .before .before .before .short-circuit-source .ensures }) }, c .before .before .before .before .before .before .short-circuit-source .kept .1 .1 .1 .1 .1 .1 .0 ∙ c .before .before .before .before .before .before .before .before .before .before .before .before .before .before .before .before .before .before .before .pre .1 .1 ∙ sym (c .before .before .before .before .before .before .short-circuit-source .kept .1 .1 .1 .1 .0))
+short-circuit-climb-requires t c κs = (record { lo = c .before .before .before .before .before .before .before .before .before .before .before .before .before .before .before .before .before .before .before .args .lo; y₀ = c .before .before .before .before .before .before .before .before .before .before .before .before .before .before .before .before .before .before .before .args .output .now; is = (record { bare = (c .before .before .before .before .before .before .before .before .before .descend-bare .ensures .down); given = (source-at (c .before .before .before .before .before .before .before .before .before .before .before .before .before .before .before .before .before .before .before .pre .1 .0) (counted-as (c .before .before .before .before .before .before .before .before .before .before .before .before .before .source-count .ensures) (c .before .before .before .before .before .before .before .before .before .before .if2 .taken)) (c .before .before .before .before .before .before .before .before .before .before .before .own-start .ensures)); long = c .before .before .before .before .before .before .short-circuit-source .kept .1 .1 .1 .1 .0; below = c .before .before .before .before .before .before .short-circuit-source .ensures }) }, c .before .before .before .before .before .before .short-circuit-source .kept .1 .1 .1 .1 .1 .1 .0 ∙ c .before .before .before .before .before .before .before .before .before .before .before .before .before .before .before .before .before .before .before .pre .1 .1 ∙ sym (c .before .before .before .before .before .before .short-circuit-source .kept .1 .1 .1 .1 .0))
 
 short-circuit-same-length-3 : (t : ℕ) → short-circuit-lts.Need-same-length-3 (short-circuit-claims t) (short-circuit-at t) short-circuit.Post
 short-circuit-same-length-3 t c = c .before .before .before .before .before .climb .kept .1 .1 .1 .1 .0 ∙ c .before .before .before .before .before .before .before .before .before .before .before .before .short-circuit-source .kept .1 .1 .1 .1 .0
@@ -116,13 +116,13 @@ short-circuit-same-length-4 : (t : ℕ) → short-circuit-lts.Need-same-length-4
 short-circuit-same-length-4 t c = c .before .before .before .before .before .climb .kept .1 .1 .1 .1 .1 .1 .1 .0 ∙ c .before .before .before .before .before .before .before .before .before .before .before .before .short-circuit-source .kept .1 .1 .1 .1 .1 .1 .0
 
 short-circuit-returns-2 : (t : ℕ) → short-circuit-lts.Need-returns-2 (short-circuit-claims t) (short-circuit-at t) short-circuit.Post
-short-circuit-returns-2 t c = over-stop (counted-as (c .before .before .before .before .before .before .before .before .before .before .before .before .before .before .before .before .before .before .before .source-count .ensures) (c .before .before .before .before .before .before .before .before .before .before .before .before .before .before .before .before .if2 .taken)) (c .before .before .before .before .before .before .before .before .before .before .before .before .before .before .before .before .before .own-start .ensures) (c .before .before .before .before .before .climb .ensures (c .before .before .before .before .before .before .before .before .before .before .before .before .before .before .before .before .before .before .before .before .before .before .before .before .before .args .lo) (c .before .before .before .before .before .before .before .before .before .before .before .before .before .before .before .before .before .before .before .before .before .before .before .before .before .args .y .now) (record { bare = (c .before .before .before .before .before .before .before .before .before .before .before .before .before .before .before .descend-bare .ensures .down); given = (source-at (c .before .before .before .before .before .before .before .before .before .before .before .before .before .before .before .before .before .before .before .before .before .before .before .before .before .pre .1 .0) (counted-as (c .before .before .before .before .before .before .before .before .before .before .before .before .before .before .before .before .before .before .before .source-count .ensures) (c .before .before .before .before .before .before .before .before .before .before .before .before .before .before .before .before .if2 .taken)) (c .before .before .before .before .before .before .before .before .before .before .before .before .before .before .before .before .before .own-start .ensures)); long = c .before .before .before .before .before .before .before .before .before .before .before .before .short-circuit-source .kept .1 .1 .1 .1 .0; below = c .before .before .before .before .before .before .before .before .before .before .before .before .short-circuit-source .ensures })) (c .if3 .taken)
+short-circuit-returns-2 t c = over-stop (counted-as (c .before .before .before .before .before .before .before .before .before .before .before .before .before .before .before .before .before .before .before .source-count .ensures) (c .before .before .before .before .before .before .before .before .before .before .before .before .before .before .before .before .if2 .taken)) (c .before .before .before .before .before .before .before .before .before .before .before .before .before .before .before .before .before .own-start .ensures) (c .before .before .before .before .before .climb .ensures (c .before .before .before .before .before .before .before .before .before .before .before .before .before .before .before .before .before .before .before .before .before .before .before .before .before .args .lo) (c .before .before .before .before .before .before .before .before .before .before .before .before .before .before .before .before .before .before .before .before .before .before .before .before .before .args .output .now) (record { bare = (c .before .before .before .before .before .before .before .before .before .before .before .before .before .before .before .descend-bare .ensures .down); given = (source-at (c .before .before .before .before .before .before .before .before .before .before .before .before .before .before .before .before .before .before .before .before .before .before .before .before .before .pre .1 .0) (counted-as (c .before .before .before .before .before .before .before .before .before .before .before .before .before .before .before .before .before .before .before .source-count .ensures) (c .before .before .before .before .before .before .before .before .before .before .before .before .before .before .before .before .if2 .taken)) (c .before .before .before .before .before .before .before .before .before .before .before .before .before .before .before .before .before .own-start .ensures)); long = c .before .before .before .before .before .before .before .before .before .before .before .before .short-circuit-source .kept .1 .1 .1 .1 .0; below = c .before .before .before .before .before .before .before .before .before .before .before .before .short-circuit-source .ensures })) (c .if3 .taken)
 
 short-circuit-finish-requires : (t : ℕ) → short-circuit-lts.Need-finish-requires (short-circuit-claims t) (short-circuit-at t) short-circuit.Post
 short-circuit-finish-requires t c κs = ((own-in (c .before .before .before .before .before .before .before .before .before .before .before .before .before .before .before .before .before .before .before .before .before .before .before .before .before .before .pre .1 .0 .stream) (c .before .before .before .before .before .before .before .before .before .before .before .before .before .before .before .before .before .before .own-start .ensures)) .1 .0, node-inside (c .before .before .before .before .before .before .before .before .before .before .before .before .before .before .before .before .before .before .before .before .before .before .before .before .before .before .pre .1 .0) .1)
 
 short-circuit-short-circuit-node-requires-2 : (t : ℕ) → short-circuit-lts.Need-short-circuit-node-requires-2 (short-circuit-claims t) (short-circuit-at t) short-circuit.Post
-short-circuit-short-circuit-node-requires-2 t c κs = let (a, b) = over-ready (c .before .before .before .before .before .before .before .before .before .before .before .before .before .before .before .before .before .before .before .before .before .before .before .before .before .before .before .before .before .before .before .pre .1 .0) (counted-as (c .before .before .before .before .before .before .before .before .before .before .before .before .before .before .before .before .before .before .before .before .before .before .before .before .before .source-count .ensures) (c .before .before .before .before .before .before .before .before .before .before .before .before .before .before .before .before .before .before .before .before .before .before .if2 .taken)) (c .before .before .before .before .before .before .before .before .before .before .before .before .before .before .before .before .before .before .before .before .before .before .before .own-start .ensures) (c .before .before .before .before .before .before .before .before .before .before .before .climb .kept .1 .1 .1 .1 .0 ∙ c .before .before .before .before .before .before .before .before .before .before .before .before .before .before .before .before .before .before .short-circuit-source .kept .1 .1 .1 .1 .0) (c .before .before .before .before .before .before .before .before .before .before .before .climb .ensures (c .before .before .before .before .before .before .before .before .before .before .before .before .before .before .before .before .before .before .before .before .before .before .before .before .before .before .before .before .before .before .before .args .lo) (c .before .before .before .before .before .before .before .before .before .before .before .before .before .before .before .before .before .before .before .before .before .before .before .before .before .before .before .before .before .before .before .args .y .now) (record { bare = (c .before .before .before .before .before .before .before .before .before .before .before .before .before .before .before .before .before .before .before .before .before .descend-bare .ensures .down); given = (source-at (c .before .before .before .before .before .before .before .before .before .before .before .before .before .before .before .before .before .before .before .before .before .before .before .before .before .before .before .before .before .before .before .pre .1 .0) (counted-as (c .before .before .before .before .before .before .before .before .before .before .before .before .before .before .before .before .before .before .before .before .before .before .before .before .before .source-count .ensures) (c .before .before .before .before .before .before .before .before .before .before .before .before .before .before .before .before .before .before .before .before .before .before .if2 .taken)) (c .before .before .before .before .before .before .before .before .before .before .before .before .before .before .before .before .before .before .before .before .before .before .before .own-start .ensures)); long = c .before .before .before .before .before .before .before .before .before .before .before .before .before .before .before .before .before .before .short-circuit-source .kept .1 .1 .1 .1 .0; below = c .before .before .before .before .before .before .before .before .before .before .before .before .before .before .before .before .before .before .short-circuit-source .ensures })) (c .before .before .before .before .before .before .if3 .left) (c .before .before .before .before .finish .kept .1 .1 .1 .0) (c .before .before .before .before .finish .ensures) in (a, (records-at (c .before .before .before .before .before .before .before .before .before .before .before .before .before .before .before .before .before .before .before .before .before .before .before .before .before .before .before .before .before .before .before .pre .1 .0), (c .before .before .before .before .before .before .before .before .before .before .before .climb .kept .1 .1 .1 .1 .1 .1 .1 .0 ∙ c .before .before .before .before .before .before .before .before .before .before .before .before .before .before .before .before .before .before .short-circuit-source .kept .1 .1 .1 .1 .1 .1 .0 ∙ c .before .before .before .before .before .before .before .before .before .before .before .before .before .before .before .before .before .before .before .before .before .before .before .before .before .before .before .before .before .before .before .pre .1 .1 ∙ sym (c .before .before .before .before .finish .kept .1 .1 .1 .0 ∙ c .before .before .before .before .before .before .before .before .before .before .before .climb .kept .1 .1 .1 .1 .0 ∙ c .before .before .before .before .before .before .before .before .before .before .before .before .before .before .before .before .before .before .short-circuit-source .kept .1 .1 .1 .1 .0), b)))
+short-circuit-short-circuit-node-requires-2 t c κs = let (a, b) = over-ready (c .before .before .before .before .before .before .before .before .before .before .before .before .before .before .before .before .before .before .before .before .before .before .before .before .before .before .before .before .before .before .before .pre .1 .0) (counted-as (c .before .before .before .before .before .before .before .before .before .before .before .before .before .before .before .before .before .before .before .before .before .before .before .before .before .source-count .ensures) (c .before .before .before .before .before .before .before .before .before .before .before .before .before .before .before .before .before .before .before .before .before .before .if2 .taken)) (c .before .before .before .before .before .before .before .before .before .before .before .before .before .before .before .before .before .before .before .before .before .before .before .own-start .ensures) (c .before .before .before .before .before .before .before .before .before .before .before .climb .kept .1 .1 .1 .1 .0 ∙ c .before .before .before .before .before .before .before .before .before .before .before .before .before .before .before .before .before .before .short-circuit-source .kept .1 .1 .1 .1 .0) (c .before .before .before .before .before .before .before .before .before .before .before .climb .ensures (c .before .before .before .before .before .before .before .before .before .before .before .before .before .before .before .before .before .before .before .before .before .before .before .before .before .before .before .before .before .before .before .args .lo) (c .before .before .before .before .before .before .before .before .before .before .before .before .before .before .before .before .before .before .before .before .before .before .before .before .before .before .before .before .before .before .before .args .output .now) (record { bare = (c .before .before .before .before .before .before .before .before .before .before .before .before .before .before .before .before .before .before .before .before .before .descend-bare .ensures .down); given = (source-at (c .before .before .before .before .before .before .before .before .before .before .before .before .before .before .before .before .before .before .before .before .before .before .before .before .before .before .before .before .before .before .before .pre .1 .0) (counted-as (c .before .before .before .before .before .before .before .before .before .before .before .before .before .before .before .before .before .before .before .before .before .before .before .before .before .source-count .ensures) (c .before .before .before .before .before .before .before .before .before .before .before .before .before .before .before .before .before .before .before .before .before .before .if2 .taken)) (c .before .before .before .before .before .before .before .before .before .before .before .before .before .before .before .before .before .before .before .before .before .before .before .own-start .ensures)); long = c .before .before .before .before .before .before .before .before .before .before .before .before .before .before .before .before .before .before .short-circuit-source .kept .1 .1 .1 .1 .0; below = c .before .before .before .before .before .before .before .before .before .before .before .before .before .before .before .before .before .before .short-circuit-source .ensures })) (c .before .before .before .before .before .before .if3 .left) (c .before .before .before .before .finish .kept .1 .1 .1 .0) (c .before .before .before .before .finish .ensures) in (a, (records-at (c .before .before .before .before .before .before .before .before .before .before .before .before .before .before .before .before .before .before .before .before .before .before .before .before .before .before .before .before .before .before .before .pre .1 .0), (c .before .before .before .before .before .before .before .before .before .before .before .climb .kept .1 .1 .1 .1 .1 .1 .1 .0 ∙ c .before .before .before .before .before .before .before .before .before .before .before .before .before .before .before .before .before .before .short-circuit-source .kept .1 .1 .1 .1 .1 .1 .0 ∙ c .before .before .before .before .before .before .before .before .before .before .before .before .before .before .before .before .before .before .before .before .before .before .before .before .before .before .before .before .before .before .before .pre .1 .1 ∙ sym (c .before .before .before .before .finish .kept .1 .1 .1 .0 ∙ c .before .before .before .before .before .before .before .before .before .before .before .climb .kept .1 .1 .1 .1 .0 ∙ c .before .before .before .before .before .before .before .before .before .before .before .before .before .before .before .before .before .before .short-circuit-source .kept .1 .1 .1 .1 .0), b)))
 
 short-circuit-same-length-5 : (t : ℕ) → short-circuit-lts.Need-same-length-5 (short-circuit-claims t) (short-circuit-at t) short-circuit.Post
 short-circuit-same-length-5 t c = c .before .before .before .before .short-circuit-node2 .kept .0 ∙ c .before .before .before .before .before .before .before .before .before .finish .kept .1 .1 .1 .0 ∙ c .before .before .before .before .before .before .before .before .before .before .before .before .before .before .before .before .climb .kept .1 .1 .1 .1 .0 ∙ c .before .before .before .before .before .before .before .before .before .before .before .before .before .before .before .before .before .before .before .before .before .before .before .short-circuit-source .kept .1 .1 .1 .1 .0
@@ -131,7 +131,7 @@ short-circuit-same-length-6 : (t : ℕ) → short-circuit-lts.Need-same-length-6
 short-circuit-same-length-6 t c = c .before .before .before .before .short-circuit-node2 .kept .1 .1 .1 .1 .0 ∙ c .before .before .before .before .before .before .before .before .before .before .before .before .before .before .before .before .climb .kept .1 .1 .1 .1 .1 .1 .1 .0 ∙ c .before .before .before .before .before .before .before .before .before .before .before .before .before .before .before .before .before .before .before .before .before .before .before .short-circuit-source .kept .1 .1 .1 .1 .1 .1 .0
 
 short-circuit-returns-3 : (t : ℕ) → short-circuit-lts.Need-returns-3 (short-circuit-claims t) (short-circuit-at t) short-circuit.Post
-short-circuit-returns-3 t c = over-circuits (counted-as (c .before .before .before .before .before .before .before .before .before .before .before .before .before .before .before .before .before .before .before .before .before .before .before .before .before .before .before .before .before .before .source-count .ensures) (c .before .before .before .before .before .before .before .before .before .before .before .before .before .before .before .before .before .before .before .before .before .before .before .before .before .before .before .if2 .taken)) (c .before .before .before .before .before .before .before .before .before .before .before .before .before .before .before .before .before .before .before .before .before .before .before .before .before .before .before .before .own-start .ensures) (c .before .before .before .before .before .before .before .before .before .before .before .before .before .before .before .before .climb .ensures (c .before .before .before .before .before .before .before .before .before .before .before .before .before .before .before .before .before .before .before .before .before .before .before .before .before .before .before .before .before .before .before .before .before .before .before .before .args .lo) (c .before .before .before .before .before .before .before .before .before .before .before .before .before .before .before .before .before .before .before .before .before .before .before .before .before .before .before .before .before .before .before .before .before .before .before .before .args .y .now) (record { bare = (c .before .before .before .before .before .before .before .before .before .before .before .before .before .before .before .before .before .before .before .before .before .before .before .before .before .before .descend-bare .ensures .down); given = (source-at (c .before .before .before .before .before .before .before .before .before .before .before .before .before .before .before .before .before .before .before .before .before .before .before .before .before .before .before .before .before .before .before .before .before .before .before .before .pre .1 .0) (counted-as (c .before .before .before .before .before .before .before .before .before .before .before .before .before .before .before .before .before .before .before .before .before .before .before .before .before .before .before .before .before .before .source-count .ensures) (c .before .before .before .before .before .before .before .before .before .before .before .before .before .before .before .before .before .before .before .before .before .before .before .before .before .before .before .if2 .taken)) (c .before .before .before .before .before .before .before .before .before .before .before .before .before .before .before .before .before .before .before .before .before .before .before .before .before .before .before .before .own-start .ensures)); long = c .before .before .before .before .before .before .before .before .before .before .before .before .before .before .before .before .before .before .before .before .before .before .before .short-circuit-source .kept .1 .1 .1 .1 .0; below = c .before .before .before .before .before .before .before .before .before .before .before .before .before .before .before .before .before .before .before .before .before .before .before .short-circuit-source .ensures })) (c .before .before .before .before .before .before .before .before .before .before .before .before .before .before .before .before .climb .kept .1 .1 .1 .1 .0 ∙ c .before .before .before .before .before .before .before .before .before .before .before .before .before .before .before .before .before .before .before .before .before .before .before .short-circuit-source .kept .1 .1 .1 .1 .0) (c .before .before .before .before .before .before .before .before .before .before .before .if3 .left) (c .before .before .before .before .before .before .before .before .before .finish .kept .1 .1 .1 .0) (c .before .before .before .before .before .before .before .before .before .finish .ensures) (c .before .before .before .before .short-circuit-node2 .kept .0) (c .before .before .before .before .short-circuit-node2 .ensures)
+short-circuit-returns-3 t c = over-circuits (counted-as (c .before .before .before .before .before .before .before .before .before .before .before .before .before .before .before .before .before .before .before .before .before .before .before .before .before .before .before .before .before .before .source-count .ensures) (c .before .before .before .before .before .before .before .before .before .before .before .before .before .before .before .before .before .before .before .before .before .before .before .before .before .before .before .if2 .taken)) (c .before .before .before .before .before .before .before .before .before .before .before .before .before .before .before .before .before .before .before .before .before .before .before .before .before .before .before .before .own-start .ensures) (c .before .before .before .before .before .before .before .before .before .before .before .before .before .before .before .before .climb .ensures (c .before .before .before .before .before .before .before .before .before .before .before .before .before .before .before .before .before .before .before .before .before .before .before .before .before .before .before .before .before .before .before .before .before .before .before .before .args .lo) (c .before .before .before .before .before .before .before .before .before .before .before .before .before .before .before .before .before .before .before .before .before .before .before .before .before .before .before .before .before .before .before .before .before .before .before .before .args .output .now) (record { bare = (c .before .before .before .before .before .before .before .before .before .before .before .before .before .before .before .before .before .before .before .before .before .before .before .before .before .before .descend-bare .ensures .down); given = (source-at (c .before .before .before .before .before .before .before .before .before .before .before .before .before .before .before .before .before .before .before .before .before .before .before .before .before .before .before .before .before .before .before .before .before .before .before .before .pre .1 .0) (counted-as (c .before .before .before .before .before .before .before .before .before .before .before .before .before .before .before .before .before .before .before .before .before .before .before .before .before .before .before .before .before .before .source-count .ensures) (c .before .before .before .before .before .before .before .before .before .before .before .before .before .before .before .before .before .before .before .before .before .before .before .before .before .before .before .if2 .taken)) (c .before .before .before .before .before .before .before .before .before .before .before .before .before .before .before .before .before .before .before .before .before .before .before .before .before .before .before .before .own-start .ensures)); long = c .before .before .before .before .before .before .before .before .before .before .before .before .before .before .before .before .before .before .before .before .before .before .before .short-circuit-source .kept .1 .1 .1 .1 .0; below = c .before .before .before .before .before .before .before .before .before .before .before .before .before .before .before .before .before .before .before .before .before .before .before .short-circuit-source .ensures })) (c .before .before .before .before .before .before .before .before .before .before .before .before .before .before .before .before .climb .kept .1 .1 .1 .1 .0 ∙ c .before .before .before .before .before .before .before .before .before .before .before .before .before .before .before .before .before .before .before .before .before .before .before .short-circuit-source .kept .1 .1 .1 .1 .0) (c .before .before .before .before .before .before .before .before .before .before .before .if3 .left) (c .before .before .before .before .before .before .before .before .before .finish .kept .1 .1 .1 .0) (c .before .before .before .before .before .before .before .before .before .finish .ensures) (c .before .before .before .before .short-circuit-node2 .kept .0) (c .before .before .before .before .short-circuit-node2 .ensures)
 
 short-circuit-start-requires : (t : ℕ) → short-circuit-lts.Need-start-requires (short-circuit-claims t) (short-circuit-at t) short-circuit.Post
 short-circuit-start-requires t c κs = join-sized (two-left (c .before .before .before .source-count .ensures) (c .before .before .if1 .left) (c .if2 .left)) (c .before .own-start .ensures) (node-there (c .before .before .before .before .before .before .before .before .before .pre .1 .0))

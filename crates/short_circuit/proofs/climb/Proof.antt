@@ -10,7 +10,7 @@ use Rattle.short_circuit.proofs.climb.Tie as tie
 use Rattle.short_circuit.proofs.climb.Reads as reads
 use Rattle.short_circuit.proofs.climb.Lts as lts
 use Rattle.short_circuit.proofs.short_circuit_node.Reads as short-circuit-node-reads
-use Rattle.stream.proofs.finish.Reads as finish-reads
+use Rattle.edits.proofs.stream.finish.Reads as finish-reads
 
 abbrev Inv-loop : tie.InvT-loop
 Inv-loop x end hi tail y₀ at u z₀ records columns m₀ n₀ y z m n =

@@ -1,5 +1,5 @@
 use Rattle.split_join.proofs.Splitting.{back-gathered, stays-wrote}
-use Rattle.conjuncts.proofs.Appending.{gathered-none, gathered-each}
+use Rattle.columns.proofs.conjuncts.Appending.{gathered-none, gathered-each}
 use Rattle.sql.specs.Expression.{ands}
 use Rattle.sql.specs.Optimizer.{for-both}
 use mathlib.Core.Path.{_∙_}

@@ -1,0 +1,4 @@
+pub mod chain
+pub mod edit
+pub mod kept
+pub mod stream

@@ -1,0 +1,2 @@
+pub mod SoundAs
+pub mod Pass

@@ -1,0 +1,2 @@
+pub mod cnf
+pub mod nnf

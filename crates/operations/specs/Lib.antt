@@ -1,0 +1,2 @@
+pub mod hand_out
+pub mod sheet_passes

@@ -1,0 +1,47 @@
+use Rattle.sql.specs.Room.{FilterPushdown}
+use Rattle.optimizer.proofs.passes.Running.{push-asked, push-left}
+use Prim.Native.Nat.{ℕ, _+_, _-_, _*_, _≤_, _<_}
+use native.Mathlib.Omega.{arith}
+use mathlib.Core.Path.{_≡_, refl, sym, ap, _∙_, subst}
+use mathlib.Core.List.{List, [], _∷_, _++_}
+use lib.ListN.{length, take, drop}
+use borrow.Author.Needs.{needs}
+use Rattle.optimizer.proofs.passes.filter_pushdown_in_place.Statement.{statement}
+use Rattle.optimizer.proofs.passes.filter_pushdown_in_place.Tie as tie
+use Rattle.optimizer.proofs.passes.filter_pushdown_in_place.Reads as reads
+use Rattle.optimizer.proofs.passes.filter_pushdown_in_place.Lts as lts
+use Rattle.filter_pushdown.proofs.filter_pushdown.Reads as filter-pushdown-reads
+use Rattle.optimizer.proofs.passes.in_room.Reads as in-room-reads
+
+filter-pushdown-requires : tie.Need-filter-pushdown-requires
+filter-pushdown-requires c κs = (push-asked (c .before .before .before .before .before .before .before .before .before .pre .0), record { first = c .before .before .before .before .before .before .before .before .before .pre .1 .second; second = c .before .before .before .before .before .before .before .before .before .pre .1 .third; third = c .before .before .before .before .before .before .before .before .before .pre .1 .fourth })
+
+in-room-requires : tie.Need-in-room-requires
+in-room-requires c κs = search needs
+
+same-length : tie.Need-same-length
+same-length c = search needs
+
+same-length-2 : tie.Need-same-length-2
+same-length-2 c = search needs
+
+same-length-3 : tie.Need-same-length-3
+same-length-3 c = search needs
+
+same-length-4 : tie.Need-same-length-4
+same-length-4 c = search needs
+
+returns : tie.Need-returns
+returns c = push-left (c .before .before .before .before .before .before .before .before .before .before .before .before .before .before .before .before .before .before .before .before .pre .0 .short) FilterPushdown (c .before .before .before .before .before .before .before .before .before .before .filter-pushdown .ensures) (c .in-room .ensures)
+
+pub filter-pushdown-in-place-spec : {M : Type 1} → statement M
+filter-pushdown-in-place-spec =
+    tie.close
+    (tie.spec
+    filter-pushdown-requires
+    in-room-requires
+    same-length
+    same-length-2
+    same-length-3
+    same-length-4
+    returns)

@@ -1,0 +1,21 @@
+-- What the code's operands stand for.
+use mathlib.Core.Path.{_≡_}
+use lib.IntN.{ℤ}
+use lib.Ieee.{Float}
+use Rattle.value.specs.Value.{Value, null, Result, ok, err, mismatch}
+use Rattle.value.specs.Arithmetic.{written, arithmetic}
+use Rattle.value.specs.declared.arithmetic.Operands.{Operands}
+use Rattle.value.specs.declared.arithmetic.Operands.the-variants as Operands
+
+-- what an arithmetic function, given by its operations on two Integers and on two doubles, makes of operands
+abbrev pub applied : (ℤ → ℤ → Result Value) → (Float → Float → Float) → Operands → Result Value
+applied whole double (Operands.Integers a b) = whole a b
+applied whole double (Operands.Floats x y) = written (double x y)
+applied whole double Operands.Null = ok null
+applied whole double Operands.Mismatch = err mismatch
+
+-- r are the operands that two values make, for every arithmetic function
+abbrev pub Applies : Value → Value → Operands → Type 0
+Applies lhs rhs r =
+    (whole : ℤ → ℤ → Result Value) (double : Float → Float → Float)
+    → applied whole double r ≡ arithmetic whole double lhs rhs
