@@ -108,13 +108,22 @@ rules = marked_throughout(
     ),
 )
 
+# SELECT * FROM modems WHERE tier = 7 - 2 AND sqrt(signal * signal - 2.0) > 1.5: the difference is folded, and the tier looked up by the index.
+rates = Filter(
+    Scan(modems),
+    And(
+        Equal(column(1), Subtract(integer(7), integer(2))),
+        GreaterThan(SquareRoot(Subtract(Multiply(column(2), column(2)), float64(2.0))), float64(1.5)),
+    ),
+)
+
 # Every tag that is carried over, once at least.
 every_tag = NestedLoopJoin(
     Remap(
         HashJoin(
             Aggregate(
                 Offset(Limit(IndexLookup(modems, 1, [integer(3), null(), float64(1.5)], alias="m"), 2**32), 1),
-                [column(0), Identity(Negate(column(2)))],
+                [column(0), Identity(Negate(SquareRoot(column(2))))],
                 [Agg(f, column(1)) for f in range(5)],
             ),
             0,
@@ -137,7 +146,7 @@ every_tag = NestedLoopJoin(
         NestedLoopJoin(
             Filter(
                 Scan(modems, GreaterThan(column(2), float64(0.0))),
-                IsNaN(Add(column(2), Divide(column(1), integer(2)))),
+                IsNaN(Add(Subtract(column(2), column(1)), Divide(Multiply(column(1), integer(3)), integer(2)))),
             ),
             Values(Row(null(), string("")), Row(boolean(False), string("gold"))),
             outer=True,
@@ -201,7 +210,8 @@ examples = {
     "two-tiers": (sheet(two_tiers, [modems, tiers]), "accepted cells 23 columns 2"),
     "open-tiers": (sheet(open_tiers, [modems, tiers]), "accepted cells 20 columns 2"),
     "no-modem": (sheet(no_modem, [modems, tiers]), "accepted cells 15 columns 2"),
-    "every-tag": (sheet(every_tag, [modems, tiers]), "accepted cells 90 columns 17"),
+    "rates": (sheet(rates, [modems, tiers]), "accepted cells 16 columns 3"),
+    "every-tag": (sheet(every_tag, [modems, tiers]), "accepted cells 95 columns 17"),
     # As P5 and P6, over a join, where the normal forms are seen.
     "p5-join": (sheet(NestedLoopJoin(four, four, Not(Not(Not(And(A, B)))))), "accepted cells 19 columns 8"),
     "p6-join": (sheet(NestedLoopJoin(four, four, Or(Or(And(A, B), C), D))), "accepted cells 20 columns 8"),
@@ -219,8 +229,8 @@ examples = {
     "refused-6": (pack([cell(57), cell(51, c=1)]), "refused 6 place 1"),
     # An origin in edition 1.
     "refused-6-origin": (pack([cell(57), cell(55, a=1, origin=7)]), "refused 6 place 1"),
-    # Tag 18, Multiply, is known and not carried over.
-    "refused-7": (pack([cell(3), cell(3), cell(18)]), "refused 7 place 2"),
+    # Tag 19, Exponentiate, is known and not carried over.
+    "refused-7": (pack([cell(3), cell(3), cell(19)]), "refused 7 place 2"),
     # The Row asks for two expressions, and one stands there.
     "refused-8": (pack([cell(3), cell(45, a=2), cell(63, a=1)]), "refused 8 place 1"),
     # Two plans: each cell has its children, so the place is the cell count.
@@ -236,9 +246,16 @@ examples = {
         sheet(Filter(Values(Row(Divide(integer(1), integer(0)))), IsNull(Divide(integer(MIN), integer(-1))))),
         "accepted cells 10 columns 1",
     ),
+    # The square of 3037000500 is above the largest Integer.
+    "refused-11-multiply": (
+        sheet(Filter(Scan(one), Equal(A, Multiply(integer(3037000500), integer(3037000500)))), [one]),
+        "accepted cells 7 columns 1",
+    ),
     "refused-12": (sheet(Scan(one, Equal(A, Divide(integer(10), integer(0)))), [one]), "accepted cells 6 columns 1"),
     # A String and an Integer don't add up.
     "refused-13": (sheet(Order(Scan(one), Key(Add(string("a"), integer(1)))), [one]), "accepted cells 6 columns 1"),
+    # An Integer below zero has no root.
+    "refused-13-root": (sheet(Scan(one, Equal(A, SquareRoot(integer(-1)))), [one]), "accepted cells 5 columns 1"),
     # A conjunct without a Column goes to both sides of a join, and stays where a side takes none, so that the predicate
     # doubles with each Filter merged.
     "refused-14": (sheet(filters(7)), "accepted cells 21 columns 2"),

@@ -15,7 +15,8 @@ What the functions take, in toyDB's order:
 
     constants    null()  boolean(b)  integer(i)  float64(x)  float_bits(bits)  string(s)
     columns      column(i), counted from 0 in the row that the expression is about
-    operators    And Or Equal GreaterThan LessThan Add Divide (l, r); Not IsNull IsNaN Identity Negate (x)
+    operators    And Or Equal GreaterThan LessThan Add Divide Subtract Multiply (l, r);
+                 Not IsNull IsNaN Identity Negate SquareRoot (x)
     nodes        Scan(table, predicate=None, alias=None)             KeyLookup(table, constants, alias=None)
                  IndexLookup(table, column_number, constants, alias=None)
                  Filter(source, predicate)                           Projection(source, Item(..), ..)
@@ -63,7 +64,8 @@ NAN = 0x7FF8000000000000
 TAGS = {
     "Null": 1, "Boolean": 2, "Integer": 3, "Float": 4, "String": 5, "Column": 6,
     "And": 10, "Or": 11, "Equal": 12, "GreaterThan": 13, "LessThan": 14, "Add": 15, "Divide": 16,
-    "Not": 30, "IsNull": 31, "IsNaN": 32, "Identity": 33, "Negate": 34,
+    "Subtract": 17, "Multiply": 18,
+    "Not": 30, "IsNull": 31, "IsNaN": 32, "Identity": 33, "Negate": 34, "SquareRoot": 36,
     "Label": 40, "Item": 41, "Key": 42, "Target": 43, "Agg": 44, "Row": 45,
     "Aggregate": 50, "Filter": 51, "HashJoin": 52, "IndexLookup": 53, "KeyLookup": 54, "Limit": 55, "NestedLoopJoin": 56,
     "Nothing": 57, "Offset": 58, "Order": 59, "Projection": 60, "Remap": 61, "Scan": 62, "Values": 63,
@@ -258,6 +260,14 @@ def Divide(l, r):
     return Tree("Divide", [l, r])
 
 
+def Subtract(l, r):
+    return Tree("Subtract", [l, r])
+
+
+def Multiply(l, r):
+    return Tree("Multiply", [l, r])
+
+
 def Not(x):
     return Tree("Not", [x])
 
@@ -276,6 +286,10 @@ def Identity(x):
 
 def Negate(x):
     return Tree("Negate", [x])
+
+
+def SquareRoot(x):
+    return Tree("SquareRoot", [x])
 
 
 # Parts. A label is None, a name, or a pair of a qualifier and a name.

@@ -150,7 +150,7 @@ fn examine(bytes: &[u8]) -> Result<(u64, u64), (u64, usize)> {
         })
         .collect();
     for (i, cell) in list.iter().enumerate() {
-        if matches!(cell.tag, 17..=21 | 35 | 36) {
+        if matches!(cell.tag, 19..=21 | 35) {
             return Err((7, i));
         }
         if (edition == 1 && cell.origin != 0) || !whole(cell, text, tables) {
@@ -233,7 +233,7 @@ fn whole(cell: &Cell, text: usize, tables: usize) -> bool {
         }
         5 => none && inside(a, text) && b == 0 && c == 0,
         6 => none && b == 0 && c == 0,
-        10..=16 | 30..=34 => none && a == 0 && b == 0 && c == 0,
+        10..=18 | 30..=34 | 36 => none && a == 0 && b == 0 && c == 0,
         40 | 41 => label,
         42 => flag <= 1 && a == 0 && b == 0 && c == 0,
         43 => flag <= 1 && a <= 255 * flag as u32 && b == 0 && c == 0,
@@ -255,7 +255,7 @@ fn whole(cell: &Cell, text: usize, tables: usize) -> bool {
 fn sort(tag: u8) -> Sort {
     match tag {
         1..=5 => Sort::Constant,
-        6..=34 => Sort::Expression,
+        6..=36 => Sort::Expression,
         40 => Sort::Label,
         41 => Sort::Item,
         42 => Sort::Key,
@@ -271,8 +271,8 @@ fn children(cell: &Cell) -> Vec<(Sort, u64)> {
     use Sort::*;
     let (a, b, c) = (cell.a as u64, cell.b as u64, cell.c as u64);
     match cell.tag {
-        10..=16 => vec![(Expression, 2)],
-        30..=34 | 41 | 42 | 44 => vec![(Expression, 1)],
+        10..=18 => vec![(Expression, 2)],
+        30..=34 | 36 | 41 | 42 | 44 => vec![(Expression, 1)],
         45 => vec![(Expression, a)],
         50 => vec![(Node, 1), (Expression, a), (Agg, b)],
         51 => vec![(Node, 1), (Expression, 1)],

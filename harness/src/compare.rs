@@ -221,12 +221,15 @@ pub fn message(stop: &Stop, text: &[u8]) -> String {
         }
         (tag::IDENTITY, _) => format!("can't take the identity of {l}"),
         (tag::NEGATE, _) => format!("can't negate {l}"),
+        (tag::SQUARE_ROOT, _) => format!("can't take square root of {l}"),
         (op, Some(&r)) => {
             let verb = match op {
                 tag::AND => "AND",
                 tag::OR => "OR",
                 tag::ADD => "add",
                 tag::DIVIDE => "divide",
+                tag::SUBTRACT => "subtract",
+                tag::MULTIPLY => "multiply",
                 _ => "compare",
             };
             format!("can't {verb} {l} and {}", value(r, text))

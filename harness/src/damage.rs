@@ -105,7 +105,7 @@ fn change_part(rng: &mut Rng, parts: &mut Parts) {
                 (1..=6).chain(10..=21).chain(30..=36).chain(40..=45).chain(50..=63).collect();
             parts.cells[any][0] = if rng.percent(30) { rng.next() as u8 } else { rng.pick(&known) };
         }
-        27 => parts.cells[any][0] = rng.pick(&[17, 18, 19, 20, 21, 35, 36]),
+        27 => parts.cells[any][0] = rng.pick(&[19, 20, 21, 35]),
         3 => parts.cells[any][1] = rng.pick(&[0, 1, 2, 3, 4, 5, 255]),
         4 => parts.cells[any][rng.range(2, 3)] = rng.range(1, 255) as u8,
         5 => {

@@ -323,8 +323,9 @@ impl<'a> Gen<'a> {
                 0 => one(tag::IDENTITY, self.expr(ty, seen, budget - 1)),
                 1 => one(tag::NEGATE, self.expr(ty, seen, budget - 1)),
                 2 | 3 => {
+                    let op = self.rng.pick(&[tag::ADD, tag::ADD, tag::SUBTRACT, tag::MULTIPLY]);
                     let l = self.expr(ty, seen, budget / 2);
-                    two(tag::ADD, l, self.expr(ty, seen, budget / 2))
+                    two(op, l, self.expr(ty, seen, budget / 2))
                 }
                 4 if self.mood.risky => {
                     let l = self.expr(ty, seen, budget / 2);
@@ -341,11 +342,17 @@ impl<'a> Gen<'a> {
             },
             Ty::Float => {
                 let other = if self.rng.percent(30) { Ty::Int } else { Ty::Float };
-                match self.rng.below(6) {
+                match self.rng.below(7) {
+                    6 if self.mood.risky => {
+                        let ty = if self.rng.percent(30) { Ty::Int } else { ty };
+                        one(tag::SQUARE_ROOT, self.expr(ty, seen, budget - 1))
+                    }
+                    6 => one(tag::SQUARE_ROOT, self.expr(ty, seen, budget - 1)),
                     0 => one(tag::IDENTITY, self.expr(ty, seen, budget - 1)),
                     1 => one(tag::NEGATE, self.expr(ty, seen, budget - 1)),
                     n @ 2..=4 => {
-                        let op = if n == 2 { tag::DIVIDE } else { tag::ADD };
+                        let rest = [tag::ADD, tag::SUBTRACT, tag::MULTIPLY];
+                        let op = if n == 2 { tag::DIVIDE } else { self.rng.pick(&rest) };
                         let (mut l, mut r) = (ty, other);
                         if self.rng.percent(50) {
                             (l, r) = (r, l);

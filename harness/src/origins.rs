@@ -129,8 +129,8 @@ pub fn operation(bytes: &[u8], pass: u32, capacity: usize) -> (Answer, Vec<u8>) 
 /// How many trees a cell stands over.
 fn arity(c: &Cell) -> usize {
     (match c.tag {
-        tag::AND..=tag::DIVIDE | tag::FILTER | tag::HASH_JOIN => 2,
-        tag::NOT..=tag::NEGATE | tag::ITEM | tag::KEY | tag::AGG | tag::LIMIT | tag::OFFSET => 1,
+        tag::AND..=tag::MULTIPLY | tag::FILTER | tag::HASH_JOIN => 2,
+        tag::NOT..=tag::NEGATE | tag::SQUARE_ROOT | tag::ITEM | tag::KEY | tag::AGG | tag::LIMIT | tag::OFFSET => 1,
         tag::ROW | tag::NOTHING | tag::VALUES => c.a,
         tag::AGGREGATE => 1 + c.a + c.b,
         tag::INDEX_LOOKUP => c.c >> 16,

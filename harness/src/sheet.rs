@@ -172,7 +172,7 @@ impl Decoder<'_> {
             tag::FLOAT => Open::Expr(Value::Float(f64::from_bits(amount as u64)).into()),
             tag::STRING => Open::Expr(Value::String(self.constant(a)?).into()),
             tag::COLUMN => Open::Expr(Expression::Column(a as usize)),
-            tag::AND..=tag::DIVIDE => {
+            tag::AND..=tag::MULTIPLY => {
                 let rhs = Box::new(self.expr());
                 let lhs = Box::new(self.expr());
                 Open::Expr(match tag {
@@ -182,16 +182,19 @@ impl Decoder<'_> {
                     tag::GREATER_THAN => Expression::GreaterThan(lhs, rhs),
                     tag::LESS_THAN => Expression::LessThan(lhs, rhs),
                     tag::ADD => Expression::Add(lhs, rhs),
+                    tag::SUBTRACT => Expression::Subtract(lhs, rhs),
+                    tag::MULTIPLY => Expression::Multiply(lhs, rhs),
                     _ => Expression::Divide(lhs, rhs),
                 })
             }
-            tag::NOT..=tag::NEGATE => {
+            tag::NOT..=tag::NEGATE | tag::SQUARE_ROOT => {
                 let e = Box::new(self.expr());
                 Open::Expr(match tag {
                     tag::NOT => Expression::Not(e),
                     tag::IS_NULL => Expression::Is(e, Value::Null),
                     tag::IS_NAN => Expression::Is(e, nan),
                     tag::IDENTITY => Expression::Identity(e),
+                    tag::SQUARE_ROOT => Expression::SquareRoot(e),
                     _ => Expression::Negate(e),
                 })
             }
@@ -364,7 +367,7 @@ impl Encoder<'_> {
             Value::Integer(v) => self.put(tag::INTEGER, 0, *v as usize, *v as usize >> 32, 0),
             Value::Float(v) => {
                 // Compiled code may hold any NaN; a sheet holds one.
-                let bits = if v.is_nan() { tree::NAN } else { v.to_bits() } as usize;
+                let bits = tree::pattern(*v) as usize;
                 self.put(tag::FLOAT, 0, bits, bits >> 32, 0)
             }
             Value::String(v) => {
@@ -390,11 +393,14 @@ impl Encoder<'_> {
             LessThan(..) => tag::LESS_THAN,
             Add(..) => tag::ADD,
             Divide(..) => tag::DIVIDE,
+            Subtract(..) => tag::SUBTRACT,
+            Multiply(..) => tag::MULTIPLY,
             Not(_) => tag::NOT,
             Is(_, Value::Null) => tag::IS_NULL,
             Is(..) => tag::IS_NAN,
             Identity(_) => tag::IDENTITY,
             Negate(_) => tag::NEGATE,
+            SquareRoot(_) => tag::SQUARE_ROOT,
             _ => unreachable!("not carried over: {e:?}"),
         };
         match e {
@@ -404,11 +410,13 @@ impl Encoder<'_> {
             | GreaterThan(l, r)
             | LessThan(l, r)
             | Add(l, r)
-            | Divide(l, r) => {
+            | Divide(l, r)
+            | Subtract(l, r)
+            | Multiply(l, r) => {
                 self.expr(l)?;
                 self.expr(r)?;
             }
-            Not(x) | Is(x, _) | Identity(x) | Negate(x) => self.expr(x)?,
+            Not(x) | Is(x, _) | Identity(x) | Negate(x) | SquareRoot(x) => self.expr(x)?,
             _ => unreachable!(),
         }
         self.put(tag, 0, 0, 0, 0);

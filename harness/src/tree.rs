@@ -28,11 +28,14 @@ pub mod tag {
     pub const LESS_THAN: u8 = 14;
     pub const ADD: u8 = 15;
     pub const DIVIDE: u8 = 16;
+    pub const SUBTRACT: u8 = 17;
+    pub const MULTIPLY: u8 = 18;
     pub const NOT: u8 = 30;
     pub const IS_NULL: u8 = 31;
     pub const IS_NAN: u8 = 32;
     pub const IDENTITY: u8 = 33;
     pub const NEGATE: u8 = 34;
+    pub const SQUARE_ROOT: u8 = 36;
     pub const LABEL: u8 = 40;
     pub const ITEM: u8 = 41;
     pub const KEY: u8 = 42;
@@ -68,8 +71,15 @@ pub enum Val {
 impl Val {
     /// A float's value with every NaN in the one pattern.
     pub fn float(f: f64) -> Val {
-        Val::Float(if f.is_nan() { NAN } else { f.to_bits() })
+        Val::Float(pattern(f))
     }
+}
+
+/// A double's bits, every NaN's as the one pattern. By bits alone: what `sqrt`
+/// gives was once seen to miss `is_nan` when optimised.
+pub fn pattern(f: f64) -> u64 {
+    let bits = f.to_bits();
+    if bits & (u64::MAX >> 1) > 0x7FF << 52 { NAN } else { bits }
 }
 
 /// An expression. `at` is its cell in the sheet it was read from.
@@ -340,12 +350,12 @@ impl Reader {
         let at = self.at as u32;
         let op = match cell.tag {
             tag::COLUMN => Op::Col(cell.a),
-            tag::AND..=tag::DIVIDE => {
+            tag::AND..=tag::MULTIPLY => {
                 let r = self.expr();
                 let l = self.expr();
                 Op::Two(cell.tag, l, r)
             }
-            tag::NOT..=tag::NEGATE => Op::One(cell.tag, self.expr()),
+            tag::NOT..=tag::NEGATE | tag::SQUARE_ROOT => Op::One(cell.tag, self.expr()),
             _ => Op::Const(constant(&cell)),
         };
         Rc::new(Expr { at, op })

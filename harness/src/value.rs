@@ -2,8 +2,9 @@
 //! and what value.rs and expression.rs evaluate to, on values of our own.
 //!
 //! Folding and the reader of rows use it. Floats are bit patterns. What Add,
-//! Divide and Negate give gets the one NaN; Identity hands its value back as
-//! it is, so that a table's NaN of another pattern passes through.
+//! Divide, Subtract, Multiply, Negate and SquareRoot give gets the one NaN;
+//! Identity hands its value back as it is, so that a table's NaN of another
+//! pattern passes through.
 
 use std::cmp::Ordering;
 
@@ -61,6 +62,9 @@ pub fn one(op: u8, v: Val) -> Result<Val, Fault> {
         (tag::NEGATE, Int(i)) => Int(i.checked_neg().ok_or(Fault::Overflow { panics: true })?),
         (tag::NEGATE, Float(f)) => Val::float(-float(f)),
         (tag::NEGATE, Null) => Null,
+        (tag::SQUARE_ROOT, Int(i @ 0..)) => Float(root(nearest(i).to_bits())),
+        (tag::SQUARE_ROOT, Float(f)) => Float(root(f)),
+        (tag::SQUARE_ROOT, Null) => Null,
         _ => return Err(Fault::Kinds),
     })
 }
@@ -94,6 +98,21 @@ pub fn two<T: Texts + ?Sized>(op: u8, l: Val, r: Val, texts: &T) -> Result<Val, 
         tag::ADD => match (l, r) {
             (Int(l), Int(r)) => Int(l.checked_add(r).ok_or(Fault::Overflow { panics: false })?),
             (Int(_) | Float(_), Int(_) | Float(_)) => Val::float(double(l) + double(r)),
+            (Int(_) | Float(_) | Null, Int(_) | Float(_) | Null) => Null,
+            _ => return Err(Fault::Kinds),
+        },
+        tag::SUBTRACT => match (l, r) {
+            (Int(l), Int(r)) => Int(l.checked_sub(r).ok_or(Fault::Overflow { panics: false })?),
+            (Int(_) | Float(_), Int(_) | Float(_)) => Val::float(double(l) - double(r)),
+            (Int(_) | Float(_) | Null, Int(_) | Float(_) | Null) => Null,
+            _ => return Err(Fault::Kinds),
+        },
+        tag::MULTIPLY => match (l, r) {
+            (Int(l), Int(r)) => {
+                let exact = i128::from(l) * i128::from(r);
+                Int(i64::try_from(exact).map_err(|_| Fault::Overflow { panics: false })?)
+            }
+            (Int(_) | Float(_), Int(_) | Float(_)) => Val::float(double(l) * double(r)),
             (Int(_) | Float(_) | Null, Int(_) | Float(_) | Null) => Null,
             _ => return Err(Fault::Kinds),
         },
@@ -134,6 +153,44 @@ pub fn nearest(i: i64) -> f64 {
     if i < 0 { -rounded } else { rounded }
 }
 
+/// The bits of the double nearest to a double's square root, by squares of whole
+/// numbers. The root is never in the middle of two doubles, so nothing ties.
+pub fn root(bits: u64) -> u64 {
+    const SIGN: u64 = 1 << 63;
+    const INFINITY: u64 = 0x7FF << 52;
+    if bits % SIGN > INFINITY || (bits > SIGN) {
+        return crate::tree::NAN;
+    }
+    if bits % SIGN == 0 || bits == INFINITY {
+        return bits;
+    }
+    // The number is digits * 2^(exponent - 1074), digits of 53 bits.
+    let (mut digits, mut exponent) = match bits >> 52 {
+        0 => (bits, 0),
+        field => (bits & ((1 << 52) - 1) | 1 << 52, field as i32 - 1),
+    };
+    while digits < 1 << 52 {
+        (digits, exponent) = (digits << 1, exponent - 1);
+    }
+    let odd = exponent.rem_euclid(2) as u32;
+    // The largest double that isn't above the root, in digits of 53 bits.
+    let square = u128::from(digits) << (52 + odd);
+    let mut low = 1u64 << 52;
+    let mut step = 1u64 << 51;
+    while step > 0 {
+        if u128::from(low + step) * u128::from(low + step) <= square {
+            low += step;
+        }
+        step >>= 1;
+    }
+    // The middle of it and the next, doubled and squared, against the number.
+    let middle = u128::from(2 * low + 1);
+    let low = low + u64::from(middle * middle < square << 2);
+    // 2^(exponent - 1074) is 2^(2 k) times 2^odd, and the root's digits are 52 places below its point.
+    let k = (exponent - odd as i32 - 1074 - 52) / 2;
+    (((k + 1074) as u64) << 52) + low
+}
+
 /// Compares two values of fitting kinds, neither Null; None if unordered.
 fn compare<T: Texts + ?Sized>(l: Val, r: Val, texts: &T) -> Result<Option<Ordering>, Fault> {
     use Val::*;
@@ -149,6 +206,23 @@ fn compare<T: Texts + ?Sized>(l: Val, r: Val, texts: &T) -> Result<Option<Orderi
 #[cfg(test)]
 mod tests {
     use super::*;
+
+    #[test]
+    fn root_is_the_rusts() {
+        let mut state = 1u64;
+        let mut same = |bits: u64| {
+            let rust = crate::tree::pattern(f64::from_bits(bits).sqrt());
+            assert_eq!(root(bits), rust, "{bits:016x}");
+        };
+        for n in 0..300_000u64 {
+            state = state.wrapping_mul(6364136223846793005).wrapping_add(1442695040888963407);
+            same(state ^ state >> 29);
+            same((state ^ state >> 29) >> (n % 64));
+            let root = f64::from_bits((state >> 12) | 0x3FF << 52);
+            let near = (root * root).to_bits();
+            (near - 2..near + 3).for_each(&mut same);
+        }
+    }
 
     #[test]
     fn nearest_is_the_cast() {

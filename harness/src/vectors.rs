@@ -1,9 +1,9 @@
 //! Vectors of value operations, answered by the compiled Rust.
 //!
 //! One line each: `operation lhs rhs result`, parted by single spaces.
-//! Operations: Add Divide Equal GreaterThan LessThan And Or (two operands),
-//! Identity Negate Not IsNull IsNan Double (one operand, rhs is `-`). Double is
-//! the Integer rounded to the nearest double.
+//! Operations: Add Divide Subtract Multiply Equal GreaterThan LessThan And Or
+//! (two operands), Identity Negate SquareRoot Not IsNull IsNan Double (one
+//! operand, rhs is `-`). Double is the Integer rounded to the nearest double.
 //! A value is `N` (Null), `B0`, `B1`, `I` and 16 hex digits (two's complement),
 //! `F` and 16 hex digits (the bits), `S` and the text's bytes in hex. A result
 //! is a value, every NaN as F7ff8000000000000, or `!11`, `!12`, `!13`. Where
@@ -13,10 +13,11 @@
 use crate::original::quietly;
 use crate::rng::Rng;
 use crate::sql::types::{Expression, Value};
-use crate::tree::NAN;
+use crate::tree::pattern;
 
-const TWO: [&str; 7] = ["Add", "Divide", "Equal", "GreaterThan", "LessThan", "And", "Or"];
-const ONE: [&str; 5] = ["Identity", "Negate", "Not", "IsNull", "IsNan"];
+const TWO: [&str; 9] =
+    ["Add", "Divide", "Subtract", "Multiply", "Equal", "GreaterThan", "LessThan", "And", "Or"];
+const ONE: [&str; 6] = ["Identity", "Negate", "SquareRoot", "Not", "IsNull", "IsNan"];
 
 /// The expression of an operation on constants.
 fn expression(op: &str, l: &Value, r: &Value) -> Expression {
@@ -25,6 +26,8 @@ fn expression(op: &str, l: &Value, r: &Value) -> Expression {
     match op {
         "Add" => Add(l, r),
         "Divide" => Divide(l, r),
+        "Subtract" => Subtract(l, r),
+        "Multiply" => Multiply(l, r),
         "Equal" => Equal(l, r),
         "GreaterThan" => GreaterThan(l, r),
         "LessThan" => LessThan(l, r),
@@ -32,6 +35,7 @@ fn expression(op: &str, l: &Value, r: &Value) -> Expression {
         "Or" => Or(l, r),
         "Identity" => Identity(l),
         "Negate" => Negate(l),
+        "SquareRoot" => SquareRoot(l),
         "Not" => Not(l),
         "IsNull" => Is(l, Value::Null),
         "IsNan" => Is(l, Value::Float(f64::NAN)),
@@ -58,7 +62,7 @@ fn write(v: &Value) -> String {
         Value::Null => "N".to_string(),
         Value::Boolean(b) => format!("B{}", *b as u8),
         Value::Integer(i) => format!("I{:016x}", *i as u64),
-        Value::Float(f) => format!("F{:016x}", if f.is_nan() { NAN } else { f.to_bits() }),
+        Value::Float(f) => format!("F{:016x}", pattern(*f)),
         Value::String(s) => {
             let hex: String = s.bytes().map(|b| format!("{b:02x}")).collect();
             format!("S{hex}")
@@ -93,6 +97,12 @@ fn awkward() -> Vec<Value> {
         i64::MAX - 511,               // a tie at the top: to 2^63
         i64::MAX - 512,               // just under it
         i64::MAX - 1_023,             // the largest that is a double
+        3_037_000_499,                // the largest whose square is an Integer
+        3_037_000_500,
+        -3_037_000_500,
+        1 << 31,                      // with the next, MIN
+        -(1 << 32),
+        9_007_199_254_741_001,        // rounded before its root is taken
     ];
     list.extend(ints.map(Value::Integer));
     let floats = [
@@ -158,7 +168,19 @@ fn random_float(rng: &mut Rng) -> f64 {
 
 /// Two random values, often numbers that are near each other.
 fn random_pair(rng: &mut Rng) -> (Value, Value) {
-    match rng.below(8) {
+    match rng.below(10) {
+        8 => {
+            // A product near 2^63, of either sign.
+            let a = (rng.next() >> rng.below(63)) as i64 | 1;
+            let b = (i64::MAX / a).wrapping_add(rng.range(0, 4) as i64 - 2);
+            (if rng.percent(50) { a } else { a.wrapping_neg() }.into(), b.into())
+        }
+        9 => {
+            // A square and its neighbours, whose root is near a double or the middle of two.
+            let half = f64::from_bits((rng.next() & 0x001F_FFFF_FFFF_FFFF) + (0x3FE << 52));
+            let bits = (half * half).to_bits().wrapping_add(rng.range(0, 4) as u64).wrapping_sub(2);
+            (f64::from_bits(bits).into(), half.into())
+        }
         0 => (random_int(rng).into(), random_int(rng).into()),
         1 => {
             let i = random_int(rng);
@@ -247,13 +269,16 @@ mod tests {
         let ops = [
             tag::ADD,
             tag::DIVIDE,
+            tag::SUBTRACT,
+            tag::MULTIPLY,
             tag::EQUAL,
             tag::GREATER_THAN,
             tag::LESS_THAN,
             tag::AND,
             tag::OR,
         ];
-        let singles = [tag::IDENTITY, tag::NEGATE, tag::NOT, tag::IS_NULL, tag::IS_NAN];
+        let singles =
+            [tag::IDENTITY, tag::NEGATE, tag::SQUARE_ROOT, tag::NOT, tag::IS_NULL, tag::IS_NAN];
         let mut pairs: Vec<(Value, Value)> = Vec::new();
         for l in awkward() {
             pairs.extend(awkward().into_iter().map(|r| (l.clone(), r)));

@@ -1,17 +1,22 @@
--- Laws of the checked arithmetic on 64-bit integers: which sums, quotients and negations fit, by the code's tests.
+-- Laws of the checked arithmetic on 64-bit integers: which sums, differences, products, quotients and negations fit, by the code's tests.
 use Prim.Native.Nat.{ℕ, zero, suc, _+_, _-_, _*_, _/_, _<_, _≤_}
-use mathlib.Core.Path.{_≡_, refl, sym, ap, subst}
+use mathlib.Core.Path.{_≡_, refl, sym, ap, _∙_, subst}
 use mathlib.Core.Bool.{Bool, true, false, not, cond}
 use native.Mathlib.Omega.{arith}
-use native.Mathlib.Nat.{div-one, div-lt-iff-lt-mul, div-le-self}
+use mathlib.Core.Logic.{_↔_}
+use native.Mathlib.Nat.{div-one, div-lt-iff-lt-mul, le-div-iff-mul-le, div-le-self, mul-comm, zero-mul}
 use lib.Dec.{ltb, leb}
-use lib.IntN.{ℤ, pos, negsuc, negℤ, subℕ, _+ℤ_, _-ℤ_, +ℤ-idl}
+use lib.IntN.{ℤ, pos, negsuc, negℤ, natAbs, subℕ, _+ℤ_, _-ℤ_, _*ℤ_, +ℤ-idl}
 use lib.Signed.{mag, ltZ, leZ, quotZ}
+use lib.Ieee as Ieee
+use lib.Ieee.{binary64}
 use mir.Syntax.{w64}
 use mir.Val.{SFits, ofZ}
 use borrow.Author.Tests.{ltb-true, ltb-false, lt-ltb, le-ltb, leb-false}
 use Rattle.value.specs.Value.{datum, integer, ok, err, overflow}
-use Rattle.value.specs.Arithmetic.{checked, add-integers, divide-integers}
+use Rattle.value.specs.Arithmetic.{checked, add-integers, subtract-integers, multiply-integers, divide-integers, root-of-float, root-of-integer}
+use Rattle.value.specs.Comparison.{rounded}
+use Rattle.arithmetic.specs.Operands.{largest-magnitude}
 use Rattle.value.proofs.Laws.{false≢true}
 
 -- ---- what fits
@@ -145,6 +150,99 @@ negated-fits (negsuc n) f h = below (ltb (suc n) 9223372036854775808) refl
         let l : n < 9223372036854775808 = f .sfits in
         let k = ltb-false (suc n) 9223372036854775808 e in
         absurd (h (omega arith))
+
+-- ---- subtraction
+
+pub smallest-bits : (b : ℤ) → SFits w64 b → ofZ w64 b ≡ 9223372036854775808 → b ≡ negsuc 9223372036854775807
+smallest-bits (pos n) f h = let l : n < 9223372036854775808 = f .sfits in absurd (omega arith)
+smallest-bits (negsuc n) f h = let l : n < 9223372036854775808 = f .sfits in ap negsuc (omega arith)
+
+pub less-smallest-overflows : (a : ℤ) → leZ (pos 0) a ≡ true → err overflow ≡ subtract-integers a (negsuc 9223372036854775807)
+unfolding subtract-integers
+less-smallest-overflows (pos n) h = overflows (pos (n + 9223372036854775808)) (omega arith)
+less-smallest-overflows (negsuc n) h = absurd (false≢true h)
+
+pub less-smallest-fits : (a b : ℤ) → SFits w64 a → b ≡ negsuc 9223372036854775807 → leZ (pos 0) a ≡ false → mag (a -ℤ b) < 9223372036854775808
+less-smallest-fits a b f e h = subst (λ z. mag (a -ℤ z) < 9223372036854775808) (sym e) (go a f h)
+  where
+    go : (a : ℤ) → SFits w64 a → leZ (pos 0) a ≡ false → mag (a -ℤ negsuc 9223372036854775807) < 9223372036854775808
+    go (pos n) f h = absurd (never-below n h)
+    go (negsuc n) f h = by-order (λ z. mag z < 9223372036854775808) 9223372036854775808 (suc n) (λ l. omega arith) (λ l. omega arith)
+
+pub difference-is : (a b : ℤ) → mag (a -ℤ b) < 9223372036854775808 → ok (datum (integer (a -ℤ b))) ≡ subtract-integers a b
+unfolding subtract-integers
+difference-is a b h = fits (a -ℤ b) h
+
+pub by-opposite : (a b : ℤ) → add-integers a (negℤ b) ≡ subtract-integers a b
+unfolding add-integers subtract-integers
+by-opposite a b = refl
+
+-- ---- multiplication
+
+negative-magnitude : (k : ℕ) → (mag (negℤ (pos k)) < 9223372036854775808) ↔ (k ≤ 9223372036854775808)
+negative-magnitude zero = (λ h. omega arith, λ h. omega arith)
+negative-magnitude (suc k) = (λ h. omega arith, λ h. omega arith)
+
+positive-magnitude : (k : ℕ) → (mag (pos k) < 9223372036854775808) ↔ (k ≤ 9223372036854775807)
+positive-magnitude k = (λ h. omega arith, λ h. omega arith)
+
+-- The one law: a product has 64 bits exactly where the product of the magnitudes is at most what its sign allows.
+pub product-fits : (a b : ℤ) → (mag (a *ℤ b) < 9223372036854775808) ↔ (natAbs a * natAbs b ≤ largest-magnitude a b)
+product-fits (pos a) (pos b) = positive-magnitude (a * b)
+product-fits (pos a) (negsuc b) = negative-magnitude (a * suc b)
+product-fits (negsuc a) (pos b) = negative-magnitude (suc a * b)
+product-fits (negsuc a) (negsuc b) = positive-magnitude (suc a * suc b)
+
+-- as the code tests it: l is that largest magnitude, x and y are the factors'
+module _ (a b : ℤ) (l x y : ℕ) (large : l ≡ largest-magnitude a b) (left : x ≡ natAbs a) (right : y ≡ natAbs b) (nonzero : x ≡ 0 → ⊥) where
+  divides : (y ≤ l / x) ↔ (y * x ≤ l)
+  divides = le-div-iff-mul-le {k = x} {x = y} {y = l} (above x nonzero)
+    where
+      above : (n : ℕ) → (n ≡ 0 → ⊥) → 0 < n
+      above n h = omega arith
+
+  magnitudes : y * x ≡ natAbs a * natAbs b
+  magnitudes = ap (λ n. n * x) right ∙ ap (λ n. natAbs b * n) left ∙ mul-comm (natAbs b) (natAbs a)
+
+  pub divided-fits : y ≤ l / x → mag (a *ℤ b) < 9223372036854775808
+  divided-fits h = product-fits a b .1 (subst (λ n. n ≤ largest-magnitude a b) magnitudes (subst (λ n. y * x ≤ n) large (divides .0 h)))
+
+  pub divided-overflows : l / x < y → err overflow ≡ multiply-integers a b
+  unfolding multiply-integers
+  divided-overflows h = overflows (a *ℤ b) (by (ltb (mag (a *ℤ b)) 9223372036854775808) refl)
+    where
+      never : mag (a *ℤ b) < 9223372036854775808 → ⊥
+      never k =
+          let m = divides .1 (subst (λ n. y * x ≤ n) (sym large) (subst (λ n. n ≤ largest-magnitude a b) (sym magnitudes) (product-fits a b .0 k))) in
+          omega arith
+
+      by : (t : Bool) → ltb (mag (a *ℤ b)) 9223372036854775808 ≡ t → 9223372036854775808 ≤ mag (a *ℤ b)
+      by true e = absurd (never (ltb-true (mag (a *ℤ b)) 9223372036854775808 e))
+      by false e = ltb-false (mag (a *ℤ b)) 9223372036854775808 e
+
+pub product-is : (a b : ℤ) → mag (a *ℤ b) < 9223372036854775808 → ok (datum (integer (a *ℤ b))) ≡ multiply-integers a b
+unfolding multiply-integers
+product-is a b h = fits (a *ℤ b) h
+
+pub zero-product : (a b : ℤ) → natAbs a ≡ 0 → ok (datum (integer (pos 0))) ≡ multiply-integers a b
+unfolding multiply-integers
+zero-product (pos n) (pos m) h = fits (pos 0) (omega arith) ∙ ap (λ k. checked (pos k)) (sym (ap (λ k. k * m) h ∙ zero-mul m))
+zero-product (pos n) (negsuc m) h = fits (pos 0) (omega arith) ∙ ap (λ k. checked (negℤ (pos k))) (sym (ap (λ k. k * suc m) h ∙ zero-mul (suc m)))
+zero-product (negsuc n) b h = absurd (omega arith)
+
+-- ---- signs, by the code's test
+
+pub below : (a : ℤ) → ltZ a (pos 0) ≡ true → (n : ℕ) × (a ≡ negsuc n)
+below (pos n) h = let l = ltb-true n 0 h in absurd (omega arith)
+below (negsuc n) h = (n, refl)
+
+pub not-below : (a : ℤ) → ltZ a (pos 0) ≡ false → (n : ℕ) × (a ≡ pos n)
+not-below (pos n) h = (n, refl)
+not-below (negsuc n) h = absurd (false≢true (sym h))
+
+pub root-of-positive : (i : ℤ) → ltZ i (pos 0) ≡ false → root-of-float (Ieee.toBits binary64 (rounded i)) ≡ root-of-integer i
+root-of-positive (pos n) h = refl
+root-of-positive (negsuc n) h = absurd (false≢true (sym h))
 
 -- ---- division
 

@@ -1,6 +1,7 @@
 -- What the code's operands stand for.
+use Prim.Native.Nat.{ℕ}
 use mathlib.Core.Path.{_≡_}
-use lib.IntN.{ℤ}
+use lib.IntN.{ℤ, pos, negsuc}
 use lib.Ieee.{Float}
 use Rattle.value.specs.Value.{Value, null, Result, ok, err, mismatch}
 use Rattle.value.specs.Arithmetic.{written, arithmetic}
@@ -19,3 +20,10 @@ abbrev pub Applies : Value → Value → Operands → Type 0
 Applies lhs rhs r =
     (whole : ℤ → ℤ → Result Value) (double : Float → Float → Float)
     → applied whole double r ≡ arithmetic whole double lhs rhs
+
+-- The largest magnitude of a 64-bit product of two Integers with these signs: the smallest Integer's is one larger than the largest one's.
+abbrev pub largest-magnitude : ℤ → ℤ → ℕ
+largest-magnitude (pos a) (pos b) = 0x7FFFFFFFFFFFFFFF
+largest-magnitude (pos a) (negsuc b) = 0x8000000000000000
+largest-magnitude (negsuc a) (pos b) = 0x8000000000000000
+largest-magnitude (negsuc a) (negsuc b) = 0x7FFFFFFFFFFFFFFF

@@ -1,4 +1,4 @@
-// Addition, division, identity and negation. Operands must be numbers or Null.
+// Addition, subtraction, multiplication, division, identity, negation and the square root. Operands must be numbers or Null.
 use value::Error;
 use value::Result;
 use value::Value;
@@ -9,9 +9,10 @@ ghost use lib.IntN.{negℤ};
 ghost use lib.Ieee as Ieee;
 ghost use lib.Ieee.{binary64};
 ghost use Rattle.value.specs.Meaning.{meaning, result};
-ghost use Rattle.arithmetic.specs.Operands.{Applies};
+ghost use Rattle.ieee754.specs.Ieee754.{square-root-bits};
+ghost use Rattle.arithmetic.specs.Operands.{Applies, largest-magnitude};
 ghost use Rattle.value.specs.Value.{null, datum, integer, float};
-ghost use Rattle.value.specs.Arithmetic.{checked, add-integers, divide-integers, checked-add, checked-div, identity, negate};
+ghost use Rattle.value.specs.Arithmetic.{checked, add-integers, subtract-integers, multiply-integers, divide-integers, checked-add, checked-sub, checked-mul, checked-div, identity, negate, root-of-integer, square-root};
 
 const MIN: i64 = -9223372036854775808;
 
@@ -24,6 +25,30 @@ pub fn checked_add(lhs: Value, rhs: Value) -> Result
     match operands_of(lhs, rhs) {
         Operands::Integers(a, b) => add_integers(a, b),
         Operands::Floats(x, y) => Result::Ok(Value::Float(x + y)),
+        Operands::Null => Result::Ok(Value::Null),
+        Operands::Mismatch => Result::Err(Error::Mismatch),
+    }
+}
+
+// Subtracts two values.
+pub fn checked_sub(lhs: Value, rhs: Value) -> Result
+    ensures { λ r. ⌜ ((text : List ℕ) → result text r ≡ checked-sub (meaning text lhs) (meaning text rhs)) ⌝ }
+{
+    match operands_of(lhs, rhs) {
+        Operands::Integers(a, b) => subtract_integers(a, b),
+        Operands::Floats(x, y) => Result::Ok(Value::Float(x - y)),
+        Operands::Null => Result::Ok(Value::Null),
+        Operands::Mismatch => Result::Err(Error::Mismatch),
+    }
+}
+
+// Multiplies two values.
+pub fn checked_mul(lhs: Value, rhs: Value) -> Result
+    ensures { λ r. ⌜ ((text : List ℕ) → result text r ≡ checked-mul (meaning text lhs) (meaning text rhs)) ⌝ }
+{
+    match operands_of(lhs, rhs) {
+        Operands::Integers(a, b) => multiply_integers(a, b),
+        Operands::Floats(x, y) => Result::Ok(Value::Float(x * y)),
         Operands::Null => Result::Ok(Value::Null),
         Operands::Mismatch => Result::Err(Error::Mismatch),
     }
@@ -65,7 +90,20 @@ pub fn negate(v: Value) -> Result
     }
 }
 
-// What the operands of addition and division are, once an Integer met by a Float is rounded. Null: there is a Null, with a number or Null.
+// The square root.
+pub fn square_root(v: Value) -> Result
+    ensures { λ r. ⌜ ((text : List ℕ) → result text r ≡ square-root (meaning text v)) ⌝ }
+{
+    match v {
+        Value::Integer(i) => root_of_integer(i),
+        Value::Float(x) => Result::Ok(Value::Float(root_of_float(x))),
+        Value::Null => Result::Ok(Value::Null),
+        Value::Boolean(_) => Result::Err(Error::Mismatch),
+        Value::String(_) => Result::Err(Error::Mismatch),
+    }
+}
+
+// What the operands of addition, subtraction, multiplication and division are, once an Integer met by a Float is rounded. Null: there is a Null, with a number or Null.
 pub enum Operands {
     Integers(i64, i64),
     Floats(f64, f64),
@@ -136,6 +174,50 @@ fn add_integers(a: i64, b: i64) -> Result
     Result::Ok(Value::Integer(a + b))
 }
 
+// The smallest Integer has no opposite, and is subtracted only from an Integer below zero.
+fn subtract_integers(a: i64, b: i64) -> Result
+    ensures { λ r. ⌜ ((text : List ℕ) → result text r ≡ subtract-integers a b) ⌝ }
+{
+    if b == MIN {
+        if 0 <= a {
+            return Result::Err(Error::Overflow);
+        }
+        return Result::Ok(Value::Integer(a - b));
+    }
+    add_integers(a, -b)
+}
+
+// The largest magnitude that a product of Integers with the signs of a and b may have.
+fn largest_magnitude(a: i64, b: i64) -> u64
+    ensures { λ r. ⌜ r ≡ largest-magnitude a b ⌝ }
+{
+    if a < 0 {
+        if b < 0 {
+            return 0x7FFFFFFFFFFFFFFF;
+        }
+        return 0x8000000000000000;
+    }
+    if b < 0 {
+        return 0x8000000000000000;
+    }
+    0x7FFFFFFFFFFFFFFF
+}
+
+// A product's magnitude is at most n where one factor's is at most n over the other's, so that no
+// product is worked out before it is known to fit.
+fn multiply_integers(a: i64, b: i64) -> Result
+    ensures { λ r. ⌜ ((text : List ℕ) → result text r ≡ multiply-integers a b) ⌝ }
+{
+    let x = ieee754::magnitude(a);
+    if x == 0 {
+        return Result::Ok(Value::Integer(0));
+    }
+    if largest_magnitude(a, b) / x < ieee754::magnitude(b) {
+        return Result::Err(Error::Overflow);
+    }
+    Result::Ok(Value::Integer(a * b))
+}
+
 // The quotient, cut toward zero.
 fn divide_integers(a: i64, b: i64) -> Result
     ensures { λ r. ⌜ ((text : List ℕ) → result text r ≡ divide-integers a b) ⌝ }
@@ -156,4 +238,21 @@ fn negate_integer(i: i64) -> Result
         return Result::Err(Error::Overflow);
     }
     Result::Ok(Value::Integer(-i))
+}
+
+// An Integer's root: it is rounded first.
+fn root_of_integer(i: i64) -> Result
+    ensures { λ r. ⌜ ((text : List ℕ) → result text r ≡ root-of-integer i) ⌝ }
+{
+    if i < 0 {
+        return Result::Err(Error::Mismatch);
+    }
+    Result::Ok(Value::Float(root_of_float(ieee754::nearest_f64(i))))
+}
+
+// A Float's root, from pattern to pattern.
+fn root_of_float(x: f64) -> f64
+    ensures { λ r. ⌜ Ieee.toBits binary64 r ≡ square-root-bits (Ieee.toBits binary64 x) ⌝ }
+{
+    value::float_of_bits(ieee754::square_root_bits(value::float_bits(x)))
 }

@@ -31,7 +31,7 @@ pub struct Children {
     pub aggs: usize,
 }
 
-// The sort of an expression's cell, or 0: constants from 1 to 5, Column, operators of two operands from 10 to 16, of one from 30 to 34.
+// The sort of an expression's cell, or 0: constants from 1 to 5, Column, operators of two operands from 10 to 18, of one from 30 to 34, and 36.
 fn expression_sort(tag: u32) -> usize
     requires { ⌜ tag < 40 ⌝ }
     ensures { λ r. ⌜ Sorted tag r ⌝ }
@@ -48,13 +48,19 @@ fn expression_sort(tag: u32) -> usize
     if tag < tags::BINARY {
         return 0;
     }
-    if tag < tags::SUBTRACT {
+    if tag < tags::EXPONENTIATE {
         return EXPRESSION;
     }
     if tag < tags::UNARY {
         return 0;
     }
     if tag < tags::FACTORIAL {
+        return EXPRESSION;
+    }
+    if tag == tags::FACTORIAL {
+        return 0;
+    }
+    if tag == tags::SQUARE_ROOT {
         return EXPRESSION;
     }
     0
@@ -98,7 +104,7 @@ fn operands(tag: u32, flag: usize, a: usize, b: usize, c: usize) -> Children
     if tag < tags::BINARY {
         return asking(0, 0, 0, 0);
     }
-    if tag < tags::SUBTRACT {
+    if tag < tags::EXPONENTIATE {
         return asking(0, EXPRESSION, 2, 0);
     }
     if tag < tags::UNARY {
@@ -107,12 +113,18 @@ fn operands(tag: u32, flag: usize, a: usize, b: usize, c: usize) -> Children
     if tag < tags::FACTORIAL {
         return asking(0, EXPRESSION, 1, 0);
     }
+    if tag == tags::FACTORIAL {
+        return asking(0, 0, 0, 0);
+    }
+    if tag == tags::SQUARE_ROOT {
+        return asking(0, EXPRESSION, 1, 0);
+    }
     parts_operands(tag, flag, a, b, c)
 }
 
 // 40 Label and 43 Target have none, 41 Item, 42 Key and 44 Agg one, 45 Row so many as it says.
 fn parts_operands(tag: u32, flag: usize, a: usize, b: usize, c: usize) -> Children
-    requires { ⌜ (35 ≤ tag) × (tag < 50) ⌝ }
+    requires { ⌜ (37 ≤ tag) × (tag < 50) ⌝ }
     ensures { λ r. ⌜ Asked tag flag a b c r ⌝ }
 {
     if tag < tags::ITEM {

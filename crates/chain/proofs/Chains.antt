@@ -6,7 +6,7 @@ use mathlib.Core.Path.{_≡_, refl, sym, ap, _∙_}
 use mathlib.Core.List.{List, [], _∷_, _++_, append-assoc, append-nil}
 use mathlib.Core.Option.{Option, none, some}
 use lib.ListN.{length, length-append}
-use Rattle.sql.specs.Expression.{Marked, IsNull, IsNaN, Identity, Negate, Unary, Not, function, Expression, constant, column, unary, binary}
+use Rattle.sql.specs.Expression.{Marked, IsNull, IsNaN, Identity, Negate, SquareRoot, Unary, Not, function, Expression, constant, column, unary, binary}
 use Rattle.sql.specs.Plan.{Label, unlabelled, unqualified, qualified, Other, limit, offset, order, projection, remap, aggregate, filter, other, Node, leaf, over, join, over-size, node-size}
 use Rattle.sql.specs.Answer.{Answer, done, refused, _>>=_}
 use Rattle.sheet.specs.Content.{Content, bit, constant-cell, column-cell, unary-cell, binary-cell, item-cell, key-cell, target-cell, agg-cell, unary-tag}
@@ -192,6 +192,7 @@ unary-small (function IsNull) = omega arith
 unary-small (function IsNaN) = omega arith
 unary-small (function Identity) = omega arith
 unary-small (function Negate) = omega arith
+unary-small (function SquareRoot) = omega arith
 
 plain-expression : (e : Expression) → Plain (expression-words e)
 unfolding expression-words

@@ -5,7 +5,7 @@ use borrow.Author.Tests.{eq-eqb, ne-eqb, lt-ltb, le-ltb}
 use mathlib.Core.Option.{none}
 use mathlib.Core.Path.{_≡_, refl, sym, ap, ap₂, _∙_}
 use mathlib.Core.List.{List}
-use Rattle.sql.specs.Expression.{origin, And, Or, IsNull, IsNaN, Identity, Negate, Unary, Not, function, logical, Equal, Expression, constant, column, unary, binary, is-column, is-equal-lookup, same-column, is-column-lookup}
+use Rattle.sql.specs.Expression.{origin, And, Or, IsNull, IsNaN, Identity, Negate, SquareRoot, Unary, Not, function, logical, Equal, Expression, constant, column, unary, binary, is-column, is-equal-lookup, same-column, is-column-lookup}
 use Rattle.sql.specs.Optimizer.{ordered, equijoin}
 use Rattle.sheet.specs.Content.{constant-cell, column-cell, unary-cell, binary-cell, unary-tag}
 use Rattle.cells.specs.declared.Cell.{Cell}
@@ -61,6 +61,7 @@ is-test og (function IsNull) x h k = refl
 is-test og (function IsNaN) x h k = refl
 is-test og (function Identity) x h k = absurd (omega arith)
 is-test og (function Negate) x h k = absurd (omega arith)
+is-test og (function SquareRoot) x h k = absurd (omega arith)
 
 no-lookup : (e : Expression) → (tag (root e) ≡ 11 → ⊥) → (tag (root e) ≡ 12 → ⊥) → tag (root e) < 31 → is-column-lookup e ≡ none
 no-lookup (constant og v) f g h = refl
@@ -70,6 +71,7 @@ no-lookup (unary og (function IsNull) x) f g h = absurd (omega arith)
 no-lookup (unary og (function IsNaN) x) f g h = absurd (omega arith)
 no-lookup (unary og (function Identity) x) f g h = refl
 no-lookup (unary og (function Negate) x) f g h = refl
+no-lookup (unary og (function SquareRoot) x) f g h = refl
 no-lookup (binary og (logical And) l r) f g h = refl
 no-lookup (binary og (logical Or) l r) f g h = absurd (f refl)
 no-lookup (binary og Equal l r) f g h = absurd (g refl)
@@ -83,6 +85,7 @@ no-is-test (unary og (function IsNull) x) h = absurd (omega arith)
 no-is-test (unary og (function IsNaN) x) h = absurd (omega arith)
 no-is-test (unary og (function Identity) x) h = refl
 no-is-test (unary og (function Negate) x) h = refl
+no-is-test (unary og (function SquareRoot) x) h = refl
 no-is-test (binary og o l r) h = absurd (omega (arith, binary-range o .1))
 
 no-equal : (e : Expression) → (tag (root e) ≡ 12 → ⊥) → equijoin e ≡ none

@@ -8,7 +8,7 @@ use mathlib.Core.Option.{Option, none, some}
 use mathlib.Core.Path.{_≡_, refl, sym, ap, ap₂, _∙_, subst}
 use mathlib.Core.List.{List, [], _∷_, map}
 use lib.Dec.{T, eqb, ltb, eqb→eq}
-use Rattle.sql.specs.Expression.{origin, And, Or, IsNull, IsNaN, Identity, Negate, Not, function, logical, Equal, Expression, constant, column, unary, binary, map-columns, replace-column, shift-column-down, is-column, same-column, is-column-lookup}
+use Rattle.sql.specs.Expression.{origin, And, Or, IsNull, IsNaN, Identity, Negate, SquareRoot, Not, function, logical, Equal, Expression, constant, column, unary, binary, map-columns, replace-column, shift-column-down, is-column, same-column, is-column-lookup}
 use Rattle.sql.specs.Optimizer.{ref-left, ref-right, equijoin, is-number, is-lookup-of, or-else, last-lookup, copied}
 use Rattle.cells.proofs.Laws.{lt-or-ge}
 
@@ -48,6 +48,7 @@ module _ (f g : ℕ → ℕ) (c : ℕ) (same : f c ≡ g c) where
   lookup-same (unary og (function IsNaN) x) h = ap (unary og (function IsNaN)) (column-same x h)
   lookup-same (unary og (function Identity) x) h = no-some h
   lookup-same (unary og (function Negate) x) h = no-some h
+  lookup-same (unary og (function SquareRoot) x) h = no-some h
   lookup-same (binary og (logical And) l r) h = no-some h
   lookup-same (binary og (logical Or) l r) h =
       let (a, b) = same-both (is-column-lookup l) (is-column-lookup r) c h in ap₂ (binary og (logical Or)) (lookup-same l a) (lookup-same r b)

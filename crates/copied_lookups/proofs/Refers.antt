@@ -5,7 +5,7 @@ use mathlib.Core.Option.{Option, none, some}
 use mathlib.Core.Path.{_≡_, refl, sym, ap, ap₂, _∙_, subst}
 use mathlib.Core.List.{List, [], _∷_, _++_}
 use lib.Dec.{eqb, ltb}
-use Rattle.sql.specs.Expression.{And, Or, IsNull, IsNaN, Identity, Negate, Not, function, logical, Equal, Expression, constant, column, unary, binary, and, and-all, and-vec, contains-column, map-columns, is-column, is-column-lookup}
+use Rattle.sql.specs.Expression.{And, Or, IsNull, IsNaN, Identity, Negate, SquareRoot, Not, function, logical, Equal, Expression, constant, column, unary, binary, and, and-all, and-vec, contains-column, map-columns, is-column, is-column-lookup}
 use Rattle.sql.specs.Optimizer.{ref-left, ref-right, cons-if, for-left, for-right, for-both, equijoin, last-lookup, copied, copy-up, flat-map, push-right}
 use Rattle.copied_lookups.proofs.Lookups.{no-some, no-true, column-is, same-both, eqb-same, last-is, stays}
 
@@ -31,6 +31,7 @@ module _ (t : ℕ → Bool) (f : ℕ → ℕ) (c : ℕ) where
   lookup-has (unary og (function IsNaN) x) h = column-has x h
   lookup-has (unary og (function Identity) x) h = no-some h
   lookup-has (unary og (function Negate) x) h = no-some h
+  lookup-has (unary og (function SquareRoot) x) h = no-some h
   lookup-has (binary og (logical And) l r) h = no-some h
   lookup-has (binary og (logical Or) l r) h =
       let (a, b) = same-both (is-column-lookup l) (is-column-lookup r) c h in ap₂ (λ (i j : Bool). i || j) (lookup-has l a) (lookup-has r b) ∙ or-same (t (f c))

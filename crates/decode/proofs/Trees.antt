@@ -10,7 +10,7 @@ use lib.Dec.{ltb}
 use lib.ListN.{length, getD, List·getD-eq-default}
 use borrow.Author.Tests.{lt-ltb, le-ltb}
 use Rattle.value.specs.Value.{Truth, False, Unknown, True, truth, datum, integer, float, string}
-use Rattle.sql.specs.Expression.{Unary, Not, function, IsNull, IsNaN, Identity, Negate, Binary, logical, And, Or, Equal, GreaterThan, LessThan, Add, Divide}
+use Rattle.sql.specs.Expression.{Unary, Not, function, IsNull, IsNaN, Identity, Negate, SquareRoot, Binary, logical, And, Or, Equal, GreaterThan, LessThan, Add, Divide, Subtract, Multiply}
 use Rattle.sql.specs.Plan.{Label, unlabelled, unqualified, qualified}
 use Rattle.sheet.specs.Cell.{Cell}
 use Rattle.sheet.specs.Content.{Content, cell-of, marked, constant-cell, column-cell, unary-cell, binary-cell, label-cell, item-cell, key-cell, target-cell, agg-cell, row-cell, aggregate-cell, filter-cell, hash-join-cell, index-lookup-cell, key-lookup-cell, limit-cell, offset-cell, nested-loop-join-cell, nothing-cell, order-cell, projection-cell, remap-cell, scan-cell, values-cell}
@@ -30,6 +30,7 @@ unary-trees (function IsNull) = refl
 unary-trees (function IsNaN) = refl
 unary-trees (function Identity) = refl
 unary-trees (function Negate) = refl
+unary-trees (function SquareRoot) = refl
 
 binary-trees : (o : Binary) → trees (cell-of (binary-cell o)) ≡ 2
 unfolding trees
@@ -40,6 +41,8 @@ binary-trees (function GreaterThan) = refl
 binary-trees (function LessThan) = refl
 binary-trees (function Add) = refl
 binary-trees (function Divide) = refl
+binary-trees (function Subtract) = refl
+binary-trees (function Multiply) = refl
 
 -- an IndexLookup's count, behind its column
 counted : {i n : ℕ} → (i < 65536) × (n < 65536) → (i + 65536 * n) / 65536 ≡ 0 + n + 0

@@ -8,7 +8,7 @@ use mathlib.Core.List.{List, [], _∷_, _++_, append-assoc}
 use mathlib.Core.Option.{Option, none, some}
 use lib.ListN.{length}
 use Rattle.value.specs.Value.{Value, Truth, False, Unknown, True, truth, datum, integer, float, string}
-use Rattle.sql.specs.Expression.{Marked, Expression, constant, column, unary, binary, Unary, Not, function, IsNull, IsNaN, Identity, Negate, Binary, logical, And, Or, Equal, GreaterThan, LessThan, Add, Divide}
+use Rattle.sql.specs.Expression.{Marked, Expression, constant, column, unary, binary, Unary, Not, function, IsNull, IsNaN, Identity, Negate, SquareRoot, Binary, logical, And, Or, Equal, GreaterThan, LessThan, Add, Divide, Subtract, Multiply}
 use Rattle.sql.specs.Plan.{Label, unlabelled, unqualified, qualified, by-key, by-index, Leaf, scan, lookup, nothing, values, limit, offset, order, projection, remap, aggregate, Over, filter, other, Join, nested-loop, hash, Node, leaf, over, join}
 use Rattle.sheet.specs.Cell as Sheet
 use Rattle.sheet.specs.Content.{Content, cell-of, marked, constant-cell, column-cell, unary-cell, binary-cell, label-cell, item-cell, key-cell, target-cell, agg-cell, row-cell, aggregate-cell, filter-cell, hash-join-cell, index-lookup-cell, key-lookup-cell, limit-cell, offset-cell, nested-loop-join-cell, nothing-cell, order-cell, projection-cell, remap-cell, scan-cell, values-cell}
@@ -170,6 +170,7 @@ unary-plain (function IsNull) = plain (omega arith)
 unary-plain (function IsNaN) = plain (omega arith)
 unary-plain (function Identity) = plain (omega arith)
 unary-plain (function Negate) = plain (omega arith)
+unary-plain (function SquareRoot) = plain (omega arith)
 
 binary-plain : (o : Binary) → Plain (cell-of (binary-cell o))
 binary-plain (logical And) = plain (omega arith)
@@ -179,6 +180,8 @@ binary-plain (function GreaterThan) = plain (omega arith)
 binary-plain (function LessThan) = plain (omega arith)
 binary-plain (function Add) = plain (omega arith)
 binary-plain (function Divide) = plain (omega arith)
+binary-plain (function Subtract) = plain (omega arith)
+binary-plain (function Multiply) = plain (omega arith)
 
 plain-cell : (k : Content) → Plain (cell-of k)
 plain-cell (constant-cell (truth Unknown)) = plain (omega arith)

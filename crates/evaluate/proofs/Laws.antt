@@ -14,7 +14,7 @@ use lib.Ieee.{binary64}
 use lib.Ieee.Bits.{toBits-ofBits, nanBits-is}
 use Rattle.value.specs.Value.{False, Unknown, True, integer, float, string, Value, truth, datum, null, boolean, the-nan}
 use Rattle.value.specs.Meaning.{bytes-at, integer-bits, integer-of-bits}
-use Rattle.sql.specs.Expression.{And, Or, IsNull, IsNaN, Identity, Negate, GreaterThan, LessThan, Add, Divide, Unary, Not, function, Binary, logical, Equal, evaluate-unary, evaluate-binary}
+use Rattle.sql.specs.Expression.{And, Or, IsNull, IsNaN, Identity, Negate, SquareRoot, GreaterThan, LessThan, Add, Divide, Subtract, Multiply, Unary, Not, function, Binary, logical, Equal, evaluate-unary, evaluate-binary}
 use Rattle.sheet.specs.Cell.{wide}
 use Rattle.sheet.specs.Content.{unary-tag, binary-tag, constant-cell}
 use Rattle.sheet_laws.specs.Fits.{Value-fits}
@@ -114,7 +114,7 @@ string-cell og r s h = rw (mod-eq-of-lt h, div-eq-of-lt h)
 abbrev unary-of : ℕ → Unary
 unary-of t =
     cond (eqb t 30) Not
-    (cond (eqb t 31) (function IsNull) (cond (eqb t 32) (function IsNaN) (cond (eqb t 33) (function Identity) (function Negate))))
+    (cond (eqb t 31) (function IsNull) (cond (eqb t 32) (function IsNaN) (cond (eqb t 33) (function Identity) (cond (eqb t 36) (function SquareRoot) (function Negate)))))
 
 unary-same : (p : Unary) → unary-of (unary-tag p) ≡ p
 unary-same Not = refl
@@ -122,13 +122,15 @@ unary-same (function IsNull) = refl
 unary-same (function IsNaN) = refl
 unary-same (function Identity) = refl
 unary-same (function Negate) = refl
+unary-same (function SquareRoot) = refl
 
 abbrev binary-of : ℕ → Binary
 binary-of t =
     cond (eqb t 10) (logical And)
     (cond (eqb t 11) (logical Or)
     (cond (eqb t 12) Equal
-    (cond (eqb t 13) (function GreaterThan) (cond (eqb t 14) (function LessThan) (cond (eqb t 15) (function Add) (function Divide))))))
+    (cond (eqb t 13) (function GreaterThan) (cond (eqb t 14) (function LessThan) (cond (eqb t 15) (function Add)
+    (cond (eqb t 17) (function Subtract) (cond (eqb t 18) (function Multiply) (function Divide))))))))
 
 binary-same : (p : Binary) → binary-of (binary-tag p) ≡ p
 binary-same (logical And) = refl
@@ -138,6 +140,8 @@ binary-same (function GreaterThan) = refl
 binary-same (function LessThan) = refl
 binary-same (function Add) = refl
 binary-same (function Divide) = refl
+binary-same (function Subtract) = refl
+binary-same (function Multiply) = refl
 
 module _ {o : ℕ} (p : Unary) (e : unary-tag p ≡ o) where
   is-unary : unary-of o ≡ p
@@ -146,8 +150,8 @@ module _ {o : ℕ} (p : Unary) (e : unary-tag p ≡ o) where
   pub unary-at : (t : ℕ) → o ≡ t → (v : Value) → evaluate-unary (unary-of t) v ≡ evaluate-unary p v
   unary-at t h v = ap (λ (q : Unary). evaluate-unary q v) (ap unary-of (sym h) ∙ is-unary)
 
-  pub unary-else : (o ≡ 30 → ⊥) → (o ≡ 31 → ⊥) → (o ≡ 32 → ⊥) → (o ≡ 33 → ⊥) → (v : Value) → evaluate-unary (function Negate) v ≡ evaluate-unary p v
-  unary-else g h i j v = ap (λ (q : Unary). evaluate-unary q v) (simp (ne-eqb o 30 g, ne-eqb o 31 h, ne-eqb o 32 i, ne-eqb o 33 j) at is-unary)
+  pub unary-else : (o ≡ 30 → ⊥) → (o ≡ 31 → ⊥) → (o ≡ 32 → ⊥) → (o ≡ 33 → ⊥) → (o ≡ 36 → ⊥) → (v : Value) → evaluate-unary (function Negate) v ≡ evaluate-unary p v
+  unary-else g h i j k v = ap (λ (q : Unary). evaluate-unary q v) (simp (ne-eqb o 30 g, ne-eqb o 31 h, ne-eqb o 32 i, ne-eqb o 33 j, ne-eqb o 36 k) at is-unary)
 
 module _ {o : ℕ} (p : Binary) (e : binary-tag p ≡ o) where
   is-binary : binary-of o ≡ p
@@ -156,7 +160,7 @@ module _ {o : ℕ} (p : Binary) (e : binary-tag p ≡ o) where
   pub binary-at : (t : ℕ) → o ≡ t → (v w : Value) → evaluate-binary (binary-of t) v w ≡ evaluate-binary p v w
   binary-at t h v w = ap (λ (q : Binary). evaluate-binary q v w) (ap binary-of (sym h) ∙ is-binary)
 
-  pub binary-else : (o ≡ 10 → ⊥) → (o ≡ 11 → ⊥) → (o ≡ 12 → ⊥) → (o ≡ 13 → ⊥) → (o ≡ 14 → ⊥) → (o ≡ 15 → ⊥)
+  pub binary-else : (o ≡ 10 → ⊥) → (o ≡ 11 → ⊥) → (o ≡ 12 → ⊥) → (o ≡ 13 → ⊥) → (o ≡ 14 → ⊥) → (o ≡ 15 → ⊥) → (o ≡ 17 → ⊥) → (o ≡ 18 → ⊥)
       → (v w : Value) → evaluate-binary (function Divide) v w ≡ evaluate-binary p v w
-  binary-else g h i j k l v w =
-      ap (λ (q : Binary). evaluate-binary q v w) (simp (ne-eqb o 10 g, ne-eqb o 11 h, ne-eqb o 12 i, ne-eqb o 13 j, ne-eqb o 14 k, ne-eqb o 15 l) at is-binary)
+  binary-else g h i j k l m n v w =
+      ap (λ (q : Binary). evaluate-binary q v w) (simp (ne-eqb o 10 g, ne-eqb o 11 h, ne-eqb o 12 i, ne-eqb o 13 j, ne-eqb o 14 k, ne-eqb o 15 l, ne-eqb o 17 m, ne-eqb o 18 n) at is-binary)

@@ -76,6 +76,7 @@ pub fn evaluate_unary(o: u32, v: Value) -> Result
         tags::IS_NULL => value::is_null(v),
         tags::IS_NAN => value::is_nan(v),
         tags::IDENTITY => arithmetic::identity(v),
+        tags::SQUARE_ROOT => arithmetic::square_root(v),
         _ => arithmetic::negate(v),
     }
 }
@@ -92,6 +93,8 @@ pub fn evaluate_binary(text: &[u8], o: u32, v: Value, w: Value) -> Result
         tags::GREATER_THAN => comparison::greater_than(text, v, w),
         tags::LESS_THAN => comparison::less_than(text, v, w),
         tags::ADD => arithmetic::checked_add(v, w),
+        tags::SUBTRACT => arithmetic::checked_sub(v, w),
+        tags::MULTIPLY => arithmetic::checked_mul(v, w),
         _ => arithmetic::checked_div(v, w),
     }
 }

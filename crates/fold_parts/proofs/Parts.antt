@@ -4,7 +4,7 @@ use native.Mathlib.Omega.{arith}
 use mathlib.Core.Path.{_≡_, refl, sym, ap, _∙_, subst}
 use mathlib.Core.List.{List, [], _∷_, _++_, map, append-nil}
 use lib.ListN.{length, take, length-append}
-use Rattle.sql.specs.Expression.{origin, IsNull, IsNaN, Identity, Negate, Unary, Not, function, Expression, constant, column, unary, binary, size}
+use Rattle.sql.specs.Expression.{origin, IsNull, IsNaN, Identity, Negate, SquareRoot, Unary, Not, function, Expression, constant, column, unary, binary, size}
 use Rattle.sql.specs.Plan.{sum, row-size}
 use Rattle.sql.specs.Answer.{Answer, done, refused, _>>=_}
 use Rattle.sql.specs.Optimizer.{fold-expression, fold-each}
@@ -169,6 +169,7 @@ root-tag (unary og (function IsNull) x) = omega arith
 root-tag (unary og (function IsNaN) x) = omega arith
 root-tag (unary og (function Identity) x) = omega arith
 root-tag (unary og (function Negate) x) = omega arith
+root-tag (unary og (function SquareRoot) x) = omega arith
 root-tag (binary og o l r) = omega (arith, binary-range o .1)
 
 module _ {text s : List ℕ} {lo hi : ℕ} where

@@ -9,4 +9,8 @@ pub mod Operations
 pub mod Comparisons
 pub mod Negation
 pub mod Agreement
+pub mod Root
+pub mod RootDigits
+pub mod WholeRoot
+pub mod SquareRoot
 pub mod Examples

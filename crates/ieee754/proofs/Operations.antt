@@ -3,7 +3,7 @@ use mathlib.Core.Path.{_≡_, refl, sym, ap, _∙_, subst}
 use mathlib.Core.Logic.{inl, inr}
 use mathlib.Core.Bool.{Bool, true, false, not, _||_, Bool·beq, cond}
 use Prim.Native.Nat.{ℕ, zero, suc, _+_, _-_, _*_, _≤_, _<_}
-use native.Mathlib.Nat.{le-refl, le-trans, le-of-eq, le-of-lt, lt-of-le-of-lt, lt-of-lt-of-le, mul-pos, mul-one, zero-mul, zero-lt-suc, lt-irrefl, mul-comm, mul-assoc, mul-right-comm, add-mul, mul-sub, mul-le-mul-right, mul-lt-mul-of-pos-right, le-of-mul-le-mul-right, lt-of-mul-lt-mul-right, eq-or-lt-of-le}
+use native.Mathlib.Nat.{le-refl, le-trans, le-of-eq, le-of-lt, lt-of-le-of-lt, lt-of-lt-of-le, mul-pos, mul-one, zero-mul, zero-lt-suc, lt-irrefl, mul-comm, mul-assoc, mul-right-comm, mul-mul-mul-comm, add-mul, mul-sub, mul-le-mul-right, mul-lt-mul-of-pos-right, le-of-mul-le-mul-right, lt-of-mul-lt-mul-right, eq-or-lt-of-le}
 use native.Mathlib.Omega.{arith}
 use lib.Dec.{ltb, eqb}
 use lib.IntN.{ℤ, pos, negsuc, negℤ, natAbs, _+ℤ_, +ℤ-comm, negℤ-+ℤ}
@@ -13,7 +13,7 @@ use borrow.Author.Tests.{lt-ltb, le-ltb, eq-eqb, ne-eqb}
 use lib.Ieee as Ieee
 use lib.Ieee.{Float, binary64, up, down, round, toBits}
 use lib.Ieee.Fits.{up-pos, down-pos}
-use Rattle.ieee754.specs.Ieee754.{quiet-nan, one, with-sign, Rounded, Is, no-number, infinite-with, Double, value, unlike, sum-of, sum, quotient-of, quotient}
+use Rattle.ieee754.specs.Ieee754.{quiet-nan, one, with-sign, Rounded, Is, no-number, infinite-with, Double, value, unlike, sum-of, sum, opposite, difference, infinite-times, product, quotient-of, quotient}
 use Rattle.ieee754.proofs.Units.{lt-or-le}
 use Rattle.ieee754.proofs.Nearest.{sub-mul, nearest-same}
 use Rattle.ieee754.proofs.Reading.{Stands, a-nan, an-infinity, a-number}
@@ -145,6 +145,18 @@ sum-law (a-number p) (an-infinity t) = toBits-infinite t
 sum-law (a-number {s = s} {m = m} {e = i} {u = u} p) (a-number {s = t} {m = n} {e = j} {u = v} q) =
     sum-finite s t (m * up i * down j) (n * up j * down i) (down i * down j) u v (both-pos m i n j u v p q) (left-is m i n j u v p q) (right-is m i n j u v p q)
 
+-- ---- the difference
+
+opposite-stands : {y : Float} {e : Double} → Stands y e → Stands (Ieee.neg y) (opposite e)
+unfolding Ieee.neg
+opposite-stands a-nan = a-nan
+opposite-stands (an-infinity s) = an-infinity (not s)
+opposite-stands (a-number p) = a-number p
+
+pub difference-law : {x y : Float} {d e : Double} → Stands x d → Stands y e → Is (difference d e) (toBits binary64 (Ieee.sub binary64 x y))
+unfolding Ieee.sub
+difference-law h k = sum-law h (opposite-stands k)
+
 -- ---- the quotient
 
 -- a float of no units has the significand 0, and only such a float
@@ -197,3 +209,26 @@ quotient-law (an-infinity s) (a-number {s = t} q) = toBits-infinite (unlike s t)
 quotient-law (a-number p) a-nan = toBits-nan
 quotient-law (a-number {s = s} p) (an-infinity t) = toBits-zero (unlike s t)
 quotient-law (a-number {s = s} {m = m} {e = i} {u = u} p) (a-number {s = t} {m = n} {e = j} {u = v} q) = quotient-finite (unlike s t) m i n j u v p q
+
+-- ---- the product
+
+infinite-finite : (s : Bool) (m : ℕ) (e : ℤ) (u : ℕ) → m * up e * one ≡ u * down e → Is (infinite-times s u) (toBits binary64 (cond (eqb m 0) Ieee.nan (Ieee.inf s)))
+infinite-finite s m e zero p = ap (λ (b : Bool). toBits binary64 (cond b Ieee.nan (Ieee.inf s))) (eq-eqb m 0 (zero-of m e 0 p refl)) ∙ toBits-nan
+infinite-finite s m e (suc u) p =
+    ap (λ (b : Bool). toBits binary64 (cond b Ieee.nan (Ieee.inf s))) (ne-eqb m 0 (nonzero-of m e (suc u) p (zero-lt-suc u))) ∙ toBits-infinite s
+
+product-finite : (s : Bool) (a b c d u v : ℕ) → 0 < c → 0 < d → a * one ≡ u * c → b * one ≡ v * d → Rounded s (u * v) one (toBits binary64 (round binary64 s (a * b) (c * d)))
+product-finite s a b c d u v C D p q =
+    round-at s (a * b) (c * d) (u * v) one (mul-pos C D) (pow-pos 1074)
+    (mul-assoc (a * b) one one ∙ mul-mul-mul-comm a b one one ∙ ap (λ (x : ℕ). x * (b * one)) p ∙ ap (λ (x : ℕ). u * c * x) q ∙ mul-mul-mul-comm u c v d)
+
+pub product-law : {x y : Float} {d e : Double} → Stands x d → Stands y e → Is (product d e) (toBits binary64 (Ieee.mul binary64 x y))
+unfolding Ieee.mul
+product-law a-nan k = toBits-nan
+product-law (an-infinity s) a-nan = toBits-nan
+product-law (an-infinity s) (an-infinity t) = toBits-infinite (unlike s t)
+product-law (an-infinity s) (a-number {s = t} {m = n} {e = j} {u = v} q) = infinite-finite (unlike s t) n j v q
+product-law (a-number p) a-nan = toBits-nan
+product-law (a-number {s = s} {m = m} {e = i} {u = u} p) (an-infinity t) = infinite-finite (unlike s t) m i u p
+product-law (a-number {s = s} {m = m} {e = i} {u = u} p) (a-number {s = t} {m = n} {e = j} {u = v} q) =
+    product-finite (unlike s t) (m * up i) (n * up j) (down i) (down j) u v (down-pos i) (down-pos j) p q

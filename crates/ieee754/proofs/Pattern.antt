@@ -47,19 +47,19 @@ module _ {n z : ℕ} (lead : Leading n z) where
     abbrev moved : ℕ
     moved = n * 2 ^ (z - 11)
 
-    moved-lt : moved < 2 ^ 53
+    pub moved-lt : moved < 2 ^ 53
     moved-lt = subst (λ (x : ℕ). moved < 2 ^ x) (up z (lead .place) (lead .places) h) (shl-lt (suc (lead .place)) (z - 11) (lead .high))
       where
         up : (z j : ℕ) → z + suc j ≡ 64 → 11 ≤ z → suc j + (z - 11) ≡ 53
         up z j p h = omega arith
 
-    moved-ge : 2 ^ 52 ≤ moved
+    pub moved-ge : 2 ^ 52 ≤ moved
     moved-ge = subst (λ (x : ℕ). x ≤ moved) (sym (pow-add 2 (lead .place) (z - 11)) ∙ ap (λ (x : ℕ). 2 ^ x) (up z (lead .place) (lead .places) h)) (mul-le-mul-right (2 ^ (z - 11)) (lead .low))
       where
         up : (z j : ℕ) → z + suc j ≡ 64 → 11 ≤ z → j + (z - 11) ≡ 52
         up z j p h = omega arith
 
-    none-lost : moved % 2 ^ 64 ≡ moved
+    pub none-lost : moved % 2 ^ 64 ≡ moved
     none-lost = mod-eq-of-lt (lt-of-lt-of-le moved-lt (le-of-lt (pow-lt {i = 53} {j = 64} (omega arith))))
 
     pub exact-lt : moved % 2 ^ 64 < 2 ^ 53

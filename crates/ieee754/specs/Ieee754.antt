@@ -1,11 +1,12 @@
 -- IEEE 754's binary64 by whole numbers. Definitions only.
 -- A double is its 64-bit pattern: from the top, 1 bit for the sign, 11 for the exponent's field and 52 for the digits below the leading one.
 -- Numbers are counted in units of 2 ^ -1074, the smallest positive double. So every finite double is a whole number of units, and no fraction but n / d occurs.
--- Results are rounded to the nearest double, ties to even (the standard's roundTiesToEven). `Nearest` alone says what that means.
+-- Results are rounded to the nearest double, ties to even (the standard's roundTiesToEven). What that means is said by `Nearest`, of fractions, and by
+-- `Nearest-root`, of square roots, and nowhere else.
 use mathlib.Core.Path.{_≡_}
 use mathlib.Core.Logic.{_≢_}
 use mathlib.Core.Bool.{Bool, true, false, not, _&&_, _||_, Bool·beq, cond}
-use Prim.Native.Nat.{ℕ, zero, suc, _+_, _-_, _*_, _/_, _%_, _^_, _≤_}
+use Prim.Native.Nat.{ℕ, zero, suc, _+_, _-_, _*_, _/_, _%_, _^_, _≤_, _<_}
 use lib.IntN.{ℤ, pos, negsuc, negℤ, natAbs, _+ℤ_}
 use lib.Signed.{ltZ, nonNeg}
 use lib.Dec.{ltb, leb, eqb}
@@ -41,6 +42,33 @@ pub record Nearest (n d p : ℕ) : Type 0 where
   pub nearest : (q : ℕ) → q ≤ infinity → distance n (units p * d) ≤ distance n (units q * d)
   pub ties : (q : ℕ) → q ≤ infinity → q ≢ p → distance n (units q * d) ≡ distance n (units p * d) → p % 2 ≡ 0
 
+abbrev pub square : ℕ → ℕ
+square a = a * a
+
+-- The pattern p is the double nearest to the square root of n, in units; of two that are as near it is the one whose last digit is even.
+-- A root's digits need not end, so not the root is compared but squares of whole numbers: the middle of two doubles of u and v units is (u + v) / 2, and the
+-- root of n is at least that where (u + v) ^ 2 is at most 4 n.
+pub record Nearest-root (n p : ℕ) : Type 0 where
+  pub in-range : p ≤ infinity
+  -- the root isn't below the middle of p and a smaller double
+  pub low : (q : ℕ) → q < p → square (units q + units p) ≤ 4 * n
+  -- nor above that of p and a larger one
+  pub high : (q : ℕ) → p < q → q ≤ infinity → 4 * n ≤ square (units p + units q)
+  pub ties : (q : ℕ) → q ≤ infinity → q ≢ p → square (units p + units q) ≡ 4 * n → p % 2 ≡ 0
+
+-- The same worked out, from p's highest bit down: p is the largest pattern for which the middle of p and the pattern before it is at most the root.
+-- The root of a double is never in such a middle itself (proofs/Agreement.antt: `never-a-tie`), so ties are no matter here.
+abbrev pub reached : ℕ → ℕ → Bool
+reached n p = leb (square (units (p - 1) + units p)) (4 * n)
+
+-- the pattern of n's root, of which the highest bits are found, p, and the lowest i are left
+unfoldable pub root-bits : ℕ → ℕ → ℕ → ℕ
+root-bits n zero p = p
+root-bits n (suc i) p = root-bits n i (cond (reached n (p + 2 ^ i)) (p + 2 ^ i) p)
+
+abbrev pub nearest-root : ℕ → ℕ
+nearest-root n = root-bits n 63 0
+
 -- ---- doubles
 
 -- a sign, true for negative, and the pattern below it
@@ -67,10 +95,11 @@ read b =
 
 -- ---- what an operation has to give
 
--- The double with the pattern r; or the one with the sign s that is nearest to n / d units, for a d above 0.
+-- The double with the pattern r; or the one with the sign s that is nearest to n / d units, for a d above 0; or the one that is nearest to the root of n, in units.
 pub data Result : Type 0 where
   exactly : (r : ℕ) → Result
   rounded : (s : Bool) (n d : ℕ) → Result
+  root-of : (n : ℕ) → Result
 
 -- r is the double with the sign s that is nearest to n / d units
 pub record Rounded (s : Bool) (n d r : ℕ) : Type 0 where
@@ -82,6 +111,7 @@ pub record Rounded (s : Bool) (n d r : ℕ) : Type 0 where
 abbrev pub Is : Result → ℕ → Type 0
 Is (exactly p) r = r ≡ p
 Is (rounded s n d) r = Rounded s n d r
+Is (root-of n) r = Nearest-root n r
 
 -- The one NaN that is written: the sign is clear, and of the digits only the highest is set. In hexadecimal it is 7FF8000000000000.
 abbrev pub quiet-nan : ℕ
@@ -100,7 +130,7 @@ abbrev pub value : Bool → ℕ → ℤ
 value false u = pos u
 value true u = negℤ (pos u)
 
--- the sign of a quotient: negative if the two signs differ
+-- the sign of a product or a quotient: negative if the two signs differ
 abbrev pub unlike : Bool → Bool → Bool
 unlike s t = not (Bool·beq s t)
 
@@ -117,6 +147,31 @@ sum (finite s u) nan = no-number
 sum (finite s u) (infinite t) = infinite-with t
 sum (finite s u) (finite t v) = sum-of s t (value s u +ℤ value t v)
 
+-- the other sign, of a zero too
+abbrev pub opposite : Double → Double
+opposite nan = nan
+opposite (infinite s) = infinite (not s)
+opposite (finite s u) = finite (not s) u
+
+-- x - y is x + (-y)
+abbrev pub difference : Double → Double → Result
+difference x y = sum x (opposite y)
+
+-- an infinity times u units: a NaN for zero
+abbrev pub infinite-times : Bool → ℕ → Result
+infinite-times s zero = no-number
+infinite-times s (suc u) = infinite-with s
+
+-- u units times v units is u * v / 2 ^ 1074 units
+abbrev pub product : Double → Double → Result
+product nan y = no-number
+product (infinite s) nan = no-number
+product (infinite s) (infinite t) = infinite-with (unlike s t)
+product (infinite s) (finite t v) = infinite-times (unlike s t) v
+product (finite s u) nan = no-number
+product (finite s u) (infinite t) = infinite-times (unlike s t) u
+product (finite s u) (finite t v) = rounded (unlike s t) (u * v) one
+
 -- u units over v units is the number u / v, which is u * 2 ^ 1074 / v units. Zero over zero is a NaN, any other number over zero an infinity.
 abbrev pub quotient-of : Bool → ℕ → ℕ → Result
 quotient-of s zero zero = no-number
@@ -131,6 +186,24 @@ quotient (infinite s) (finite t v) = infinite-with (unlike s t)
 quotient (finite s u) nan = no-number
 quotient (finite s u) (infinite t) = exactly (with-sign (unlike s t) 0)
 quotient (finite s u) (finite t v) = quotient-of (unlike s t) u v
+
+-- The root of u units is that of u * 2 ^ 1074, in units. A zero keeps its sign, and any other number below zero has no root.
+-- `answer` is what is made of one pattern, and `root` of the root of n, in units.
+abbrev pub square-root-by : {A : Type 0} → (answer root : ℕ → A) → Double → A
+square-root-by answer root nan = answer quiet-nan
+square-root-by answer root (infinite false) = answer infinity
+square-root-by answer root (infinite true) = answer quiet-nan
+square-root-by answer root (finite s zero) = answer (with-sign s 0)
+square-root-by answer root (finite false (suc u)) = root (suc u * one)
+square-root-by answer root (finite true (suc u)) = answer quiet-nan
+
+-- what is asked for
+abbrev pub square-root : Double → Result
+square-root = square-root-by exactly root-of
+
+-- the same worked out, from pattern to pattern
+abbrev pub square-root-bits : ℕ → ℕ
+square-root-bits b = square-root-by (λ p. p) nearest-root (read b)
 
 -- The other sign, of a zero too. It rounds nothing, so it goes from pattern to pattern. A NaN gives the one pattern, as document 01 asks; IEEE 754 would turn its
 -- sign's bit alone.

@@ -395,13 +395,13 @@ fn row_to_9(tag: u32) -> usize
     }
 }
 
-// Operators of two operands: 10 And to 16 Divide, and those from 17 Subtract to 21 Like. Of one operand: 30 Not to 34 Negate, 35 Factorial and
+// Operators of two operands: 10 And to 18 Multiply, and those from 19 Exponentiate to 21 Like. Of one operand: 30 Not to 34 Negate, 35 Factorial and
 // 36 SquareRoot.
 fn row_to_39(tag: u32) -> usize
     requires { ⌜ (10 ≤ tag) × (tag < 40) ⌝ }
     ensures { λ r. ⌜ tag-from r ≡ tag-of tag ⌝ }
 {
-    if tag < tags::SUBTRACT {
+    if tag < tags::EXPONENTIATE {
         return 0x0001;
     }
     if tag < tags::BINARY_END {
@@ -413,8 +413,11 @@ fn row_to_39(tag: u32) -> usize
     if tag < tags::FACTORIAL {
         return 0x0001;
     }
-    if tag < tags::UNARY_END {
+    if tag == tags::FACTORIAL {
         return NOT_CARRIED;
+    }
+    if tag == tags::SQUARE_ROOT {
+        return 0x0001;
     }
     UNKNOWN
 }

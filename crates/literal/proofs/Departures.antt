@@ -10,7 +10,7 @@ use lib.IntN.{ℤ, pos, negℤ}
 use lib.Signed.{quotZ}
 use Rattle.value.specs.Value.{Value, division-by-zero}
 use Rattle.sql.specs.Schema.{Schema, no-column, table-of}
-use Rattle.sql.specs.Expression.{Marked, And, Or, IsNull, IsNaN, Identity, Negate, GreaterThan, LessThan, Add, Divide, Not, logical, Equal, function, Expression, constant, column, unary, binary, origin, size, Row}
+use Rattle.sql.specs.Expression.{Marked, And, Or, IsNull, IsNaN, Identity, Negate, SquareRoot, GreaterThan, LessThan, Add, Divide, Subtract, Multiply, Not, logical, Equal, function, Expression, constant, column, unary, binary, origin, size, Row}
 use Rattle.sql.specs.Plan.{Label, unlabelled, scan, lookup, nothing, values, limit, offset, order, projection, remap, aggregate, filter, other, Join, nested-loop, hash, Node, leaf, over, join, node-origin, up-to, node-size}
 use Rattle.sql.specs.Plan as Defined-plan
 use Rattle.sql.specs.Optimizer as Optimizer
@@ -84,6 +84,7 @@ module _ (row : Option Row) where
   or-evaluate (unary og (function IsNull) x) = or-one x _ _ (or-evaluate x) (λ v. always)
   or-evaluate (unary og (function IsNaN) x) = or-one x _ _ (or-evaluate x) (λ v. always)
   or-evaluate (unary og (function Identity) x) = or-one x _ _ (or-evaluate x) (λ v. always)
+  or-evaluate (unary og (function SquareRoot) x) = or-one x _ _ (or-evaluate x) (λ v. always)
   or-evaluate (unary og (function Negate) x) = or-one x _ _ (or-evaluate x) or-negate
   or-evaluate (binary og (logical And) l r) = or-two l r _ _ (or-evaluate l) (or-evaluate r) (λ v w. always)
   or-evaluate (binary og (logical Or) l r) = or-two l r _ _ (or-evaluate l) (or-evaluate r) (λ v w. always)
@@ -91,6 +92,8 @@ module _ (row : Option Row) where
   or-evaluate (binary og (function GreaterThan) l r) = or-two l r _ _ (or-evaluate l) (or-evaluate r) (λ v w. always)
   or-evaluate (binary og (function LessThan) l r) = or-two l r _ _ (or-evaluate l) (or-evaluate r) (λ v w. always)
   or-evaluate (binary og (function Add) l r) = or-two l r _ _ (or-evaluate l) (or-evaluate r) (λ v w. always)
+  or-evaluate (binary og (function Subtract) l r) = or-two l r _ _ (or-evaluate l) (or-evaluate r) (λ v w. always)
+  or-evaluate (binary og (function Multiply) l r) = or-two l r _ _ (or-evaluate l) (or-evaluate r) (λ v w. always)
   or-evaluate (binary og (function Divide) l r) = or-two l r _ _ (or-evaluate l) (or-evaluate r) or-div
 
 -- ---- ConstantFolding

@@ -10,13 +10,13 @@ use lib.IntN.{ℤ, pos, negsuc, negℤ, _+ℤ_}
 use lib.ListN.{length, getD}
 use borrow.Author.Tests.{eq-eqb, eqb-true, ltb-true}
 use Rattle.value.specs.Value.{Value, null, Result, ok, err}
-use Rattle.sql.specs.Expression.{Marked, And, Or, IsNull, IsNaN, Identity, Negate, GreaterThan, LessThan, Add, Divide, Unary, Not, Binary, logical, Equal, function, Expression, constant, column, unary, binary, and, or, size, Row, bind, evaluate-unary, evaluate-binary, contains-column, map-columns, or-both, single, distribute, conjuncts, ands, and-all, same-column, is-equal-lookup}
+use Rattle.sql.specs.Expression.{Marked, And, Or, IsNull, IsNaN, Identity, Negate, SquareRoot, GreaterThan, LessThan, Add, Divide, Subtract, Multiply, Unary, Not, Binary, logical, Equal, function, Expression, constant, column, unary, binary, and, or, size, Row, bind, evaluate-unary, evaluate-binary, contains-column, map-columns, or-both, single, distribute, conjuncts, ands, and-all, same-column, is-equal-lookup}
 use Rattle.sql.specs.Expression as Defined
 use Rattle.literal.specs.Rust.{Run, Ok, Panic, _>>=_, unwrap, expect, assert-eq, _⇒_, _&_, _if_, _else_, matches, and-then, push, get, put-first, pop, for-each}
-use Rattle.literal.specs.Value.{document-01, Boolean, eq, is-undefined, checked-add, checked-div}
-use Rattle.literal.specs.Expression.{Column?, And?, evaluate-and, evaluate-or, evaluate-not, evaluate-equal, evaluate-greater-than, evaluate-less-than, evaluate-is-nan, evaluate-identity, evaluate-negate, evaluate, and-on, walk, contains, transform-operands, transform, nnf-xform, into-nnf, cnf-xform, into-cnf, cnf-loop, into-cnf-vec, and-vec, is-column-lookup, into-column-values, replace-xform, replace-column, as-usize, shift-xform, shift-column}
+use Rattle.literal.specs.Value.{document-01, Boolean, eq, is-undefined, checked-add, checked-sub, checked-mul, checked-div}
+use Rattle.literal.specs.Expression.{Column?, And?, evaluate-and, evaluate-or, evaluate-not, evaluate-equal, evaluate-greater-than, evaluate-less-than, evaluate-is-nan, evaluate-identity, evaluate-negate, evaluate-square-root, evaluate, and-on, walk, contains, transform-operands, transform, nnf-xform, into-nnf, cnf-xform, into-cnf, cnf-loop, into-cnf-vec, and-vec, is-column-lookup, into-column-values, replace-xform, replace-column, as-usize, shift-xform, shift-column}
 use Rattle.literal.specs.Law.{told}
-use Rattle.literal.proofs.Value.{and-same, or-same, not-same, null-same, nan-same, identity-same, negate-same, equal-same, greater-same, less-same, add-same, div-same, undefined-same}
+use Rattle.literal.proofs.Value.{and-same, or-same, not-same, null-same, nan-same, identity-same, negate-same, root-same, equal-same, greater-same, less-same, add-same, sub-same, mul-same, div-same, undefined-same}
 
 or-left : (a b : Bool) → (a || b) ≡ false → a ≡ false
 or-left true b h = h
@@ -50,6 +50,7 @@ module _ (given : Option Row) (row : Row) (outside : ℕ → Bool) (has : (c : �
   evaluate-row (unary og (function IsNaN) x) h = one (evaluate document-01 given x) (Defined.evaluate row x) evaluate-is-nan (evaluate-unary (function IsNaN)) (evaluate-row x h) nan-same
   evaluate-row (unary og (function Identity) x) h = one (evaluate document-01 given x) (Defined.evaluate row x) evaluate-identity (evaluate-unary (function Identity)) (evaluate-row x h) identity-same
   evaluate-row (unary og (function Negate) x) h = one (evaluate document-01 given x) (Defined.evaluate row x) (evaluate-negate document-01) (evaluate-unary (function Negate)) (evaluate-row x h) negate-same
+  evaluate-row (unary og (function SquareRoot) x) h = one (evaluate document-01 given x) (Defined.evaluate row x) evaluate-square-root (evaluate-unary (function SquareRoot)) (evaluate-row x h) root-same
   evaluate-row (binary og (logical And) l r) h =
       let p = or-left (contains-column outside l) (contains-column outside r) h in let q = or-behind (contains-column outside l) (contains-column outside r) h in
       two (evaluate document-01 given l) (evaluate document-01 given r) (Defined.evaluate row l) (Defined.evaluate row r) evaluate-and (evaluate-binary (logical And)) (evaluate-row l p) (evaluate-row r q) and-same
@@ -68,6 +69,12 @@ module _ (given : Option Row) (row : Row) (outside : ℕ → Bool) (has : (c : �
   evaluate-row (binary og (function Add) l r) h =
       let p = or-left (contains-column outside l) (contains-column outside r) h in let q = or-behind (contains-column outside l) (contains-column outside r) h in
       two (evaluate document-01 given l) (evaluate document-01 given r) (Defined.evaluate row l) (Defined.evaluate row r) checked-add (evaluate-binary (function Add)) (evaluate-row l p) (evaluate-row r q) add-same
+  evaluate-row (binary og (function Subtract) l r) h =
+      let p = or-left (contains-column outside l) (contains-column outside r) h in let q = or-behind (contains-column outside l) (contains-column outside r) h in
+      two (evaluate document-01 given l) (evaluate document-01 given r) (Defined.evaluate row l) (Defined.evaluate row r) checked-sub (evaluate-binary (function Subtract)) (evaluate-row l p) (evaluate-row r q) sub-same
+  evaluate-row (binary og (function Multiply) l r) h =
+      let p = or-left (contains-column outside l) (contains-column outside r) h in let q = or-behind (contains-column outside l) (contains-column outside r) h in
+      two (evaluate document-01 given l) (evaluate document-01 given r) (Defined.evaluate row l) (Defined.evaluate row r) checked-mul (evaluate-binary (function Multiply)) (evaluate-row l p) (evaluate-row r q) mul-same
   evaluate-row (binary og (function Divide) l r) h =
       let p = or-left (contains-column outside l) (contains-column outside r) h in let q = or-behind (contains-column outside l) (contains-column outside r) h in
       two (evaluate document-01 given l) (evaluate document-01 given r) (Defined.evaluate row l) (Defined.evaluate row r) (checked-div document-01) (evaluate-binary (function Divide)) (evaluate-row l p) (evaluate-row r q) div-same
@@ -403,6 +410,7 @@ lookup-same (unary og (function IsNull) x) = column-same x
 lookup-same (unary og (function IsNaN) x) = column-same x
 lookup-same (unary og (function Identity) x) = refl
 lookup-same (unary og (function Negate) x) = refl
+lookup-same (unary og (function SquareRoot) x) = refl
 lookup-same (binary og (logical And) l r) = refl
 lookup-same (binary og (logical Or) l r) =
     ap₂ (λ (a b : Option ℕ). (a & b) if (λ (l, r). eqb l r) ⇒ λ (l, r). l) (lookup-same l) (lookup-same r)
@@ -458,6 +466,7 @@ values-same (unary og (function IsNull) x) c h = is-values-same x c (Defined.int
 values-same (unary og (function IsNaN) x) c h = is-values-same x c (Defined.into-column-values (unary og (function IsNaN) x)) h
 values-same (unary og (function Identity) x) c h = no-number h
 values-same (unary og (function Negate) x) c h = no-number h
+values-same (unary og (function SquareRoot) x) c h = no-number h
 values-same (binary og (logical And) l r) c h = no-number h
 values-same (binary og (logical Or) l r) c h =
     let b = same-column-both (Defined.is-column-lookup l) (Defined.is-column-lookup r) c h in

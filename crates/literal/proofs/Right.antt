@@ -7,7 +7,7 @@ use mathlib.Core.Option.{Option, none, some}
 use native.Mathlib.Omega.{arith}
 use lib.Dec.{eqb, ltb}
 use borrow.Author.Tests.{ltb-true, ltb-false, le-ltb, eq-eqb, eqb-true}
-use Rattle.sql.specs.Expression.{And, Or, IsNull, IsNaN, Identity, Negate, Not, logical, Equal, function, Expression, constant, column, unary, binary, and, contains-column, map-columns, and-all, and-vec, is-column, is-column-lookup}
+use Rattle.sql.specs.Expression.{And, Or, IsNull, IsNaN, Identity, Negate, SquareRoot, Not, logical, Equal, function, Expression, constant, column, unary, binary, and, contains-column, map-columns, and-all, and-vec, is-column, is-column-lookup}
 use Rattle.sql.specs.Optimizer.{ref-left, ref-right, cons-if, for-left, for-right, for-both, equijoin, is-number, is-lookup-of, or-else, last-lookup, copied, copy-up, flat-map, push-right}
 use Rattle.literal.proofs.Expression.{no-number, same-column-both}
 
@@ -36,6 +36,7 @@ module _ (test : ℕ → Bool) (f : ℕ → ℕ) (c : ℕ) where
   lookup-has (unary og (function IsNaN) x) h = column-has x h
   lookup-has (unary og (function Identity) x) h = no-number h
   lookup-has (unary og (function Negate) x) h = no-number h
+  lookup-has (unary og (function SquareRoot) x) h = no-number h
   lookup-has (binary og (logical And) l r) h = no-number h
   lookup-has (binary og (logical Or) l r) h =
       let b = same-column-both (is-column-lookup l) (is-column-lookup r) c h in ap₂ _||_ (lookup-has l (b .0)) (lookup-has r (b .1)) ∙ or-same (test (f c))

@@ -6,7 +6,7 @@ use mathlib.Core.List.{List, [], _∷_}
 use mathlib.Core.Option.{none, some}
 use native.Mathlib.Omega.{arith}
 use lib.Dec.{ltb, eqb, eqb·zero-suc}
-use lib.IntN.{ℤ, pos, negsuc, negℤ, _+ℤ_}
+use lib.IntN.{ℤ, pos, negsuc, negℤ, _+ℤ_, _-ℤ_, _*ℤ_}
 use lib.Signed.{mag, ltZ, quotZ}
 use lib.Ieee as Ieee
 use borrow.Author.Tests.{ltb-true, ltb-false, eq-eqb, ne-eqb}
@@ -14,14 +14,14 @@ use Rattle.value.specs.Value.{False, Unknown, True, integer, float, string, Val
 use Rattle.value.specs.Logic.{logical-and, logical-or, logical-not}
 use Rattle.value.specs.Comparison.{Finding, Found, Less, Equal, Greater, Unordered, NotComparable, order, then, rounded, number-of, compare-integers, compare-floats, compare-bytes, is-less, is-equal, is-greater, answer, equal, greater-than, less-than}
 use Rattle.value.specs.ComparisonLaws.{turned}
-use Rattle.value.specs.Arithmetic.{checked, add-integers, divide-integers, identity, negate}
+use Rattle.value.specs.Arithmetic.{checked, add-integers, subtract-integers, multiply-integers, divide-integers, identity, negate, square-root}
 use Rattle.value.specs.Arithmetic as Defined
 use Rattle.value.specs.Undefined.{is-null, is-nan}
 use Rattle.value.specs.Undefined as Undefined
 use Rattle.value.proofs.Comparison.{equal-floats, less-floats, greater-floats, less-integers, greater-integers, swapped-bytes}
 use Rattle.literal.specs.Rust.{Ok, Err, _⇒_, _else_}
-use Rattle.literal.specs.Value.{document-01, in-i64, i64-eq, bytes-eq, bytes-lt, Boolean, Integer, eq, is-undefined, checked-add, checked-div}
-use Rattle.literal.specs.Expression.{evaluate-and, evaluate-or, evaluate-not, evaluate-equal, evaluate-greater-than, evaluate-less-than, evaluate-is-nan, evaluate-identity, evaluate-negate}
+use Rattle.literal.specs.Value.{document-01, in-i64, i64-eq, bytes-eq, bytes-lt, Boolean, Integer, eq, is-undefined, checked-add, checked-sub, checked-mul, checked-div}
+use Rattle.literal.specs.Expression.{evaluate-and, evaluate-or, evaluate-not, evaluate-equal, evaluate-greater-than, evaluate-less-than, evaluate-is-nan, evaluate-identity, evaluate-negate, evaluate-square-root}
 use Rattle.literal.specs.Law.{told}
 
 -- a proof for each kind of value
@@ -61,6 +61,28 @@ add-same =
     (λ i. each-value (λ w. checked-add (datum (integer i)) w ≡ told (Defined.checked-add (datum (integer i)) w)) refl refl refl (λ j. checked-same (i +ℤ j)) (λ q. refl) (λ s u. refl))
     (λ p. each-value (λ w. checked-add (datum (float p)) w ≡ told (Defined.checked-add (datum (float p)) w)) refl refl refl (λ j. refl) (λ q. refl) (λ s u. refl))
     (λ r t. each-value (λ w. checked-add (datum (string r t)) w ≡ told (Defined.checked-add (datum (string r t)) w)) refl refl refl (λ j. refl) (λ q. refl) (λ s u. refl))
+
+pub sub-same : (v w : Value) → checked-sub v w ≡ told (Defined.checked-sub v w)
+unfolding subtract-integers
+sub-same =
+    each-value (λ v. (w : Value) → checked-sub v w ≡ told (Defined.checked-sub v w))
+    (each-value (λ w. checked-sub (truth False) w ≡ told (Defined.checked-sub (truth False) w)) refl refl refl (λ j. refl) (λ q. refl) (λ s u. refl))
+    (each-value (λ w. checked-sub (null) w ≡ told (Defined.checked-sub (null) w)) refl refl refl (λ j. refl) (λ q. refl) (λ s u. refl))
+    (each-value (λ w. checked-sub (truth True) w ≡ told (Defined.checked-sub (truth True) w)) refl refl refl (λ j. refl) (λ q. refl) (λ s u. refl))
+    (λ i. each-value (λ w. checked-sub (datum (integer i)) w ≡ told (Defined.checked-sub (datum (integer i)) w)) refl refl refl (λ j. checked-same (i -ℤ j)) (λ q. refl) (λ s u. refl))
+    (λ p. each-value (λ w. checked-sub (datum (float p)) w ≡ told (Defined.checked-sub (datum (float p)) w)) refl refl refl (λ j. refl) (λ q. refl) (λ s u. refl))
+    (λ r t. each-value (λ w. checked-sub (datum (string r t)) w ≡ told (Defined.checked-sub (datum (string r t)) w)) refl refl refl (λ j. refl) (λ q. refl) (λ s u. refl))
+
+pub mul-same : (v w : Value) → checked-mul v w ≡ told (Defined.checked-mul v w)
+unfolding multiply-integers
+mul-same =
+    each-value (λ v. (w : Value) → checked-mul v w ≡ told (Defined.checked-mul v w))
+    (each-value (λ w. checked-mul (truth False) w ≡ told (Defined.checked-mul (truth False) w)) refl refl refl (λ j. refl) (λ q. refl) (λ s u. refl))
+    (each-value (λ w. checked-mul (null) w ≡ told (Defined.checked-mul (null) w)) refl refl refl (λ j. refl) (λ q. refl) (λ s u. refl))
+    (each-value (λ w. checked-mul (truth True) w ≡ told (Defined.checked-mul (truth True) w)) refl refl refl (λ j. refl) (λ q. refl) (λ s u. refl))
+    (λ i. each-value (λ w. checked-mul (datum (integer i)) w ≡ told (Defined.checked-mul (datum (integer i)) w)) refl refl refl (λ j. checked-same (i *ℤ j)) (λ q. refl) (λ s u. refl))
+    (λ p. each-value (λ w. checked-mul (datum (float p)) w ≡ told (Defined.checked-mul (datum (float p)) w)) refl refl refl (λ j. refl) (λ q. refl) (λ s u. refl))
+    (λ r t. each-value (λ w. checked-mul (datum (string r t)) w ≡ told (Defined.checked-mul (datum (string r t)) w)) refl refl refl (λ j. refl) (λ q. refl) (λ s u. refl))
 
 divide-integers-same : (a b : ℤ) → checked-div document-01 (datum (integer a)) (datum (integer b)) ≡ told (divide-integers a b)
 unfolding divide-integers
@@ -114,6 +136,13 @@ identity-same = each-value (λ v. evaluate-identity v ≡ told (identity v)) ref
 
 pub negate-same : (v : Value) → evaluate-negate document-01 v ≡ told (negate v)
 negate-same = each-value (λ v. evaluate-negate document-01 v ≡ told (negate v)) refl refl refl (λ i. checked-same (negℤ i)) (λ p. refl) (λ r t. refl)
+
+pub root-same : (v : Value) → evaluate-square-root v ≡ told (square-root v)
+root-same = each-value (λ v. evaluate-square-root v ≡ told (square-root v)) refl refl refl (λ i. go i) (λ p. refl) (λ r t. refl)
+  where
+    go : (i : ℤ) → evaluate-square-root (datum (integer i)) ≡ told (square-root (datum (integer i)))
+    go (pos n) = refl
+    go (negsuc n) = refl
 
 -- ---- comparisons: what the Rust's operators give of two Integers, two Floats or two Strings
 

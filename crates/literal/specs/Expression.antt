@@ -7,10 +7,12 @@ use lib.Dec.{eqb}
 use lib.IntN.{ℤ, pos, negsuc, negℤ, _+ℤ_}
 use lib.Signed.{ltZ}
 use lib.Ieee as Ieee
-use Rattle.value.specs.Value.{Value, float, datum, the-nan, null, mismatch}
-use Rattle.sql.specs.Expression.{Marked, And, Or, IsNull, IsNaN, Identity, Negate, GreaterThan, LessThan, Add, Divide, Not, logical, Equal, function, Expression, constant, column, unary, binary, and, or, size, Row}
+use lib.Ieee.{binary64}
+use Rattle.value.specs.Value.{Value, truth, integer, float, string, datum, the-nan, null, mismatch}
+use Rattle.sql.specs.Expression.{Marked, And, Or, IsNull, IsNaN, Identity, Negate, SquareRoot, GreaterThan, LessThan, Add, Divide, Subtract, Multiply, Not, logical, Equal, function, Expression, constant, column, unary, binary, and, or, size, Row}
 use Rattle.literal.specs.Rust.{Run, Ok, Err, Panic, _>>=_, unwrap, expect, assert-eq, _⇒_, _&_, _∣_, _if_, _else_, and-then, push, get, pop, for-each}
-use Rattle.literal.specs.Value.{Departures, i64-eq, as-f64, bytes-eq, bytes-lt, Null?, Boolean?, Integer?, Float?, String?, number?, Boolean, Integer-or, Float, eq, is-undefined, checked-add, checked-div}
+use Rattle.literal.specs.Value.{Departures, i64-eq, as-f64, bytes-eq, bytes-lt, Null?, Boolean?, Integer?, Float?, String?, number?, Boolean, Integer-or, Float, eq, is-undefined, checked-add, checked-div, checked-mul, checked-sub}
+use Rattle.ieee754.specs.Ieee754.{square-root-bits}
 
 -- ---- 19: enum Expression, as patterns: the origin, and what the Rust's pattern binds
 
@@ -133,6 +135,28 @@ evaluate-negate departures v =
     else (Null? v ⇒ λ n. Ok null)
     else Err mismatch
 
+-- 186: Integer(i @ 0..)
+abbrev pub from-zero : ℤ → Bool
+from-zero (pos n) = true
+from-zero (negsuc n) = false
+
+-- a Float by its pattern, and f64::sqrt of one: IEEE 754's squareRoot (crate ieee754)
+abbrev pub pattern? : Value → Option ℕ
+pattern? (truth t) = none
+pattern? (datum (integer i)) = none
+pattern? (datum (float bits)) = some bits
+pattern? (datum (string r t)) = none
+
+abbrev pub sqrt : ℕ → Value
+sqrt bits = datum (float (square-root-bits bits))
+
+abbrev pub evaluate-square-root : Value → Run Value
+evaluate-square-root v =
+    (Integer? v if from-zero ⇒ λ i. Ok (sqrt (Ieee.toBits binary64 (as-f64 i))))
+    else (pattern? v ⇒ λ bits. Ok (sqrt bits))
+    else (Null? v ⇒ λ n. Ok null)
+    else Err mismatch
+
 -- Is(expr, Null) and Is(expr, Float(NaN)) are two operators here, IsNull and IsNaN; at an Is of another value, which no parser makes, the Rust panics.
 module _ (departures : Departures) where
   abbrev pub evaluate : Option Row → Expression → Run Value
@@ -148,8 +172,11 @@ module _ (departures : Departures) where
   evaluate row (unary og (function IsNaN) expr) = evaluate row expr >>= λ v. evaluate-is-nan v
   evaluate row (binary og (function Add) lhs rhs) = evaluate row lhs >>= λ l. evaluate row rhs >>= λ r. checked-add l r
   evaluate row (binary og (function Divide) lhs rhs) = evaluate row lhs >>= λ l. evaluate row rhs >>= λ r. checked-div departures l r
+  evaluate row (binary og (function Multiply) lhs rhs) = evaluate row lhs >>= λ l. evaluate row rhs >>= λ r. checked-mul l r
   evaluate row (unary og (function Identity) expr) = evaluate row expr >>= λ v. evaluate-identity v
   evaluate row (unary og (function Negate) expr) = evaluate row expr >>= λ v. evaluate-negate departures v
+  evaluate row (unary og (function SquareRoot) expr) = evaluate row expr >>= λ v. evaluate-square-root v
+  evaluate row (binary og (function Subtract) lhs rhs) = evaluate row lhs >>= λ l. evaluate row rhs >>= λ r. checked-sub l r
 
 -- ---- 212: fn walk. The visitor writes to s.
 
@@ -263,6 +290,7 @@ is-column-lookup (column og c) = none
 is-column-lookup (unary og Not x) = none
 is-column-lookup (unary og (function Identity) x) = none
 is-column-lookup (unary og (function Negate) x) = none
+is-column-lookup (unary og (function SquareRoot) x) = none
 is-column-lookup (binary og (logical And) l r) = none
 is-column-lookup (binary og (function f) l r) = none
 
@@ -284,6 +312,7 @@ into-column-values index (column og c) = Panic
 into-column-values index (unary og Not x) = Panic
 into-column-values index (unary og (function Identity) x) = Panic
 into-column-values index (unary og (function Negate) x) = Panic
+into-column-values index (unary og (function SquareRoot) x) = Panic
 into-column-values index (binary og (logical And) l r) = Panic
 into-column-values index (binary og (function f) l r) = Panic
 

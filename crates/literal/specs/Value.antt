@@ -4,7 +4,7 @@ use mathlib.Core.Bool.{Bool, true, false, not, _&&_, _||_, Bool·beq, cond}
 use mathlib.Core.List.{List, [], _∷_}
 use mathlib.Core.Option.{Option, none, some}
 use lib.Dec.{ltb, eqb}
-use lib.IntN.{ℤ, pos, negsuc, _+ℤ_}
+use lib.IntN.{ℤ, pos, negsuc, _+ℤ_, _-ℤ_, _*ℤ_}
 use lib.Signed.{mag, quotZ}
 use lib.Ieee as Ieee
 use lib.Ieee.{binary64}
@@ -151,6 +151,30 @@ checked-div departures self other =
     else (Integer? self & Float? other ⇒ λ (lhs, rhs). Ok (Float (Ieee.div binary64 (as-f64 lhs) rhs)))
     else (Float? self & Integer? other ⇒ λ (lhs, rhs). Ok (Float (Ieee.div binary64 lhs (as-f64 rhs))))
     else (Float? self & Float? other ⇒ λ (lhs, rhs). Ok (Float (Ieee.div binary64 lhs rhs)))
+    else (Null? self & (number? other ∣ Null? other) ⇒ λ p. Ok null)
+    else (number? self & Null? other ⇒ λ p. Ok null)
+    else Err mismatch
+
+-- ---- 220: fn checked_mul
+
+abbrev pub checked-mul : Value → Value → Run Value
+checked-mul self other =
+    (Integer? self & Integer? other ⇒ λ (lhs, rhs). Integer-or (Err overflow) (lhs *ℤ rhs))
+    else (Integer? self & Float? other ⇒ λ (lhs, rhs). Ok (Float (Ieee.mul binary64 (as-f64 lhs) rhs)))
+    else (Float? self & Integer? other ⇒ λ (lhs, rhs). Ok (Float (Ieee.mul binary64 lhs (as-f64 rhs))))
+    else (Float? self & Float? other ⇒ λ (lhs, rhs). Ok (Float (Ieee.mul binary64 lhs rhs)))
+    else (Null? self & (number? other ∣ Null? other) ⇒ λ p. Ok null)
+    else (number? self & Null? other ⇒ λ p. Ok null)
+    else Err mismatch
+
+-- ---- 280: fn checked_sub
+
+abbrev pub checked-sub : Value → Value → Run Value
+checked-sub self other =
+    (Integer? self & Integer? other ⇒ λ (lhs, rhs). Integer-or (Err overflow) (lhs -ℤ rhs))
+    else (Integer? self & Float? other ⇒ λ (lhs, rhs). Ok (Float (Ieee.sub binary64 (as-f64 lhs) rhs)))
+    else (Float? self & Integer? other ⇒ λ (lhs, rhs). Ok (Float (Ieee.sub binary64 lhs (as-f64 rhs))))
+    else (Float? self & Float? other ⇒ λ (lhs, rhs). Ok (Float (Ieee.sub binary64 lhs rhs)))
     else (Null? self & (number? other ∣ Null? other) ⇒ λ p. Ok null)
     else (number? self & Null? other ⇒ λ p. Ok null)
     else Err mismatch

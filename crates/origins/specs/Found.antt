@@ -8,7 +8,7 @@ use lib.Dec.{ltb}
 use Rattle.value.specs.Value.{Value}
 use Rattle.value.specs.Undefined.{is-undefined}
 use Rattle.sql.specs.Schema.{Schema}
-use Rattle.sql.specs.Expression.{Marked, Not, logical, Equal, function, IsNull, IsNaN, Identity, Negate, Expression, constant, column, unary, binary, into-cnf-vec, and-vec, is-constant, is-column-lookup, equal-values, into-column-values}
+use Rattle.sql.specs.Expression.{Marked, Not, logical, Equal, function, IsNull, IsNaN, Identity, Negate, SquareRoot, Expression, constant, column, unary, binary, into-cnf-vec, and-vec, is-constant, is-column-lookup, equal-values, into-column-values}
 use Rattle.sql.specs.Plan.{Leaf, scan, lookup, nothing, values, Join, nested-loop, hash, Node, leaf, over, join, columns}
 use Rattle.sql.specs.Optimizer.{equijoin, map-optional, Found, filtered, with-index, found-here, find-lookup, access, lookup-or-scan, index-lookup, hash-pair, hash-join, HashJoin}
 use Rattle.origins.specs.Origins.{map-origins, map-mark, map-leaf, map-over, map-join, map-node-origins}
@@ -43,6 +43,7 @@ module _ (h : ℕ → ℕ) where
   values-map (unary og (function IsNaN) x) = refl
   values-map (unary og (function Identity) x) = refl
   values-map (unary og (function Negate) x) = refl
+  values-map (unary og (function SquareRoot) x) = refl
   values-map (binary og (logical o) l r) =
       ap₂ _++_ (values-map l) (values-map r) ∙ map-append (map-mark h) (into-column-values l) (into-column-values r)
   values-map (binary og Equal l r) =

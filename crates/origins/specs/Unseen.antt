@@ -8,7 +8,7 @@ use lib.Dec.{eqb, ltb}
 use lib.ListN.{length, length-map, getD}
 use Rattle.value.specs.Value.{Value, Result}
 use Rattle.sql.specs.Schema.{Schema}
-use Rattle.sql.specs.Expression.{Marked, And, Or, Not, logical, Equal, function, IsNull, IsNaN, Identity, Negate, Function1, Expression, constant, column, unary, binary, size, Row, bind, evaluate-unary, evaluate-binary, evaluate, contains-column, is-column, is-equal-lookup, is-function-lookup, same-column, is-column-lookup}
+use Rattle.sql.specs.Expression.{Marked, And, Or, Not, logical, Equal, function, IsNull, IsNaN, Identity, Negate, SquareRoot, Function1, Expression, constant, column, unary, binary, size, Row, bind, evaluate-unary, evaluate-binary, evaluate, contains-column, is-column, is-equal-lookup, is-function-lookup, same-column, is-column-lookup}
 use Rattle.sql.specs.Plan.{Label, unlabelled, unqualified, qualified, Leaf, scan, lookup, nothing, values, Other, limit, offset, order, projection, remap, aggregate, Over, filter, other, Join, nested-loop, hash, Node, leaf, over, join, remap-columns, values-columns, other-columns, leaf-columns, columns, routed, group-label, item-label, items-label, remap-source, optional-label, other-label, up-to, leaf-label, column-label, column-labels, sum, optional-size, row-size, item-size, key-size, aggregate-size, leaf-size, over-size, join-size, node-size}
 use Rattle.sql.specs.Optimizer.{map-optional, ordered, equijoin}
 use Rattle.origins.specs.Origins.{map-origins, map-mark, map-row, map-part, map-aggregate, map-leaf, map-other, map-over, map-join, map-node-origins}
@@ -59,6 +59,7 @@ module _ (h : ℕ → ℕ) where
   function-lookup-unseen IsNaN x = is-column-unseen x
   function-lookup-unseen Identity x = refl
   function-lookup-unseen Negate x = refl
+  function-lookup-unseen SquareRoot x = refl
 
   pub column-lookup-unseen : (e : Expression) → is-column-lookup (map-origins h e) ≡ is-column-lookup e
   column-lookup-unseen (constant og v) = refl

@@ -9,7 +9,7 @@ use lib.Dec.{eqb}
 use lib.ListN.{length}
 use borrow.Author.Tests.{ne-eqb}
 use Rattle.value.specs.Value.{Value, Truth, False, Unknown, True, truth, datum, integer, float, string}
-use Rattle.sql.specs.Expression.{Marked, Expression, constant, column, unary, binary, Unary, Not, function, IsNull, IsNaN, Identity, Negate, Binary, logical, And, Or, Equal, GreaterThan, LessThan, Add, Divide}
+use Rattle.sql.specs.Expression.{Marked, Expression, constant, column, unary, binary, Unary, Not, function, IsNull, IsNaN, Identity, Negate, SquareRoot, Binary, logical, And, Or, Equal, GreaterThan, LessThan, Add, Divide, Subtract, Multiply}
 use Rattle.sql.specs.Plan.{Label, unlabelled, unqualified, qualified, by-key, by-index, Leaf, scan, lookup, nothing, values, limit, offset, order, projection, remap, aggregate, Over, filter, other, Join, nested-loop, hash, Node, leaf, over, join}
 use Rattle.sheet.specs.Cell.{Cell}
 use Rattle.sheet.specs.Content.{Content, cell-of, marked, constant-as-cell, unary-tag, binary-tag, labelled, target-as-cell, bit0, constant-cell, column-cell, unary-cell, binary-cell, label-cell, item-cell, key-cell, target-cell, agg-cell, row-cell, aggregate-cell, filter-cell, limit-cell, offset-cell, order-cell, projection-cell, remap-cell, scan-cell, nothing-cell, values-cell, nested-loop-join-cell, hash-join-cell}
@@ -40,6 +40,7 @@ unary-low (function IsNull) = omega arith
 unary-low (function IsNaN) = omega arith
 unary-low (function Identity) = omega arith
 unary-low (function Negate) = omega arith
+unary-low (function SquareRoot) = omega arith
 
 binary-low : (o : Binary) → binary-tag o < 50
 binary-low (logical And) = omega arith
@@ -49,6 +50,8 @@ binary-low (function GreaterThan) = omega arith
 binary-low (function LessThan) = omega arith
 binary-low (function Add) = omega arith
 binary-low (function Divide) = omega arith
+binary-low (function Subtract) = omega arith
+binary-low (function Multiply) = omega arith
 
 labelled-low : (t : ℕ) → t < 50 → (l : Label) → labelled t l .tag < 50
 labelled-low t h unlabelled = h

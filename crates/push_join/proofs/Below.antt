@@ -11,7 +11,7 @@ use lib.Seq.{length-take-le}
 use borrow.Author.Tests.{eqb-true, eqb-false}
 use Rattle.value.specs.Value.{Value, False, Unknown, True, truth, datum, integer, float, string}
 use Rattle.sql.specs.Schema.{Schema, table-of}
-use Rattle.sql.specs.Expression.{Expression, Unary, Not, function, IsNull, IsNaN, Identity, Negate, Binary, logical, And, Or, Equal, GreaterThan, LessThan, Add, Divide, shift-column-down, into-nnf, distribute, into-cnf, ands, and-vec}
+use Rattle.sql.specs.Expression.{Expression, Unary, Not, function, IsNull, IsNaN, Identity, Negate, SquareRoot, Binary, logical, And, Or, Equal, GreaterThan, LessThan, Add, Divide, Subtract, Multiply, shift-column-down, into-nnf, distribute, into-cnf, ands, and-vec}
 use Rattle.sql.specs.Plan.{unlabelled, unqualified, qualified, scan, lookup, nothing, values, filter, other, nested-loop, hash, Node, leaf, over, join, columns, node-size}
 use Rattle.sql.specs.Optimizer.{push-into, pushed-or-back, push-part, for-left, for-right, for-both, equijoin, push-left, push-right, split}
 use Rattle.sql.specs.Answer.{Answer, done, refused}
@@ -80,6 +80,7 @@ module _ (n : ℕ) where
   unary-below (function IsNaN) = unnumbered _ refl
   unary-below (function Identity) = unnumbered _ refl
   unary-below (function Negate) = unnumbered _ refl
+  unary-below (function SquareRoot) = unnumbered _ refl
 
   binary-below : (o : Binary) → Cell-below n (cell-of (binary-cell o))
   binary-below (logical And) = unnumbered _ refl
@@ -89,6 +90,8 @@ module _ (n : ℕ) where
   binary-below (function LessThan) = unnumbered _ refl
   binary-below (function Add) = unnumbered _ refl
   binary-below (function Divide) = unnumbered _ refl
+  binary-below (function Subtract) = unnumbered _ refl
+  binary-below (function Multiply) = unnumbered _ refl
 
   -- the low half of a word c that says i in it
   low-half : (i m : ℕ) → i < n → (i + 65536 * m) % 65536 < n

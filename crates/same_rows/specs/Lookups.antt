@@ -12,7 +12,7 @@ use Rattle.value.specs.Value.{Truth, False, Unknown, True, Datum, integer, floa
 use Rattle.value.specs.Comparison.{Comparison, Null, Found, Less, Greater, Unordered, NotComparable, rounded, number-of, compare-floats, compare, is-equal}
 use Rattle.value.specs.Comparison
 use Rattle.value.specs.Undefined.{is-undefined}
-use Rattle.sql.specs.Expression.{origin, Logical, And, Or, Function1, IsNull, IsNaN, Identity, Negate, Unary, Not, function, Binary, logical, Equal, Expression, constant, column, unary, binary, or, contains-column, is-column, is-equal-lookup, is-function-lookup, same-column, is-column-lookup, equal-values, into-column-values}
+use Rattle.sql.specs.Expression.{origin, Logical, And, Or, Function1, IsNull, IsNaN, Identity, Negate, SquareRoot, Unary, Not, function, Binary, logical, Equal, Expression, constant, column, unary, binary, or, contains-column, is-column, is-equal-lookup, is-function-lookup, same-column, is-column-lookup, equal-values, into-column-values}
 use Rattle.rows.specs.Reading.{is-true, is-nan-value, takes, any}
 use Rattle.same_rows.specs.Booleans.{false≢true, eqb-eq, eqb-self}
 use Rattle.same_rows.specs.Floats.{nan-unequal}
@@ -52,6 +52,7 @@ function-lookup og IsNull x c h = rw (column-of x c h) column-null
 function-lookup og IsNaN x c h = rw (column-of x c h) column-nan
 function-lookup og Identity x c h = none≢some c h
 function-lookup og Negate x c h = none≢some c h
+function-lookup og SquareRoot x c h = none≢some c h
 
 same-both : (a b : Option ℕ) (c : ℕ) → same-column a b ≡ some c → (a ≡ some c) × (b ≡ some c)
 same-both none b c h = none≢some c h

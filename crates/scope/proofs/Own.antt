@@ -11,7 +11,7 @@ use lib.Dec.{eqb}
 use lib.ListN.{length, length-append}
 use borrow.Author.Tests.{not-true}
 use Rattle.value.specs.Value.{False, Unknown, True, integer, float, string, Value, truth, datum}
-use Rattle.sql.specs.Expression.{Marked, Expression, constant, column, unary, binary, size, Unary, Not, function, IsNull, IsNaN, Identity, Negate, Binary, logical, Equal, And, Or, GreaterThan, LessThan, Add, Divide}
+use Rattle.sql.specs.Expression.{Marked, Expression, constant, column, unary, binary, size, Unary, Not, function, IsNull, IsNaN, Identity, Negate, SquareRoot, Binary, logical, Equal, And, Or, GreaterThan, LessThan, Add, Divide, Subtract, Multiply}
 use Rattle.sql.specs.Plan.{Label, unlabelled, unqualified, qualified, sum, row-size, values-columns, remap-columns}
 use Rattle.sheet.specs.Cell.{Cell}
 use Rattle.sheet.specs.Content.{constant-as-cell, unary-tag, binary-tag, labelled, target-as-cell, cell-of, constant-cell, unary-cell, binary-cell, marked}
@@ -87,6 +87,7 @@ unary-is (function IsNull) = refl
 unary-is (function IsNaN) = refl
 unary-is (function Identity) = refl
 unary-is (function Negate) = refl
+unary-is (function SquareRoot) = refl
 
 binary-is : (o : Binary) → quiet-tag (binary-tag o) ≡ true
 binary-is (logical And) = refl
@@ -96,6 +97,8 @@ binary-is (function GreaterThan) = refl
 binary-is (function LessThan) = refl
 binary-is (function Add) = refl
 binary-is (function Divide) = refl
+binary-is (function Subtract) = refl
+binary-is (function Multiply) = refl
 
 pub constant-quiet : (og : ℕ) (v : Value) → Quiet (marked og (cell-of (constant-cell v)))
 constant-quiet og v = quiet _ (constant-tag v)

@@ -57,15 +57,15 @@ tags =
     -- constants: 1 Null, 2 Boolean, 3 Integer, 4 Float, 5 String; 6 Column
     ∷ plain ∷ with-a bit ∷ carried 1 any any unused ∷ carried 1 any any unused ∷ with-a (text 0) ∷ with-a any
     ∷ unknown ∷ unknown ∷ unknown
-    -- 10 And, 11 Or, 12 Equal, 13 GreaterThan, 14 LessThan, 15 Add, 16 Divide
-    ∷ plain ∷ plain ∷ plain ∷ plain ∷ plain ∷ plain ∷ plain
-    -- 17 Subtract, 18 Multiply, 19 Exponentiate, 20 Remainder, 21 Like
-    ∷ not-carried ∷ not-carried ∷ not-carried ∷ not-carried ∷ not-carried
+    -- 10 And, 11 Or, 12 Equal, 13 GreaterThan, 14 LessThan, 15 Add, 16 Divide, 17 Subtract, 18 Multiply
+    ∷ plain ∷ plain ∷ plain ∷ plain ∷ plain ∷ plain ∷ plain ∷ plain ∷ plain
+    -- 19 Exponentiate, 20 Remainder, 21 Like
+    ∷ not-carried ∷ not-carried ∷ not-carried
     ∷ unknown ∷ unknown ∷ unknown ∷ unknown ∷ unknown ∷ unknown ∷ unknown ∷ unknown
     -- 30 Not, 31 Is Null, 32 Is NaN, 33 Identity, 34 Negate
     ∷ plain ∷ plain ∷ plain ∷ plain ∷ plain
     -- 35 Factorial, 36 SquareRoot
-    ∷ not-carried ∷ not-carried
+    ∷ not-carried ∷ plain
     ∷ unknown ∷ unknown ∷ unknown
     -- parts: 40 Label, 41 Item, 42 Key, 43 Target, 44 Agg, 45 Row
     ∷ carried 3 (text 1) (text 2) unused ∷ carried 3 (text 1) (text 2) unused ∷ carried 2 unused unused unused

@@ -7,7 +7,7 @@ use lib.Dec.{leb, eqb}
 use lib.ListN.{getD}
 use Rattle.value.specs.Value.{Truth, False, Unknown, True, Datum, integer, float, string, Value, truth, datum, boolean}
 use Rattle.value.specs.Meaning.{integer-bits, integer-of-bits, bytes-at}
-use Rattle.sql.specs.Expression.{Logical, And, Or, Function1, IsNull, IsNaN, Identity, Negate, Function2, GreaterThan, LessThan, Add, Divide, Unary, Not, function, Binary, logical, Equal}
+use Rattle.sql.specs.Expression.{Logical, And, Or, Function1, IsNull, IsNaN, Identity, Negate, SquareRoot, Function2, GreaterThan, LessThan, Add, Divide, Subtract, Multiply, Unary, Not, function, Binary, logical, Equal}
 use Rattle.sql.specs.Plan.{Label, unlabelled, unqualified, qualified}
 use Rattle.sheet.specs.Cell.{Cell, wide}
 use Rattle.sheet.specs.Tags
@@ -60,6 +60,7 @@ unary-tag (function IsNull) = Tags.is-null
 unary-tag (function IsNaN) = Tags.is-nan
 unary-tag (function Identity) = Tags.identity
 unary-tag (function Negate) = Tags.negate
+unary-tag (function SquareRoot) = Tags.square-root
 
 abbrev pub binary-tag : Binary → ℕ
 binary-tag (logical And) = Tags.and
@@ -69,6 +70,8 @@ binary-tag (function GreaterThan) = Tags.greater-than
 binary-tag (function LessThan) = Tags.less-than
 binary-tag (function Add) = Tags.add
 binary-tag (function Divide) = Tags.divide
+binary-tag (function Subtract) = Tags.subtract
+binary-tag (function Multiply) = Tags.multiply
 
 abbrev pub constant-as-cell : Value → Cell
 constant-as-cell (truth Unknown) = with Tags.null 0 0 0 0
@@ -176,9 +179,10 @@ readers =
     ∷ no-cell ∷ no-cell ∷ no-cell
     ∷ binary-reader (logical And) ∷ binary-reader (logical Or) ∷ binary-reader Equal ∷ binary-reader (function GreaterThan)
     ∷ binary-reader (function LessThan) ∷ binary-reader (function Add) ∷ binary-reader (function Divide)
-    ∷ no-cell ∷ no-cell ∷ no-cell ∷ no-cell ∷ no-cell ∷ no-cell ∷ no-cell ∷ no-cell ∷ no-cell ∷ no-cell ∷ no-cell ∷ no-cell ∷ no-cell
+    ∷ binary-reader (function Subtract) ∷ binary-reader (function Multiply)
+    ∷ no-cell ∷ no-cell ∷ no-cell ∷ no-cell ∷ no-cell ∷ no-cell ∷ no-cell ∷ no-cell ∷ no-cell ∷ no-cell ∷ no-cell
     ∷ unary-reader Not ∷ unary-reader (function IsNull) ∷ unary-reader (function IsNaN) ∷ unary-reader (function Identity) ∷ unary-reader (function Negate)
-    ∷ no-cell ∷ no-cell ∷ no-cell ∷ no-cell ∷ no-cell
+    ∷ no-cell ∷ unary-reader (function SquareRoot) ∷ no-cell ∷ no-cell ∷ no-cell
     ∷ (λ text c. some (label-cell (label-of c)))
     ∷ (λ text c. some (item-cell (label-of c)))
     ∷ (λ text c. some (key-cell (bit0 c)))

@@ -47,6 +47,12 @@ add = 15
 abbrev pub divide : ℕ
 divide = 16
 
+abbrev pub subtract : ℕ
+subtract = 17
+
+abbrev pub multiply : ℕ
+multiply = 18
+
 abbrev pub unary : ℕ
 unary = 30
 
@@ -64,6 +70,9 @@ identity = 33
 
 abbrev pub negate : ℕ
 negate = 34
+
+abbrev pub square-root : ℕ
+square-root = 36
 
 -- ---- parts of nodes, from `parts` up to `parts-end`
 

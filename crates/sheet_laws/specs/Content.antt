@@ -13,7 +13,7 @@ use lib.ListN.{getD}
 use lib.Signed.{mag}
 use Rattle.value.specs.Value.{True, False, Unknown, integer, float, string, truth, datum, boolean}
 use Rattle.value.specs.Meaning.{integer-bits, integer-of-bits, bytes-at}
-use Rattle.sql.specs.Expression.{And, Or, IsNull, IsNaN, Identity, Negate, GreaterThan, LessThan, Add, Divide, Not, function, logical, Equal}
+use Rattle.sql.specs.Expression.{And, Or, IsNull, IsNaN, Identity, Negate, SquareRoot, GreaterThan, LessThan, Add, Divide, Subtract, Multiply, Not, function, logical, Equal}
 use Rattle.sql.specs.Plan.{Label, unlabelled, unqualified, qualified}
 use Rattle.sheet.specs.Parts.{inside}
 use Rattle.sheet.specs.Cell.{Cell, Field, Tag, unknown, not-carried, carried, unused as unused-field, any as any-field, bit as bit-field, table as table-field, text as text-field, small as small-field, tags, tag-of, field-ok, fields-ok, float-ok, cell-ok, wide}
@@ -268,11 +268,12 @@ all-rows =
     (row (plain 10 (binary-cell (logical And)) refl no-exact) (row (plain 11 (binary-cell (logical Or)) refl no-exact) (row (plain 12 (binary-cell Equal) refl no-exact)
     (row (plain 13 (binary-cell (function GreaterThan)) refl no-exact) (row (plain 14 (binary-cell (function LessThan)) refl no-exact)
     (row (plain 15 (binary-cell (function Add)) refl no-exact) (row (plain 16 (binary-cell (function Divide)) refl no-exact)
-    (row tt (row tt (row tt (row tt (row tt (row tt (row tt (row tt (row tt (row tt (row tt (row tt (row tt
+    (row (plain 17 (binary-cell (function Subtract)) refl no-exact) (row (plain 18 (binary-cell (function Multiply)) refl no-exact)
+    (row tt (row tt (row tt (row tt (row tt (row tt (row tt (row tt (row tt (row tt (row tt
     (row (plain 30 (unary-cell Not) refl no-exact) (row (plain 31 (unary-cell (function IsNull)) refl no-exact)
     (row (plain 32 (unary-cell (function IsNaN)) refl no-exact) (row (plain 33 (unary-cell (function Identity)) refl no-exact)
     (row (plain 34 (unary-cell (function Negate)) refl no-exact)
-    (row tt (row tt (row tt (row tt (row tt
+    (row tt (row (plain 36 (unary-cell (function SquareRoot)) refl no-exact) (row tt (row tt (row tt
     (row (labelled-says 40 label-cell (λ l. refl) (λ text bytes tables l h. (h, tt))) (row (labelled-says 41 item-cell (λ l. refl) (λ text bytes tables l h. (h, tt)))
     (row key-says (row target-says (row agg-says (row (counted 45 row-cell (λ n. refl) word-exact)
     (row tt (row tt (row tt (row tt

@@ -9,7 +9,7 @@ use mathlib.Core.Option.{Option, none, some}
 use lib.Dec.{eqb, ltb}
 use Rattle.value.specs.Value.{Value, datum, float, null, the-nan}
 use Rattle.value.specs.Undefined.{is-undefined}
-use Rattle.sql.specs.Expression.{Marked, And, Or, Function1, IsNull, IsNaN, Identity, Negate, Not, logical, Equal, function, Expression, constant, column, unary, binary, and, contains-column, map-columns, replace-column, into-nnf, into-nnf-not, into-nnf-operands, Conjuncts, single, both, or-right, or-both, distribute, conjuncts, into-cnf, ands, into-cnf-vec, and-all, and-vec, is-column, is-constant, is-equal-lookup, is-function-lookup, same-column, is-column-lookup, equal-values, into-column-values}
+use Rattle.sql.specs.Expression.{Marked, And, Or, Function1, IsNull, IsNaN, Identity, Negate, SquareRoot, Not, logical, Equal, function, Expression, constant, column, unary, binary, and, contains-column, map-columns, replace-column, into-nnf, into-nnf-not, into-nnf-operands, Conjuncts, single, both, or-right, or-both, distribute, conjuncts, into-cnf, ands, into-cnf-vec, and-all, and-vec, is-column, is-constant, is-equal-lookup, is-function-lookup, same-column, is-column-lookup, equal-values, into-column-values}
 use Rattle.sql.specs.Optimizer.{ref-left, ref-right, ordered, equijoin}
 use Rattle.sheet_laws.specs.Fits.{All, Optional}
 use Rattle.sound.specs.Lists.{or-false, none-some, some-same, all-append}
@@ -149,6 +149,7 @@ module _ (P : Value → Type 0) (C : ℕ → Type 0) where
   only-function IsNaN x c h m = only-column x c h m
   only-function Identity x c h m = none-some h
   only-function Negate x c h m = none-some h
+  only-function SquareRoot x c h m = none-some h
 
   only-equal : (og : ℕ) (l r : Expression) (c : ℕ) → is-equal-lookup l r ≡ some c → M l → M r → Only c (binary og Equal l r)
   only-equal top (constant og v) r c h m k = let o = only-column r c h k in (o .0, (m, o .1))
@@ -251,6 +252,7 @@ module _ (P : Value → Type 0) (C : ℕ → Type 0) where
     values-of (unary og (function IsNaN) x) m = (nan-has, tt)
     values-of (unary og (function Identity) x) m = tt
     values-of (unary og (function Negate) x) m = tt
+    values-of (unary og (function SquareRoot) x) m = tt
     values-of (binary og (logical o) l r) m = all-append Valued (into-column-values l) (into-column-values r) (values-of l (m .0)) (values-of r (m .1))
     values-of (binary og Equal l r) m = all-append Valued (equal-values (is-constant l)) (equal-values (is-constant r)) (constant-of l (m .0)) (constant-of r (m .1))
     values-of (binary og (function f) l r) m = tt

@@ -2,21 +2,23 @@
 use Prim.Native.Nat.{ℕ, zero, suc, _^_}
 use native.Mathlib.Omega.{arith}
 use borrow.Author.Tests.{ltb-true}
-use mathlib.Core.Path.{_≡_, refl, ap, _∙_}
+use mathlib.Core.Path.{_≡_, refl, ap, _∙_, subst}
 use mathlib.Core.Bool.{Bool, true, false, not, _||_, cond}
 use mathlib.Core.List.{List, []}
 use lib.Dec.{T, eqb, ltb}
-use lib.IntN.{ℤ, pos, negsuc, negℤ, _+ℤ_}
+use lib.IntN.{ℤ, pos, negsuc, negℤ, _+ℤ_, _-ℤ_, _*ℤ_}
 use lib.Signed.{mag, quotZ}
 use lib.Ieee as Ieee
 use lib.Ieee.{Float, nan, inf, fin, binary64}
-use lib.Ieee.Fits.{add-fits, div-fits, neg-fits}
+use lib.Ieee.Fits.{add-fits, sub-fits, mul-fits, div-fits, neg-fits}
 use lib.Ieee.Bits.{toBits-lt, ofBits-toBits, ofBits-fits, nanBits-is}
+use Rattle.ieee754.specs.Ieee754.{square-root-bits}
+use Rattle.ieee754.proofs.SquareRoot.{root-kept}
 use Rattle.value.specs.Value.{Truth, False, Unknown, True, Datum, integer, float, string, Value, truth, datum, Result, ok, err, overflow, the-nan}
 use Rattle.value.specs.Comparison.{Comparison, Null, Found, Less, Equal, Greater, Unordered, NotComparable, compare, compared, answer, number-of, rounded, is-equal, is-greater, is-less}
-use Rattle.value.specs.Arithmetic.{checked, written, add-integers, divide-integers, of-data, with-datum, of-truths, arithmetic, of-truth}
+use Rattle.value.specs.Arithmetic.{checked, written, add-integers, subtract-integers, multiply-integers, divide-integers, root-of-float, root-of-integer, of-data, with-datum, of-truths, arithmetic, of-truth}
 use Rattle.value.specs.Logic as Logic
-use Rattle.sql.specs.Expression.{And, Or, IsNull, IsNaN, Identity, Negate, GreaterThan, LessThan, Add, Divide, Unary, Not, Binary, logical, function, Expression, constant, column, unary, binary, evaluate-unary, evaluate-binary, evaluate}
+use Rattle.sql.specs.Expression.{And, Or, IsNull, IsNaN, Identity, Negate, SquareRoot, GreaterThan, LessThan, Add, Divide, Subtract, Multiply, Unary, Not, Binary, logical, function, Expression, constant, column, unary, binary, evaluate-unary, evaluate-binary, evaluate}
 use Rattle.sql.specs.Expression
 use Rattle.sheet_laws.specs.Fits.{Value-fits}
 use Rattle.sound.specs.Answers.{Valued, valued-bind}
@@ -64,6 +66,13 @@ module _ (text : List ℕ) (bytes : ℕ) where
   truth-fits Unknown = tt
   truth-fits True = tt
 
+  root-fits : (a : ℕ) → R (root-of-float a)
+  root-fits a = subst (λ b. P (datum (float b))) (root-kept a) (written-fits (number-of (square-root-bits a)) (ofBits-fits binary64 (square-root-bits a)))
+
+  integer-root-fits : (i : ℤ) → R (root-of-integer i)
+  integer-root-fits (pos n) = root-fits (Ieee.toBits binary64 (rounded (pos n)))
+  integer-root-fits (negsuc n) = tt
+
   unary-fits : (o : Unary) (v : Value) → P v → R (evaluate-unary o v)
   unary-fits Not (truth a) p = tt
   unary-fits Not (datum d) p = tt
@@ -83,6 +92,10 @@ module _ (text : List ℕ) (bytes : ℕ) where
   unary-fits (function Negate) (datum (integer a)) p = checked-fits (negℤ a)
   unary-fits (function Negate) (datum (float a)) p = written-fits (Ieee.neg (number-of a)) (neg-fits binary64 (number-of a) (ofBits-fits binary64 a))
   unary-fits (function Negate) (datum (string r t)) p = tt
+  unary-fits (function SquareRoot) (truth a) p = truth-fits a
+  unary-fits (function SquareRoot) (datum (integer a)) p = integer-root-fits a
+  unary-fits (function SquareRoot) (datum (float a)) p = root-fits a
+  unary-fits (function SquareRoot) (datum (string r t)) p = tt
 
   -- ---- operators on two values
 
@@ -137,6 +150,14 @@ module _ (text : List ℕ) (bytes : ℕ) where
   unfolding add-integers
   sum-fits a b = checked-fits (a +ℤ b)
 
+  difference-fits : (a b : ℤ) → R (subtract-integers a b)
+  unfolding subtract-integers
+  difference-fits a b = checked-fits (a -ℤ b)
+
+  product-fits : (a b : ℤ) → R (multiply-integers a b)
+  unfolding multiply-integers
+  product-fits a b = checked-fits (a *ℤ b)
+
   quotient-fits : (a b : ℤ) → R (divide-integers a b)
   unfolding divide-integers
   quotient-fits a (pos zero) = tt
@@ -151,6 +172,8 @@ module _ (text : List ℕ) (bytes : ℕ) where
   binary-fits (function LessThan) v w = compared-fits is-less v w
   binary-fits (function Add) v w = arithmetic-fits add-integers (Ieee.add binary64) sum-fits (add-fits binary64) v w
   binary-fits (function Divide) v w = arithmetic-fits divide-integers (Ieee.div binary64) quotient-fits (div-fits binary64) v w
+  binary-fits (function Subtract) v w = arithmetic-fits subtract-integers (Ieee.sub binary64) difference-fits (sub-fits binary64) v w
+  binary-fits (function Multiply) v w = arithmetic-fits multiply-integers (Ieee.mul binary64) product-fits (mul-fits binary64) v w
 
   -- A column outside the row counts as Null.
   pub evaluate-fits : (C : ℕ → Type 0) (e : Expression) → Made-of (Value-fits text bytes) C e → Valued (Value-fits text bytes) (evaluate [] e)

@@ -8,7 +8,7 @@ use lib.ListN.{getD}
 use Rattle.value.specs.Value.{Value, datum, float, the-nan, null, Result, ok, err}
 use Rattle.value.specs.Logic.{logical-and, logical-or, logical-not}
 use Rattle.value.specs.Comparison.{equal, greater-than, less-than}
-use Rattle.value.specs.Arithmetic.{checked-add, checked-div, identity, negate}
+use Rattle.value.specs.Arithmetic.{checked-add, checked-sub, checked-mul, checked-div, identity, negate, square-root}
 use Rattle.value.specs.Undefined.{is-null, is-nan, is-undefined}
 
 -- ---- The Rust's Expression. Operators are grouped by how they treat Null and by their operands, so that a definition takes few clauses.
@@ -18,11 +18,11 @@ pub data Logical : Type 0 where
 
 -- operators on one value that hand Null through or test it
 pub data Function1 : Type 0 where
-  IsNull IsNaN Identity Negate : Function1
+  IsNull IsNaN Identity Negate SquareRoot : Function1
 
 -- operators on two values, apart from Equal, that hand Null through
 pub data Function2 : Type 0 where
-  GreaterThan LessThan Add Divide : Function2
+  GreaterThan LessThan Add Divide Subtract Multiply : Function2
 
 pub data Unary : Type 0 where
   Not : Unary
@@ -84,6 +84,7 @@ evaluate-unary (function IsNull) v = is-null v
 evaluate-unary (function IsNaN) v = is-nan v
 evaluate-unary (function Identity) v = identity v
 evaluate-unary (function Negate) v = negate v
+evaluate-unary (function SquareRoot) v = square-root v
 
 abbrev pub evaluate-binary : Binary → Value → Value → Result Value
 evaluate-binary (logical And) v w = logical-and v w
@@ -93,6 +94,8 @@ evaluate-binary (function GreaterThan) v w = greater-than v w
 evaluate-binary (function LessThan) v w = less-than v w
 evaluate-binary (function Add) v w = checked-add v w
 evaluate-binary (function Divide) v w = checked-div v w
+evaluate-binary (function Subtract) v w = checked-sub v w
+evaluate-binary (function Multiply) v w = checked-mul v w
 
 -- Both operands are evaluated, the left one first. A plan in scope has no column outside its row; such a one would be Null.
 abbrev pub evaluate : Row → Expression → Result Value
@@ -247,6 +250,7 @@ is-function-lookup IsNull x = is-column x
 is-function-lookup IsNaN x = is-column x
 is-function-lookup Identity x = none
 is-function-lookup Negate x = none
+is-function-lookup SquareRoot x = none
 
 abbrev pub same-column : Option ℕ → Option ℕ → Option ℕ
 same-column none d = none
@@ -278,6 +282,7 @@ into-column-values (unary og (function IsNull) x) = (null, og) ∷ []
 into-column-values (unary og (function IsNaN) x) = (datum (float the-nan), og) ∷ []
 into-column-values (unary og (function Identity) x) = []
 into-column-values (unary og (function Negate) x) = []
+into-column-values (unary og (function SquareRoot) x) = []
 into-column-values (binary og (logical o) l r) = into-column-values l ++ into-column-values r
 into-column-values (binary og Equal l r) = equal-values (is-constant l) ++ equal-values (is-constant r)
 into-column-values (binary og (function f) l r) = []

@@ -209,11 +209,11 @@ leaf-reduces k {a} {height} {sort} h l s =
     }
 
 -- an operator of two operands, by its tag
-pub binary-reduces : (k : Cell) {a : List ℕ} {height : ℕ} {r : Found} {after : List ℕ} → 10 ≤ k .tag → k .tag < 17 → Operates a height r after
+pub binary-reduces : (k : Cell) {a : List ℕ} {height : ℕ} {r : Found} {after : List ℕ} → 10 ≤ k .tag → k .tag < 19 → Operates a height r after
     → Reduces a height k r after
 binary-reduces k {a} {height} h i o =
-    let asked = asked-by {tag = k .tag} {flag = k .flag} {a = k .a} {b = k .b} {c = k .c} (parts-only Sort.expression 2) 10 7 (λ text origin. refl) h (omega arith) (omega arith) refl in
-    let sort = sorted-by {tag = k .tag} (λ t. Sort.expression) 10 7 (λ text x. refl) h (omega arith) (omega arith) in
+    let asked = asked-by {tag = k .tag} {flag = k .flag} {a = k .a} {b = k .b} {c = k .c} (parts-only Sort.expression 2) 10 9 (λ text origin. refl) h (omega arith) (omega arith) refl in
+    let sort = sorted-by {tag = k .tag} (λ t. Sort.expression) 10 9 (λ text x. refl) h (omega arith) (omega arith) in
     record { is = λ text. o .is ∙ of-content k asked text (stacked a height) (sort .is text (as-cell k) refl) }
 
 module _ {a : List ℕ} {height : ℕ} where

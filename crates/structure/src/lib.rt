@@ -81,7 +81,7 @@ fn reduced_binary(stack: &mut [u8], height: usize) -> Found
     Found::At(height - 1)
 }
 
-// The height after a cell. Most are leaves, of tags below 10, or operators of two operands, from 10 And to 16 Divide: what these take off isn't asked for.
+// The height after a cell. Most are leaves, of tags below 10, or operators of two operands, from 10 And to 18 Multiply: what these take off isn't asked for.
 fn reduced(stack: &mut [u8], height: usize, k: layout::Cell) -> Found
     requires { ⌜ height < length (now stack) ⌝ }
     ensures { λ r. ⌜ Reduces (now (stack .entry)) height k r (now (stack .exit)) ⌝ }
@@ -90,7 +90,7 @@ fn reduced(stack: &mut [u8], height: usize, k: layout::Cell) -> Found
         stack[height] = arity::sort_of(k.tag) as u8;
         return Found::At(height + 1);
     }
-    if k.tag < tags::SUBTRACT {
+    if k.tag < tags::EXPONENTIATE {
         return reduced_binary(stack, height);
     }
     reduced_any(stack, height, k)

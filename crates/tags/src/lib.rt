@@ -13,7 +13,7 @@ pub const STRING: u32 = 5;
 
 pub const COLUMN: u32 = 6;
 
-// The operators of two operands have the tags from here up to BINARY_END. Those from SUBTRACT on are known and not carried over.
+// The operators of two operands have the tags from here up to BINARY_END. Those from EXPONENTIATE on are known and not carried over.
 pub const BINARY: u32 = 10;
 
 pub const AND: u32 = 10;
@@ -32,9 +32,13 @@ pub const DIVIDE: u32 = 16;
 
 pub const SUBTRACT: u32 = 17;
 
+pub const MULTIPLY: u32 = 18;
+
+pub const EXPONENTIATE: u32 = 19;
+
 pub const BINARY_END: u32 = 22;
 
-// The operators of one operand have the tags from here up to UNARY_END. Those from FACTORIAL on are known and not carried over.
+// The operators of one operand have the tags from here up to UNARY_END. FACTORIAL is known and not carried over.
 pub const UNARY: u32 = 30;
 
 pub const NOT: u32 = 30;
@@ -48,6 +52,8 @@ pub const IDENTITY: u32 = 33;
 pub const NEGATE: u32 = 34;
 
 pub const FACTORIAL: u32 = 35;
+
+pub const SQUARE_ROOT: u32 = 36;
 
 pub const UNARY_END: u32 = 37;
 

@@ -1,6 +1,6 @@
 -- The examples of float results, computed: what `evaluate` gives, and apart from that, by whole numbers, that IEEE 754 asks for it.
 use Prim.Native.Nat.{ℕ, suc, _+_, _-_, _*_, _%_, _≤_, _<_}
-use native.Mathlib.Nat.{le-of-eq, eq-or-lt-of-le, mul-le-mul-right, mul-lt-mul-of-pos-right}
+use native.Mathlib.Nat.{le-refl, le-of-eq, lt-of-le-of-lt, lt-of-lt-of-le, add-le-add, eq-or-lt-of-le, mul-le-mul-right, mul-lt-mul-of-pos-right}
 use native.Mathlib.Omega.{arith}
 use mathlib.Core.Bool.{Bool, true, false, _&&_, _||_, Bool·beq}
 use mathlib.Core.List.{List, [], _∷_, map}
@@ -12,10 +12,11 @@ use borrow.Author.Tests.{ltb-true, leb-true, eqb-true, ne-eqb}
 use Rattle.rows.specs.Equalities.{all}
 use Rattle.value.specs.Comparison.{compare-floats}
 use Rattle.ieee754.specs.Ieee754 as Ieee754
-use Rattle.ieee754.specs.Ieee754.{infinity, units, distance, with-sign, without-sign, exactly, rounded, Is, read, sum, quotient, negation, of-integer}
+use Rattle.ieee754.specs.Ieee754.{infinity, units, distance, square, root-bits, with-sign, without-sign, exactly, rounded, root-of, Is, read, sum, difference, product, quotient, square-root, negation, of-integer}
 use Rattle.ieee754.proofs.Units.{lt-or-le, units-lt, units-le}
+use Rattle.ieee754.proofs.Root.{square-le, encloses-nearest}
 use Rattle.sheet_laws.specs.Content.{and-left, and-right}
-use Rattle.theorems.specs.FloatExamples.{Operand, float, integer, pattern, Example, add, divide, negate, equal, greater, less, given, stated, Taken, Asked, All, examples}
+use Rattle.theorems.specs.FloatExamples.{Operand, float, integer, pattern, Example, add, subtract, multiply, divide, root, negate, equal, greater, less, given, stated, Taken, Asked, All, examples}
 
 -- ======== A test for what is asked for
 
@@ -81,12 +82,27 @@ module _ (n d p : ℕ) (test : is-nearest n d p ≡ true) where
     ];
   }
 
+-- the root of n is between the middles of the pattern p with its neighbours
+abbrev is-nearest-root : (n p : ℕ) → Bool
+is-nearest-root n p = leb p infinity && (ltb (square (units (p - 1) + units p)) (4 * n) && ltb (4 * n) (square (units p + units (suc p))))
+
+root-by-test : (n p : ℕ) → is-nearest-root n p ≡ true → Ieee754.Nearest-root n p
+root-by-test n p h = encloses-nearest n p (leb-true p infinity (and-left (leb p infinity) _ h)) (record {
+  low = λ q l. lt-of-le-of-lt (square-le (add-le-add (units-le q (p - 1) (omega arith)) (le-refl (units p)))) (ltb-true _ _ (and-left (ltb (square (units (p - 1) + units p)) (4 * n)) _ sides));
+  high = λ q l. lt-of-lt-of-le (ltb-true _ _ (and-right (ltb (square (units (p - 1) + units p)) (4 * n)) _ sides)) (square-le (add-le-add (le-refl (units p)) (units-le (suc p) q l)));
+})
+  where
+    sides : (ltb (square (units (p - 1) + units p)) (4 * n) && ltb (4 * n) (square (units p + units (suc p)))) ≡ true
+    sides = and-right (leb p infinity) _ h
+
 abbrev is : Ieee754.Result → ℕ → Bool
 is (exactly p) r = eqb r p
+is (root-of n) r = is-nearest-root n r
 is (rounded s n d) r = is-nearest n d (without-sign r) && eqb r (with-sign s (without-sign r))
 
 is-by-test : (asked : Ieee754.Result) (r : ℕ) → is asked r ≡ true → Is asked r
 is-by-test (exactly p) r h = eqb-true r p h
+is-by-test (root-of n) r h = root-by-test n r h
 is-by-test (rounded s n d) r h = record {
   pattern = without-sign r;
   nearest = nearest-by-test n d (without-sign r) (and-left (is-nearest n d (without-sign r)) _ h);
@@ -101,6 +117,9 @@ taken (integer i x) = is (of-integer i) x
 
 abbrev asked : Example → Bool
 asked (add v w r) = (taken v && taken w) && is (sum (read (pattern v)) (read (pattern w))) r
+asked (subtract v w r) = (taken v && taken w) && is (difference (read (pattern v)) (read (pattern w))) r
+asked (multiply v w r) = (taken v && taken w) && is (product (read (pattern v)) (read (pattern w))) r
+asked (root v r) = taken v && is (square-root (read (pattern v))) r
 asked (divide v w r) = (taken v && taken w) && is (quotient (read (pattern v)) (read (pattern w))) r
 asked (negate x r) = is (negation x) r
 asked (equal v w r) = (taken v && taken w) && Bool·beq (Ieee754.equal (read (pattern v)) (read (pattern w))) r
@@ -125,6 +144,9 @@ same false true h = h
 
 asked-by-test : (e : Example) → asked e ≡ true → Asked e
 asked-by-test (add v w r) h = both-and v w _ (is-by-test (sum (read (pattern v)) (read (pattern w))) r) h
+asked-by-test (subtract v w r) h = both-and v w _ (is-by-test (difference (read (pattern v)) (read (pattern w))) r) h
+asked-by-test (multiply v w r) h = both-and v w _ (is-by-test (product (read (pattern v)) (read (pattern w))) r) h
+asked-by-test (root v r) h = (operand-by-test v (and-left (taken v) _ h), is-by-test (square-root (read (pattern v))) r (and-right (taken v) _ h))
 asked-by-test (divide v w r) h = both-and v w _ (is-by-test (quotient (read (pattern v)) (read (pattern w))) r) h
 asked-by-test (negate x r) h = is-by-test (negation x) r h
 asked-by-test (equal v w r) h = both-and v w _ (same (Ieee754.equal (read (pattern v)) (read (pattern w))) r) h
@@ -138,7 +160,7 @@ all-by-test (e ∷ l) h = (asked-by-test e (and-left (asked e) (all asked l) h),
 -- ======== Both sides
 
 pub examples-given : map given examples ≡ map stated examples
-unfolding examples compare-floats Ieee.ofInt Ieee.ofBits Ieee.toBits Ieee.add Ieee.div Ieee.neg Ieee.eq Ieee.lt
+unfolding examples compare-floats Ieee.ofInt Ieee.ofBits Ieee.toBits Ieee.add Ieee.sub Ieee.mul Ieee.div Ieee.neg Ieee.eq Ieee.lt read units root-bits
 examples-given = refl
 
 pub examples-asked : All Asked examples

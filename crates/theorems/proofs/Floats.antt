@@ -5,7 +5,8 @@ use native.Mathlib.Nat.{le-refl, zero-lt-suc}
 use mathlib.Core.Path.{_≡_, refl, sym, ap, ap₂, _∙_, subst}
 use mathlib.Core.Bool.{Bool, true, false, _||_, Bool·beq, cond}
 use lib.Dec.{ltb}
-use lib.IntN.{ℤ}
+use lib.IntN.{ℤ, pos}
+use lib.Pow.{pow-pos}
 use lib.Ieee as Ieee
 use lib.Ieee.{binary64, ofBits, toBits, ofInt}
 use Rattle.value.specs.Value.{Value, boolean, Result, ok}
@@ -13,13 +14,14 @@ use Rattle.value.specs.Arithmetic.{written}
 use Rattle.value.specs.Comparison.{Comparison, Found, compare-floats, compare, answer, is-equal, is-greater, is-less}
 use Rattle.value.proofs.Comparison.{by-tests, is-unordered, equal-floats, less-floats, greater-floats, unordered-floats}
 use Rattle.value.proofs.ComparisonLaws.{less-where, equal-where, greater-where, unordered-where}
-use Rattle.sql.specs.Expression.{Binary, function, Equal, GreaterThan, LessThan, Add, Divide, evaluate-binary}
+use Rattle.sql.specs.Expression.{Binary, function, Equal, GreaterThan, LessThan, Add, Divide, Subtract, Multiply, SquareRoot, evaluate-unary, evaluate-binary}
 use Rattle.ieee754.specs.Ieee754 as Ieee754
-use Rattle.ieee754.specs.Ieee754.{exactly, rounded, Double, nan, infinite, finite, read, Is, infinity, without-sign, unlike, sum, quotient-of, quotient, negation, of-integer}
+use Rattle.ieee754.specs.Ieee754.{exactly, rounded, root-of, Double, nan, infinite, finite, read, Is, infinity, without-sign, unlike, sum, opposite, difference, infinite-times, product, quotient-of, quotient, square-root, square-root-bits, negation, of-integer}
 use Rattle.ieee754.proofs.Nearest.{rounded-unique}
+use Rattle.ieee754.proofs.Root.{nearest-root-unique}
 use Rattle.ieee754.proofs.Reading.{Stands, a-nan, an-infinity, a-number, reads}
 use Rattle.ieee754.proofs.Conversion.{converted}
-use Rattle.ieee754.proofs.Agreement.{add-is-sum, div-is-quotient, neg-is-negation, ofInt-is-integer, lt-is-less, eq-is-equal}
+use Rattle.ieee754.proofs.Agreement.{add-is-sum, sub-is-difference, mul-is-product, div-is-quotient, square-root-is-asked, neg-is-negation, ofInt-is-integer, lt-is-less, eq-is-equal}
 use Rattle.theorems.specs.Floats.{Integer, Float, Exactly-one, Gives, Says, is-nan, Relation, Pairs, Float-results}
 
 -- ======== What is asked for is one pattern
@@ -28,10 +30,12 @@ use Rattle.theorems.specs.Floats.{Integer, Float, Exactly-one, Gives, Sa
 abbrev Proper : Ieee754.Result → Type 0
 Proper (exactly p) = Unit {0}
 Proper (rounded s n d) = 0 < d
+Proper (root-of n) = Unit {0}
 
 only : (asked : Ieee754.Result) → Proper asked → (p q : ℕ) → Is asked p → Is asked q → p ≡ q
 only (exactly r) h p q a b = a ∙ sym b
 only (rounded s n d) h p q a b = rounded-unique s n d p q h a b
+only (root-of n) h p q a b = nearest-root-unique n p q a b
 
 module _ (asked : Ieee754.Result) (proper : Proper asked) (p : ℕ) (right : Is asked p) where
   one-pattern : Exactly-one asked
@@ -53,6 +57,27 @@ sum-proper (infinite s) (finite t v) = tt
 sum-proper (finite s u) nan = tt
 sum-proper (finite s u) (infinite t) = tt
 sum-proper (finite s u) (finite t v) = le-refl 1
+
+infinite-times-proper : (s : Bool) (u : ℕ) → Proper (infinite-times s u)
+infinite-times-proper s zero = tt
+infinite-times-proper s (suc u) = tt
+
+product-proper : (a b : Double) → Proper (product a b)
+product-proper nan b = tt
+product-proper (infinite s) nan = tt
+product-proper (infinite s) (infinite t) = tt
+product-proper (infinite s) (finite t v) = infinite-times-proper (unlike s t) v
+product-proper (finite s u) nan = tt
+product-proper (finite s u) (infinite t) = infinite-times-proper (unlike s t) u
+product-proper (finite s u) (finite t v) = pow-pos 1074
+
+square-root-proper : (a : Double) → Proper (square-root a)
+square-root-proper nan = tt
+square-root-proper (infinite false) = tt
+square-root-proper (infinite true) = tt
+square-root-proper (finite s zero) = tt
+square-root-proper (finite false (suc u)) = tt
+square-root-proper (finite true (suc u)) = tt
 
 quotient-of-proper : (s : Bool) (u v : ℕ) → Proper (quotient-of s u v)
 quotient-of-proper s zero zero = tt
@@ -135,6 +160,14 @@ related x y = let c = Found (compare-floats (double x) (double y)) in record {
   unordered = unordered-where c _ (unordered-at x y);
 }
 
+-- a root, worked out
+rooted : (x : ℕ) → Gives (square-root (read x)) (ok (Float (square-root-bits x)))
+rooted x = gives (square-root (read x)) (square-root-proper (read x)) (square-root-bits x) (square-root-is-asked x)
+
+root-of-rounded : (n x : ℕ) → Is (of-integer (pos n)) x → Gives (square-root (read x)) (evaluate-unary (function SquareRoot) (Integer (pos n)))
+root-of-rounded n x h =
+    subst (λ y. Gives (square-root (read x)) (ok (Float (square-root-bits y)))) (only (of-integer (pos n)) (le-refl 1) x (toBits binary64 (ofInt binary64 (pos n))) h (ofInt-is-integer (pos n))) (rooted x)
+
 -- ======== The statement
 
 pub float-results : Float-results
@@ -144,10 +177,18 @@ float-results = record {
   add = pairs (evaluate-binary (function Add)) (λ x y. written (Ieee.add binary64 x y)) (λ a b. Gives (sum a b))
       (record { float-float = λ x y. refl; integer-float = λ i y. refl; float-integer = λ x j. refl })
       (λ x y. gives (sum (read x) (read y)) (sum-proper (read x) (read y)) _ (add-is-sum x y));
+  subtract = pairs (evaluate-binary (function Subtract)) (λ x y. written (Ieee.sub binary64 x y)) (λ a b. Gives (difference a b))
+      (record { float-float = λ x y. refl; integer-float = λ i y. refl; float-integer = λ x j. refl })
+      (λ x y. gives (difference (read x) (read y)) (sum-proper (read x) (opposite (read y))) _ (sub-is-difference x y));
+  multiply = pairs (evaluate-binary (function Multiply)) (λ x y. written (Ieee.mul binary64 x y)) (λ a b. Gives (product a b))
+      (record { float-float = λ x y. refl; integer-float = λ i y. refl; float-integer = λ x j. refl })
+      (λ x y. gives (product (read x) (read y)) (product-proper (read x) (read y)) _ (mul-is-product x y));
   divide = pairs (evaluate-binary (function Divide)) (λ x y. written (Ieee.div binary64 x y)) (λ a b. Gives (quotient a b))
       (record { float-float = λ x y. refl; integer-float = λ i y. refl; float-integer = λ x j. refl })
       (λ x y. gives (quotient (read x) (read y)) (quotient-proper (read x) (read y)) _ (div-is-quotient x y));
   negate = λ x. gives (negation x) (either (ltb infinity (without-sign x)) _ _) _ (neg-is-negation x);
+  square-root = rooted;
+  root-of-integer = root-of-rounded;
   comparison = pairs compare (λ x y. Found (compare-floats x y)) Relation
       (record { float-float = λ x y. refl; integer-float = λ i y. refl; float-integer = λ x j. refl }) related;
   equal = compared Equal is-equal (λ a b. Ieee754.equal a b)

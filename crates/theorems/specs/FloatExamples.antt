@@ -6,9 +6,9 @@ use mathlib.Core.List.{List, [], _∷_}
 use mathlib.Core.Path.{_≡_}
 use lib.IntN.{ℤ, pos, negsuc}
 use Rattle.value.specs.Value.{Value, the-nan, boolean, Result, ok}
-use Rattle.sql.specs.Expression.{function, Negate, Equal, GreaterThan, LessThan, Add, Divide, evaluate-unary, evaluate-binary}
+use Rattle.sql.specs.Expression.{function, Negate, SquareRoot, Equal, GreaterThan, LessThan, Add, Divide, Subtract, Multiply, evaluate-unary, evaluate-binary}
 use Rattle.ieee754.specs.Ieee754 as Ieee754
-use Rattle.ieee754.specs.Ieee754.{Is, read, sum, quotient, negation, of-integer}
+use Rattle.ieee754.specs.Ieee754.{Is, read, sum, difference, product, quotient, square-root, negation, of-integer}
 use Rattle.theorems.specs.Floats.{Integer, Float}
 
 -- A Float by its pattern, or an Integer with the pattern of the double nearest to it.
@@ -26,13 +26,17 @@ pattern (integer i x) = x
 
 -- an operator's operands and its result
 pub data Example : Type 0 where
-  add divide : Operand → Operand → (r : ℕ) → Example
+  add subtract multiply divide : Operand → Operand → (r : ℕ) → Example
+  root : Operand → (r : ℕ) → Example
   negate : (x r : ℕ) → Example
   equal greater less : Operand → Operand → (r : Bool) → Example
 
 -- what `evaluate` gives, and what is stated
 abbrev pub given : Example → Result Value
 given (add v w r) = evaluate-binary (function Add) (value v) (value w)
+given (subtract v w r) = evaluate-binary (function Subtract) (value v) (value w)
+given (multiply v w r) = evaluate-binary (function Multiply) (value v) (value w)
+given (root v r) = evaluate-unary (function SquareRoot) (value v)
 given (divide v w r) = evaluate-binary (function Divide) (value v) (value w)
 given (negate x r) = evaluate-unary (function Negate) (Float x)
 given (equal v w r) = evaluate-binary Equal (value v) (value w)
@@ -41,6 +45,9 @@ given (less v w r) = evaluate-binary (function LessThan) (value v) (value w)
 
 abbrev pub stated : Example → Result Value
 stated (add v w r) = ok (Float r)
+stated (subtract v w r) = ok (Float r)
+stated (multiply v w r) = ok (Float r)
+stated (root v r) = ok (Float r)
 stated (divide v w r) = ok (Float r)
 stated (negate x r) = ok (Float r)
 stated (equal v w r) = ok (boolean r)
@@ -54,6 +61,9 @@ Taken (integer i x) = Is (of-integer i) x
 
 abbrev pub Asked : Example → Type 0
 Asked (add v w r) = Taken v × Taken w × Is (sum (read (pattern v)) (read (pattern w))) r
+Asked (subtract v w r) = Taken v × Taken w × Is (difference (read (pattern v)) (read (pattern w))) r
+Asked (multiply v w r) = Taken v × Taken w × Is (product (read (pattern v)) (read (pattern w))) r
+Asked (root v r) = Taken v × Is (square-root (read (pattern v))) r
 Asked (divide v w r) = Taken v × Taken w × Is (quotient (read (pattern v)) (read (pattern w))) r
 Asked (negate x r) = Is (negation x) r
 Asked (equal v w r) = Taken v × Taken w × (Ieee754.equal (read (pattern v)) (read (pattern w)) ≡ r)
@@ -118,6 +128,29 @@ examples =
     ∷ divide (float one) (integer (pos 3) 0x4008000000000000) 0x3FD5555555555555
     ∷ divide (integer (pos 1) one) (float minus-infinity) minus-zero
     ∷ divide (float 1) (integer (pos 2) 0x4000000000000000) 0
+    -- 0.3 - 0.1 is 0.19999999999999998; 2 ^ 53 + 1 is rounded first; 0.0 - 0 and -0.0 - 0; infinity - infinity
+    ∷ subtract (float 0x3FD3333333333333) (float 0x3FB999999999999A) 0x3FC9999999999999
+    ∷ subtract (integer (pos (2 ^ 53 + 1)) two-to-53) (float two-to-53) 0
+    ∷ subtract (float 0) (integer (pos 0) 0) 0
+    ∷ subtract (float minus-zero) (integer (pos 0) 0) minus-zero
+    ∷ subtract (float infinity) (float infinity) the-nan
+    -- 0.1 * 0.1 is 0.010000000000000002; 0 * -1.0 and 0 * infinity; an overflow, and half of the smallest double, a tie
+    ∷ multiply (float 0x3FB999999999999A) (float 0x3FB999999999999A) 0x3F847AE147AE147C
+    ∷ multiply (integer (pos 0) 0) (float 0xBFF0000000000000) minus-zero
+    ∷ multiply (integer (pos 0) 0) (float infinity) the-nan
+    ∷ multiply (float largest) (integer (pos 2) 0x4000000000000000) infinity
+    ∷ multiply (float 1) (float 0x3FE0000000000000) 0
+    -- roots: of 2, of 9007199254741001, which is rounded first, of the smallest double and of the largest, of 0, -0.0, -1.0, the infinities and a NaN
+    ∷ root (integer (pos 2) 0x4000000000000000) 0x3FF6A09E667F3BCD
+    ∷ root (integer (pos 9007199254741001) 0x4340000000000004) 0x4196A09E667F3BCF
+    ∷ root (float 1) 0x1E60000000000000
+    ∷ root (float largest) 0x5FEFFFFFFFFFFFFF
+    ∷ root (integer (pos 0) 0) 0
+    ∷ root (float minus-zero) minus-zero
+    ∷ root (float 0xBFF0000000000000) the-nan
+    ∷ root (float infinity) infinity
+    ∷ root (float minus-infinity) the-nan
+    ∷ root (float other-nan) the-nan
     ∷ negate 0 minus-zero
     ∷ negate other-nan the-nan
     -- 9007199254740993 = 9007199254740992.0, and the largest Integer is rounded to 2 ^ 63

@@ -1,12 +1,12 @@
 -- Float results are IEEE 754's: `Float-results` says so, in a line for each operator that works out a result from a Float, at every operand. It is proved in
 -- proofs/Floats.antt, as `float-results`; examples are in FloatExamples.antt.
 --
--- A line has an operator as `evaluate` applies it (crate sql, Expression.antt; in crate value these are `checked-add`, `checked-div`, `negate`, `equal`,
--- `greater-than`, `less-than` and `is-nan`), or the one comparison (crate value, Comparison.antt: `compare`), and what IEEE 754's binary64 says of its result, by whole numbers alone (crate ieee754, Ieee754.antt):
+-- A line has an operator as `evaluate` applies it (crate sql, Expression.antt; in crate value these are `checked-add`, `checked-sub`, `checked-mul`,
+-- `checked-div`, `negate`, `square-root`, `equal`, `greater-than`, `less-than` and `is-nan`), or the one comparison (crate value, Comparison.antt: `compare`), and what IEEE 754's binary64 says of its result, by whole numbers alone (crate ieee754, Ieee754.antt):
 --
 -- read x        what the 64-bit pattern x stands for: a NaN, an infinity, or a sign and a number of units of 2 ^ -1074
--- sum a b, quotient a b, negation x, of-integer i
---               what is asked for: one pattern, or the double nearest to a fraction of units, ties to even
+-- sum a b, difference a b, product a b, quotient a b, square-root a, negation x, of-integer i
+--               what is asked for: one pattern, or the double nearest to a fraction of units, or to the root of a whole number of units, ties to even
 -- Is asked p    p is the pattern that is asked for
 -- equal a b, less a b
 --               whether the doubles a and b are equal, and whether a is less
@@ -14,21 +14,21 @@
 -- Nothing is asked of the patterns x and y. So every NaN, the infinities, the zeros of both signs and the subnormal numbers are among the operands, and among the
 -- results each overflow, each underflow, each division by zero and each one that is no number.
 --
--- Covered are a Float with a Float, an Integer with a Float, a Float with an Integer, and a Float alone. What other operands give is no matter of IEEE 754, and
--- crate value defines it outright: two Integers are added, divided and compared exactly, and one is negated so (Arithmetic.antt: `add-integers`,
--- `divide-integers`, `checked`; Comparison.antt: `compare-integers`); Null, Booleans and Strings are in the same two files, the truth tables in Tables.antt.
+-- Covered are a Float with a Float, an Integer with a Float, a Float with an Integer, a Float alone, and the root of an Integer. What other operands give is no matter of IEEE 754, and
+-- crate value defines it outright: two Integers are added, subtracted, multiplied, divided and compared exactly, and one is negated so (Arithmetic.antt: `add-integers`,
+-- `subtract-integers`, `multiply-integers`, `divide-integers`, `checked`; Comparison.antt: `compare-integers`), and one below zero has no root (`root-of-integer`); Null, Booleans and Strings are in the same two files, the truth tables in Tables.antt.
 -- Identity hands a Float back with its pattern.
 use Prim.Native.Nat.{ℕ}
 use mathlib.Core.Bool.{Bool, true, false, _||_}
 use mathlib.Core.Path.{_≡_}
 use mathlib.Core.Logic.{_↔_}
-use lib.IntN.{ℤ}
+use lib.IntN.{ℤ, pos}
 use Rattle.value.specs.Value.{Value, datum, integer, float, boolean, Result, ok}
 use Rattle.value.specs.Comparison.{Comparison, Found, Unordered, compare}
 use Rattle.value.specs.ComparisonLaws.{Finds}
-use Rattle.sql.specs.Expression.{Unary, function, IsNaN, Negate, Equal, GreaterThan, LessThan, Add, Divide, evaluate-unary, evaluate-binary}
+use Rattle.sql.specs.Expression.{Unary, function, IsNaN, Negate, SquareRoot, Equal, GreaterThan, LessThan, Add, Divide, Subtract, Multiply, evaluate-unary, evaluate-binary}
 use Rattle.ieee754.specs.Ieee754 as Ieee754
-use Rattle.ieee754.specs.Ieee754.{Double, nan, infinite, finite, read, Is, quiet-nan, sum, quotient, negation, of-integer, less, equal}
+use Rattle.ieee754.specs.Ieee754.{Double, nan, infinite, finite, read, Is, quiet-nan, sum, difference, product, quotient, square-root, negation, of-integer, less, equal}
 
 -- ======== What is said of a result
 
@@ -86,9 +86,14 @@ pub record Float-results : Type 0 where
   -- what is asked for where a result is no number; IEEE 754 leaves open which NaN that is
   pub one-nan : quiet-nan ≡ 0x7FF8000000000000
   pub add : Pairs (evaluate-binary (function Add)) (λ a b. Gives (sum a b))
+  pub subtract : Pairs (evaluate-binary (function Subtract)) (λ a b. Gives (difference a b))
+  pub multiply : Pairs (evaluate-binary (function Multiply)) (λ a b. Gives (product a b))
   pub divide : Pairs (evaluate-binary (function Divide)) (λ a b. Gives (quotient a b))
   -- a NaN too gives the one pattern, where IEEE 754 would turn its sign's bit alone
   pub negate : Single (function Negate) (λ x. Gives (negation x))
+  -- of a Float, and of an Integer from zero up, which is rounded first
+  pub square-root : Single (function SquareRoot) (λ x. Gives (square-root (read x)))
+  pub root-of-integer : (n x : ℕ) → Is (of-integer (pos n)) x → Gives (Ieee754.square-root (read x)) (evaluate-unary (function SquareRoot) (Integer (pos n)))
   -- what the next three take their answer from
   pub comparison : Pairs compare Relation
   pub equal : Pairs (evaluate-binary Equal) (λ a b. Says (equal a b))

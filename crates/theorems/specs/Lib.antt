@@ -2,6 +2,7 @@ pub mod Sizes
 pub mod Theorems
 pub mod ShutOut
 pub mod Examples
+pub mod Rates
 pub mod Floats
 pub mod FloatExamples
 pub mod Instance

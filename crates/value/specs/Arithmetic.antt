@@ -1,11 +1,12 @@
--- value.rs: checked_add and checked_div; expression.rs, evaluate: Identity and Negate.
+-- value.rs: checked_add, checked_sub, checked_mul and checked_div; expression.rs, evaluate: Identity, Negate and SquareRoot.
 use Prim.Native.Nat.{ℕ, zero, suc, _^_}
 use mathlib.Core.Bool.{Bool, true, false, cond}
 use lib.Dec.{ltb}
-use lib.IntN.{ℤ, pos, negsuc, negℤ, _+ℤ_}
+use lib.IntN.{ℤ, pos, negsuc, negℤ, _+ℤ_, _-ℤ_, _*ℤ_}
 use lib.Signed.{mag, quotZ}
 use lib.Ieee as Ieee
 use lib.Ieee.{Float, binary64}
+use Rattle.ieee754.specs.Ieee754.{square-root-bits}
 use Rattle.value.specs.Value.{Truth, False, Unknown, True, Datum, integer, float, string, Value, truth, datum, null, Result, ok, err, overflow, division-by-zero, mismatch}
 use Rattle.value.specs.Comparison.{rounded, number-of}
 
@@ -20,6 +21,14 @@ written x = ok (datum (float (Ieee.toBits binary64 x)))
 unfoldable pub add-integers : ℤ → ℤ → Result Value
 unfolding checked
 add-integers a b = checked (a +ℤ b)
+
+unfoldable pub subtract-integers : ℤ → ℤ → Result Value
+unfolding checked
+subtract-integers a b = checked (a -ℤ b)
+
+unfoldable pub multiply-integers : ℤ → ℤ → Result Value
+unfolding checked
+multiply-integers a b = checked (a *ℤ b)
 
 -- The quotient is cut toward zero. The smallest Integer divided by −1 is an overflow.
 unfoldable pub divide-integers : ℤ → ℤ → Result Value
@@ -64,6 +73,12 @@ arithmetic whole double (datum f) (datum g) = of-data whole double f g
 abbrev pub checked-add : Value → Value → Result Value
 checked-add = arithmetic add-integers (Ieee.add binary64)
 
+abbrev pub checked-sub : Value → Value → Result Value
+checked-sub = arithmetic subtract-integers (Ieee.sub binary64)
+
+abbrev pub checked-mul : Value → Value → Result Value
+checked-mul = arithmetic multiply-integers (Ieee.mul binary64)
+
 abbrev pub checked-div : Value → Value → Result Value
 checked-div = arithmetic divide-integers (Ieee.div binary64)
 
@@ -87,3 +102,18 @@ negate (truth a) = of-truth a
 negate (datum (integer a)) = checked (negℤ a)
 negate (datum (float a)) = written (Ieee.neg (number-of a))
 negate (datum (string r t)) = err mismatch
+
+-- the root of the double with the pattern a: the double nearest to it, ties to even (crate ieee754, Ieee754.antt: `square-root`); a NaN below zero
+abbrev pub root-of-float : ℕ → Result Value
+root-of-float a = ok (datum (float (square-root-bits a)))
+
+-- An Integer is rounded first. One below zero doesn't fit.
+abbrev pub root-of-integer : ℤ → Result Value
+root-of-integer (pos n) = root-of-float (Ieee.toBits binary64 (rounded (pos n)))
+root-of-integer (negsuc n) = err mismatch
+
+abbrev pub square-root : Value → Result Value
+square-root (truth a) = of-truth a
+square-root (datum (integer a)) = root-of-integer a
+square-root (datum (float a)) = root-of-float a
+square-root (datum (string r t)) = err mismatch

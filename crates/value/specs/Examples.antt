@@ -9,7 +9,8 @@ use lib.Ieee as Ieee
 use Rattle.value.specs.Value.{Value, integer, float, string, the-nan, datum, null, boolean, Result, ok, err, overflow, division-by-zero, mismatch}
 use Rattle.value.specs.Logic.{logical-and, logical-or}
 use Rattle.value.specs.Comparison.{Comparison, Null, Found, Less, Equal, Greater, Unordered, NotComparable, compare-integers, compare-floats, compare-bytes, compare, equal, greater-than, less-than}
-use Rattle.value.specs.Arithmetic.{add-integers, divide-integers, checked-add, checked-div, negate, checked}
+use Rattle.ieee754.specs.Ieee754.{units, root-bits, read}
+use Rattle.value.specs.Arithmetic.{add-integers, subtract-integers, multiply-integers, divide-integers, checked-add, checked-sub, checked-mul, checked-div, negate, square-root, checked}
 
 abbrev Integer : ℤ → Value
 Integer i = datum (integer i)
@@ -53,6 +54,57 @@ smallest-over-minus-one = refl
 smallest-negated : negate (Integer smallest) ≡ err overflow
 unfolding smallest checked
 smallest-negated = refl
+
+-- 0 − MIN, −1 − MIN
+zero-less-smallest : checked-sub (Integer (pos 0)) (Integer smallest) ≡ err overflow
+unfolding smallest subtract-integers
+zero-less-smallest = refl
+
+minus-one-less-smallest : checked-sub (Integer (negsuc 0)) (Integer smallest) ≡ ok (Integer largest)
+unfolding smallest largest subtract-integers
+minus-one-less-smallest = refl
+
+smallest-times-minus-one : checked-mul (Integer smallest) (Integer (negsuc 0)) ≡ err overflow
+unfolding smallest multiply-integers
+smallest-times-minus-one = refl
+
+-- the largest Integer whose square is one, and the next; the smallest Integer as a product
+squares : map (λ i. checked-mul (Integer i) (Integer i)) (pos 3037000499 ∷ pos 3037000500 ∷ negsuc 3037000498 ∷ []) ≡
+    (ok (Integer (pos 9223372030926249001)) ∷ err overflow ∷ ok (Integer (pos 9223372030926249001)) ∷ [])
+unfolding multiply-integers
+squares = refl
+
+smallest-as-product : checked-mul (Integer (pos (2 ^ 32))) (Integer (negsuc (2 ^ 31 - 1))) ≡ ok (Integer smallest)
+unfolding smallest multiply-integers
+smallest-as-product = refl
+
+-- 0 × −1.0 is −0.0, and 0 × ∞ is NaN
+zero-times : map (checked-mul (Integer (pos 0))) (Float 0xBFF0000000000000 ∷ Float infinity ∷ []) ≡ (ok (Float (2 ^ 63)) ∷ ok (Float the-nan) ∷ [])
+unfolding infinity Ieee.ofInt Ieee.ofBits Ieee.mul Ieee.toBits
+zero-times = refl
+
+-- 0.0 − 0.0 and −0.0 − 0 are zeros of two signs
+zero-less-zero : map (λ x. checked-sub (Float x) (Integer (pos 0))) (0 ∷ 2 ^ 63 ∷ []) ≡ (ok (Float 0) ∷ ok (Float (2 ^ 63)) ∷ [])
+unfolding Ieee.ofInt Ieee.ofBits Ieee.sub Ieee.toBits
+zero-less-zero = refl
+
+null-times-string : checked-mul null (String []) ≡ err mismatch
+null-times-string = refl
+
+-- √2, √(2^53 + 9), of which the Integer is rounded first, √0, and an Integer below zero
+roots-of-integers : map (λ i. square-root (Integer i)) (pos 2 ∷ pos 9007199254741001 ∷ pos 0 ∷ negsuc 0 ∷ []) ≡
+    (ok (Float 0x3FF6A09E667F3BCD) ∷ ok (Float 0x4196A09E667F3BCF) ∷ ok (Float 0) ∷ err mismatch ∷ [])
+unfolding Ieee.ofInt Ieee.toBits read units root-bits
+roots-of-integers = refl
+
+-- of the smallest double, −0.0, −1, ∞ and −∞
+roots-of-floats : map (λ x. square-root (Float x)) (1 ∷ 2 ^ 63 ∷ 0xBFF0000000000000 ∷ infinity ∷ (2 ^ 63 + infinity) ∷ []) ≡
+    (ok (Float 0x1E60000000000000) ∷ ok (Float (2 ^ 63)) ∷ ok (Float the-nan) ∷ ok (Float infinity) ∷ ok (Float the-nan) ∷ [])
+unfolding infinity read units root-bits
+roots-of-floats = refl
+
+roots-of-others : map square-root (null ∷ boolean true ∷ String [] ∷ []) ≡ (ok null ∷ err mismatch ∷ err mismatch ∷ [])
+roots-of-others = refl
 
 -- −7 / 2 is −3
 cut-toward-zero : checked-div (Integer (negsuc 6)) (Integer (pos 2)) ≡ ok (Integer (negsuc 2))

@@ -76,11 +76,14 @@ fn evaluate(operator: u8, text: &[u8], lhs: Value, rhs: Value) -> Result {
         14 => comparison::less_than(text, lhs, rhs),
         15 => arithmetic::checked_add(lhs, rhs),
         16 => arithmetic::checked_div(lhs, rhs),
+        17 => arithmetic::checked_sub(lhs, rhs),
+        18 => arithmetic::checked_mul(lhs, rhs),
         30 => value::logic::not(lhs),
         31 => value::is_null(lhs),
         32 => value::is_nan(lhs),
         33 => arithmetic::identity(lhs),
         34 => arithmetic::negate(lhs),
+        36 => arithmetic::square_root(lhs),
         _ => Result::Ok(Value::String(0)),
     }
 }

@@ -5,7 +5,7 @@ use mathlib.Core.Path.{_≡_, refl, sym, ap, _∙_, subst}
 use mathlib.Core.List.{List, [], _∷_, _++_, append-assoc}
 use lib.ListN.{length, getD, length-append}
 use Rattle.value.specs.Value.{Truth, False, Unknown, True, Datum, integer, float, string, Value, truth, datum}
-use Rattle.sql.specs.Expression.{origin, Logical, And, Or, Function1, IsNull, IsNaN, Identity, Negate, Function2, GreaterThan, LessThan, Add, Divide, Unary, Not, function, Binary, logical, Equal, Expression, constant, column, unary, binary}
+use Rattle.sql.specs.Expression.{origin, Logical, And, Or, Function1, IsNull, IsNaN, Identity, Negate, SquareRoot, Function2, GreaterThan, LessThan, Add, Divide, Subtract, Multiply, Unary, Not, function, Binary, logical, Equal, Expression, constant, column, unary, binary}
 use Rattle.sheet.specs.Content.{Content, cell-of, constant-cell, column-cell, unary-cell, binary-cell, unary-tag, binary-tag}
 use Rattle.cells.specs.declared.Cell.{Cell}
 use Rattle.cells.specs.Cells.{cell-words, words, sized, cell-at, tag-at, origin-at, start-at, Part, Sized}
@@ -44,6 +44,7 @@ unary-range (function IsNull) = omega arith
 unary-range (function IsNaN) = omega arith
 unary-range (function Identity) = omega arith
 unary-range (function Negate) = omega arith
+unary-range (function SquareRoot) = omega arith
 
 pub binary-range : (o : Binary) → (10 ≤ binary-tag o) × (binary-tag o < 30)
 binary-range (logical And) = (omega arith, omega arith)
@@ -53,6 +54,8 @@ binary-range (function GreaterThan) = (omega arith, omega arith)
 binary-range (function LessThan) = (omega arith, omega arith)
 binary-range (function Add) = (omega arith, omega arith)
 binary-range (function Divide) = (omega arith, omega arith)
+binary-range (function Subtract) = (omega arith, omega arith)
+binary-range (function Multiply) = (omega arith, omega arith)
 
 -- An expression by the range that its root's tag lies in.
 module _ (P : Expression → Type 0) where
@@ -94,6 +97,7 @@ module _ (P : Unary → Type 0) where
   by-not f (function IsNaN) h = absurd (omega arith)
   by-not f (function Identity) h = absurd (omega arith)
   by-not f (function Negate) h = absurd (omega arith)
+  by-not f (function SquareRoot) h = absurd (omega arith)
 
 module _ (P : Binary → Type 0) where
   pub by-and : P (logical And) → (o : Binary) → binary-tag o ≡ 10 → P o
@@ -104,6 +108,8 @@ module _ (P : Binary → Type 0) where
   by-and f (function LessThan) h = absurd (omega arith)
   by-and f (function Add) h = absurd (omega arith)
   by-and f (function Divide) h = absurd (omega arith)
+  by-and f (function Subtract) h = absurd (omega arith)
+  by-and f (function Multiply) h = absurd (omega arith)
 
   pub by-or : P (logical Or) → (o : Binary) → binary-tag o ≡ 11 → P o
   by-or f (logical And) h = absurd (omega arith)
@@ -113,6 +119,8 @@ module _ (P : Binary → Type 0) where
   by-or f (function LessThan) h = absurd (omega arith)
   by-or f (function Add) h = absurd (omega arith)
   by-or f (function Divide) h = absurd (omega arith)
+  by-or f (function Subtract) h = absurd (omega arith)
+  by-or f (function Multiply) h = absurd (omega arith)
 
   pub by-equal : P Equal → (o : Binary) → binary-tag o ≡ 12 → P o
   by-equal f (logical And) h = absurd (omega arith)
@@ -122,6 +130,8 @@ module _ (P : Binary → Type 0) where
   by-equal f (function LessThan) h = absurd (omega arith)
   by-equal f (function Add) h = absurd (omega arith)
   by-equal f (function Divide) h = absurd (omega arith)
+  by-equal f (function Subtract) h = absurd (omega arith)
+  by-equal f (function Multiply) h = absurd (omega arith)
 
 -- ---- where an expression stands
 

@@ -141,8 +141,8 @@ fn distributed(e: &Expression) -> usize {
             let ors = p.saturating_mul(q);
             (2 * ors - 1).saturating_add(q.saturating_mul(sum(&ls))).saturating_add(p.saturating_mul(sum(&rs)))
         }
-        Not(x) | Is(x, _) | Identity(x) | Negate(x) => distributed(x).saturating_add(1),
-        And(l, r) | Equal(l, r) | GreaterThan(l, r) | LessThan(l, r) | Add(l, r) | Divide(l, r) => {
+        Not(x) | Is(x, _) | Identity(x) | Negate(x) | SquareRoot(x) => distributed(x).saturating_add(1),
+        And(l, r) | Equal(l, r) | GreaterThan(l, r) | LessThan(l, r) | Add(l, r) | Divide(l, r) | Subtract(l, r) | Multiply(l, r) => {
             distributed(l).saturating_add(distributed(r)).saturating_add(1)
         }
         other => unreachable!("not carried over: {other:?}"),

@@ -30,7 +30,7 @@ fn worst(counts: &mut Counts) {
             compare::compare(counts, &format!("{} Nots over {what}", n - 1), &e, &a);
         }
     }
-    for op in [tag::AND, tag::OR, tag::EQUAL, tag::ADD, tag::DIVIDE, tag::LESS_THAN] {
+    for op in [tag::AND, tag::OR, tag::EQUAL, tag::ADD, tag::DIVIDE, tag::SUBTRACT, tag::MULTIPLY, tag::LESS_THAN] {
         for to_left in [false, true] {
             let one = || con(Val::Int(1));
             let leaf: &dyn Fn() -> _ = if op == tag::AND || op == tag::OR || op == tag::EQUAL { &yes } else { &one };
@@ -42,7 +42,7 @@ fn worst(counts: &mut Counts) {
             compare::compare(counts, &format!("Not of tag {op} to the {side}"), &under, &a);
         }
     }
-    for op in [tag::IS_NULL, tag::IS_NAN, tag::IDENTITY, tag::NEGATE] {
+    for op in [tag::IS_NULL, tag::IS_NAN, tag::IDENTITY, tag::NEGATE, tag::SQUARE_ROOT] {
         compare::compare(counts, &format!("2,047 of tag {op} over a column"), &shapes::chain(op, 2048, col(0)), &a);
         compare::compare(counts, &format!("2,047 of tag {op} over 1"), &shapes::chain(op, 2048, con(Val::Int(1))), &a);
     }

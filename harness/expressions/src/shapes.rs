@@ -156,6 +156,7 @@ impl Maker {
                 (Kind::Truth, _) if self.rng.percent(70) => return one(tag::IS_NAN, if self.rng.percent(50) { self.constant(3) } else { self.column() }),
                 (Kind::Truth, _) => (tag::IS_NAN, Kind::Number),
                 (Kind::Number, 0..=4) => (tag::IDENTITY, Kind::Number),
+                (Kind::Number, 5) => (tag::SQUARE_ROOT, Kind::Number),
                 (Kind::Number, _) => (tag::NEGATE, Kind::Number),
             };
             return one(op, self.make(below, n - 1));
@@ -172,7 +173,9 @@ impl Maker {
                 let below = if self.rng.percent(70) { Kind::Number } else { Kind::Truth };
                 (self.rng.pick(&[tag::EQUAL, tag::GREATER_THAN, tag::LESS_THAN]), below)
             }
-            (Kind::Number, 0..=6) => (tag::ADD, Kind::Number),
+            (Kind::Number, 0..=4) => (tag::ADD, Kind::Number),
+            (Kind::Number, 5) => (tag::SUBTRACT, Kind::Number),
+            (Kind::Number, 6) => (tag::MULTIPLY, Kind::Number),
             (Kind::Number, _) => (tag::DIVIDE, Kind::Number),
         };
         let l = self.make(below, left);

@@ -4,7 +4,7 @@
 use std::rc::Rc;
 
 use harness::sql::types::{Expression, Value};
-use harness::tree::{self, Expr, NAN, Op, Val, tag, text_of};
+use harness::tree::{self, Expr, Op, Val, tag, text_of};
 
 /// The text that Strings refer to. References to equal text differ.
 pub const TEXT: &[u8] = "aababcabdXéz\u{20ac}".as_bytes();
@@ -69,7 +69,7 @@ fn of_value(v: &Value, words: &mut Vec<u32>) {
         Value::Boolean(b) => put(words, start, tag::BOOLEAN, *b as u32, 0),
         Value::Integer(i) => halves(words, tag::INTEGER, *i as u64),
         // A NaN has the one pattern (docs/DIFFERENCES.md).
-        Value::Float(f) => halves(words, tag::FLOAT, if f.is_nan() { NAN } else { f.to_bits() }),
+        Value::Float(f) => halves(words, tag::FLOAT, tree::pattern(*f)),
         Value::String(s) => put(words, start, tag::STRING, first_reference(s.as_bytes()), 0),
     }
 }
@@ -94,11 +94,14 @@ fn append(e: &Expression, words: &mut Vec<u32>) {
         LessThan(l, r) => (tag::LESS_THAN, l, Some(r)),
         Add(l, r) => (tag::ADD, l, Some(r)),
         Divide(l, r) => (tag::DIVIDE, l, Some(r)),
+        Subtract(l, r) => (tag::SUBTRACT, l, Some(r)),
+        Multiply(l, r) => (tag::MULTIPLY, l, Some(r)),
         Not(x) => (tag::NOT, x, None),
         Is(x, Value::Null) => (tag::IS_NULL, x, None),
         Is(x, _) => (tag::IS_NAN, x, None),
         Identity(x) => (tag::IDENTITY, x, None),
         Negate(x) => (tag::NEGATE, x, None),
+        SquareRoot(x) => (tag::SQUARE_ROOT, x, None),
         other => unreachable!("not carried over: {other:?}"),
     };
     append(l, words);
@@ -142,6 +145,7 @@ pub fn original(e: &Expr) -> Expression {
             tag::IS_NULL => Is(sub(x), Value::Null),
             tag::IS_NAN => Is(sub(x), Value::Float(f64::NAN)),
             tag::IDENTITY => Identity(sub(x)),
+            tag::SQUARE_ROOT => SquareRoot(sub(x)),
             _ => Negate(sub(x)),
         },
         Op::Two(op, l, r) => match *op {
@@ -151,6 +155,8 @@ pub fn original(e: &Expr) -> Expression {
             tag::GREATER_THAN => GreaterThan(sub(l), sub(r)),
             tag::LESS_THAN => LessThan(sub(l), sub(r)),
             tag::ADD => Add(sub(l), sub(r)),
+            tag::SUBTRACT => Subtract(sub(l), sub(r)),
+            tag::MULTIPLY => Multiply(sub(l), sub(r)),
             _ => Divide(sub(l), sub(r)),
         },
     }

@@ -28,7 +28,7 @@ impl Refusal {
             10 => "two Targets of one Remap have the same number",
             11 => "folding gives an Integer outside 64 bits",
             12 => "folding divides an Integer by the Integer 0",
-            13 => "folding meets operands of kinds that don't fit the operator",
+            13 => "folding meets operands that don't fit the operator: their kinds, or an Integer below 0 under a root",
             14 => "there is no room: a plan on the way, or a normal form, has over 2,048 cells",
             15 => "the output is shorter than the result",
             21 => "the edition asked for is neither 1 nor 2, or is the sheet's own",

@@ -48,7 +48,7 @@ fn places_in_words() {
     assert!(said("refused-3").ends_with(": the edition is neither 1 nor 2"));
     assert!(said("refused-6").ends_with(": cell 1 (Filter)"));
     assert!(said("refused-6-origin").ends_with(": cell 1 (Limit): bytes 2 and 3 are not zero, and edition 1 has no origins"));
-    assert!(said("refused-7").ends_with(": cell 2 (Multiply)"));
+    assert!(said("refused-7").ends_with(": cell 2 (Exponentiate)"));
     assert!(said("refused-8-two").ends_with("each of the 2 cells has its children, but together they are not exactly one node"));
     assert!(said("refused-9").ends_with(": cell 3 (Column #1)"));
     // Any bytes and any refusal may be put together.

@@ -11,7 +11,7 @@ asking-requires : tie.Need-asking-requires
 asking-requires c κs = search needs
 
 returns : tie.Need-returns
-returns c = asked-by (asking 0 0 0 0) 35 6 (λ text zeros. refl) (omega arith) (omega arith) (omega arith) (c .asking .ensures)
+returns c = asked-by (asking 0 0 0 0) 37 4 (λ text zeros. refl) (omega arith) (omega arith) (omega arith) (c .asking .ensures)
 
 asking-requires-2 : tie.Need-asking-requires-2
 asking-requires-2 c κs = search needs

@@ -25,6 +25,12 @@ less-than-requires c κs = search needs
 checked-add-requires : tie.Need-checked-add-requires
 checked-add-requires c κs = search needs
 
+checked-sub-requires : tie.Need-checked-sub-requires
+checked-sub-requires c κs = search needs
+
+checked-mul-requires : tie.Need-checked-mul-requires
+checked-mul-requires c κs = search needs
+
 checked-div-requires : tie.Need-checked-div-requires
 checked-div-requires c κs = search needs
 
@@ -47,7 +53,13 @@ returns-6 : tie.Need-returns-6
 returns-6 c = λ p e. c .checked-add .ensures (now (c .before .before .before .args .text)) ∙ binary-at p e 15 (c .before .match .keys6) (meaning (now (c .before .before .before .args .text)) (c .before .before .before .args .v)) (meaning (now (c .before .before .before .args .text)) (c .before .before .before .args .w))
 
 returns-7 : tie.Need-returns-7
-returns-7 c = λ p e. c .checked-div .ensures (now (c .before .before .before .args .text)) ∙ binary-else p e (c .before .match .rest .0 .0 .0 .0 .0 .1) (c .before .match .rest .0 .0 .0 .0 .1) (c .before .match .rest .0 .0 .0 .1) (c .before .match .rest .0 .0 .1) (c .before .match .rest .0 .1) (c .before .match .rest .1) (meaning (now (c .before .before .before .args .text)) (c .before .before .before .args .v)) (meaning (now (c .before .before .before .args .text)) (c .before .before .before .args .w))
+returns-7 c = λ p e. c .checked-sub .ensures (now (c .before .before .before .args .text)) ∙ binary-at p e 17 (c .before .match .keys7) (meaning (now (c .before .before .before .args .text)) (c .before .before .before .args .v)) (meaning (now (c .before .before .before .args .text)) (c .before .before .before .args .w))
+
+returns-8 : tie.Need-returns-8
+returns-8 c = λ p e. c .checked-mul .ensures (now (c .before .before .before .args .text)) ∙ binary-at p e 18 (c .before .match .keys8) (meaning (now (c .before .before .before .args .text)) (c .before .before .before .args .v)) (meaning (now (c .before .before .before .args .text)) (c .before .before .before .args .w))
+
+returns-9 : tie.Need-returns-9
+returns-9 c = λ p e. c .checked-div .ensures (now (c .before .before .before .args .text)) ∙ binary-else p e (c .before .match .rest .0 .0 .0 .0 .0 .0 .0 .1) (c .before .match .rest .0 .0 .0 .0 .0 .0 .1) (c .before .match .rest .0 .0 .0 .0 .0 .1) (c .before .match .rest .0 .0 .0 .0 .1) (c .before .match .rest .0 .0 .0 .1) (c .before .match .rest .0 .0 .1) (c .before .match .rest .0 .1) (c .before .match .rest .1) (meaning (now (c .before .before .before .args .text)) (c .before .before .before .args .v)) (meaning (now (c .before .before .before .args .text)) (c .before .before .before .args .w))
 
 pub evaluate-binary-spec : {M : Type 1} → statement M
 evaluate-binary-spec =
@@ -59,6 +71,8 @@ evaluate-binary-spec =
     greater-than-requires
     less-than-requires
     checked-add-requires
+    checked-sub-requires
+    checked-mul-requires
     checked-div-requires
     returns
     returns-2
@@ -66,4 +80,6 @@ evaluate-binary-spec =
     returns-4
     returns-5
     returns-6
-    returns-7)
+    returns-7
+    returns-8
+    returns-9)

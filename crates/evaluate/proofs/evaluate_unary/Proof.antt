@@ -18,6 +18,9 @@ is-nan-requires c κs = search needs
 identity-requires : tie.Need-identity-requires
 identity-requires c κs = search needs
 
+square-root-requires : tie.Need-square-root-requires
+square-root-requires c κs = search needs
+
 negate-requires : tie.Need-negate-requires
 negate-requires c κs = search needs
 
@@ -34,7 +37,10 @@ returns-4 : tie.Need-returns-4
 returns-4 c = λ text p e. c .identity .ensures text ∙ unary-at p e 33 (c .before .match .keys4) (meaning text (c .before .before .args .v))
 
 returns-5 : tie.Need-returns-5
-returns-5 c = λ text p e. c .negate .ensures text ∙ unary-else p e (c .before .match .rest .0 .0 .0 .1) (c .before .match .rest .0 .0 .1) (c .before .match .rest .0 .1) (c .before .match .rest .1) (meaning text (c .before .before .args .v))
+returns-5 c = λ text p e. c .square-root .ensures text ∙ unary-at p e 36 (c .before .match .keys5) (meaning text (c .before .before .args .v))
+
+returns-6 : tie.Need-returns-6
+returns-6 c = λ text p e. c .negate .ensures text ∙ unary-else p e (c .before .match .rest .0 .0 .0 .0 .1) (c .before .match .rest .0 .0 .0 .1) (c .before .match .rest .0 .0 .1) (c .before .match .rest .0 .1) (c .before .match .rest .1) (meaning text (c .before .before .args .v))
 
 pub evaluate-unary-spec : {M : Type 1} → statement M
 evaluate-unary-spec =
@@ -44,9 +50,11 @@ evaluate-unary-spec =
     is-null-requires
     is-nan-requires
     identity-requires
+    square-root-requires
     negate-requires
     returns
     returns-2
     returns-3
     returns-4
-    returns-5)
+    returns-5
+    returns-6)

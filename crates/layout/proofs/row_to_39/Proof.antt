@@ -9,11 +9,11 @@ use Rattle.layout.proofs.row_to_39.Tie as tie
 
 returns : tie.Need-returns
 unfolding tag-of tag-from
-returns c = row-in 1 10 7 refl (c .before .args .tag) (omega arith) (omega arith)
+returns c = row-in 1 10 9 refl (c .before .args .tag) (omega arith) (omega arith)
 
 returns-2 : tie.Need-returns-2
 unfolding tag-of tag-from
-returns-2 c = row-in 16 17 5 refl (c .before .before .args .tag) (omega arith) (omega arith)
+returns-2 c = row-in 16 19 3 refl (c .before .before .args .tag) (omega arith) (omega arith)
 
 returns-3 : tie.Need-returns-3
 unfolding tag-of tag-from
@@ -25,11 +25,15 @@ returns-4 c = row-in 1 30 5 refl (c .before .before .before .before .args .tag) 
 
 returns-5 : tie.Need-returns-5
 unfolding tag-of tag-from
-returns-5 c = row-in 16 35 2 refl (c .before .before .before .before .before .args .tag) (omega arith) (omega arith)
+returns-5 c = row-in 16 35 1 refl (c .before .before .before .before .before .args .tag) (omega arith) (omega arith)
 
 returns-6 : tie.Need-returns-6
 unfolding tag-of tag-from
-returns-6 c = row-in 0 37 3 refl (c .before .before .before .before .before .args .tag) (omega arith) (omega arith)
+returns-6 c = row-in 1 36 1 refl (c .before .before .before .before .before .before .args .tag) (omega arith) (omega arith)
+
+returns-7 : tie.Need-returns-7
+unfolding tag-of tag-from
+returns-7 c = row-in 0 37 3 refl (c .before .before .before .before .before .before .args .tag) (omega arith) (omega arith)
 
 pub row-to-39-spec : {M : Type 1} → statement M
-row-to-39-spec = tie.close (tie.spec returns returns-2 returns-3 returns-4 returns-5 returns-6)
+row-to-39-spec = tie.close (tie.spec returns returns-2 returns-3 returns-4 returns-5 returns-6 returns-7)
