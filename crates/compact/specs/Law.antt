@@ -77,9 +77,10 @@ pub record Shortest-text (s out : List ℕ) : Type 0 where
 abbrev pub Shortest : Type 0
 Shortest = (s out : List ℕ) → Bytes s → Succeeds s out → Shortest-text s out
 
--- The sheet handed out passes check with the counts of the sheet handed in, which are those answered; it has its edition, its length is the one answered, and
--- bytes of the output behind it stay.
+-- The sheet handed out passes check with the counts of the sheet handed in, which are those answered, with place 0; it has its edition, its length is the one
+-- answered, and bytes of the output behind it stay.
 pub record Passes-check (s out : List ℕ) : Type 0 where
+  pub place-0 : compact s out .numbers .place ≡ 0
   pub checks : check (handed s out) ≡ check s
   pub counts : check s ≡ success (compact s out .numbers .cells) (compact s out .numbers .columns)
   pub same-edition : edition (handed s out) ≡ edition s

@@ -336,6 +336,7 @@ module _ (s out : List ℕ) (b : Bytes s) (u : Success s out) where
   passes-d =
       let length-is : compact s out .numbers .length ≡ length d = ap (λ (o : Outcome). o .numbers .length) (u .is) in
       record {
+        place-0 = ap (λ (o : Outcome). o .numbers .place) (u .is);
         checks = ap check is-d ∙ check-d;
         counts = counts-s;
         same-edition = ap edition is-d ∙ Moved.edition-d s b p (u .short);
