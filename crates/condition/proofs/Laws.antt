@@ -1,16 +1,19 @@
 -- One law for each way out of a function: what its calls gave is what the definition gives.
 -- Assumes nothing.
-use Prim.Native.Nat.{ℕ, zero, suc, _+_, _≤_, _<_}
+use Prim.Native.Nat.{ℕ, zero, suc, _+_, _-_, _*_, _/_, _%_, _≤_, _<_}
 use native.Mathlib.Omega.{arith}
 use mathlib.Core.Path.{_≡_, refl, sym, ap, _∙_}
+use mathlib.Core.Bool.{Bool, true, false, cond}
 use mathlib.Core.List.{List, [], _∷_}
+use lib.Dec.{eqb}
 use lib.ListN.{length, drop}
 use lib.Seq.{drop-nil}
-use Rattle.condition_machine.specs.Lean.{World, world, valued, to-mode, disjoin, fill, reopened, closes, ended, ends, All, all, placed, finish, at-end, run, with-nots, one-more-not}
+use Rattle.condition_machine.specs.Lean.{unpacked, World, world, valued, and-before, signed-left, disjoin, fill, reopened, closes, ended, ends, All, all, placed, finish, at-end, run, with-nots, one-more-not}
 use Rattle.condition_machine.specs.Lean as Lean
-use Rattle.condition_machine.specs.declared.Machine.{Machine}
-use Rattle.condition_machine.proofs.Laws.{pick-lt, pick-eq, skip-eq, pick-le, skip-le}
-use Rattle.condition_parts.specs.Reads.{fed, NextAt}
+use Rattle.condition_machine.specs.Lean.{Machine}
+use Rattle.condition_machine.proofs.Laws.{pick-lt, pick-eq, skip-eq, pick-le, skip-le, says}
+use Rattle.condition_machine.specs.declared.Packed.{Packed}
+use Rattle.condition_parts.specs.Reads.{fed, sign-tag, NextAt}
 use Rattle.condition_parts.specs.declared.Part.{Part}
 
 -- ---- words, signs, parentheses and the end
@@ -19,9 +22,47 @@ pub not-full : (m : Machine) → 8192 ≤ m .nots → m ≡ one-more-not m
 unfolding one-more-not
 not-full m h = sym (pick-le {A = Machine} 8192 (m .nots) _ _ h)
 
-pub not-next : (m : Machine) → m .nots < 8192 → with-nots (m .nots + 1) m ≡ one-more-not m
+not-next : (m : Machine) → m .nots < 8192 → with-nots (m .nots + 1) m ≡ one-more-not m
 unfolding one-more-not
 not-next m h = sym (skip-le {A = Machine} 8192 (m .nots) _ _ h)
+
+-- The code's number for what stands before the operand: a NOT more, an AND, a comparison, and an entry of the stack.
+pub not-packed : (m : Packed) → m .before / 64 < 8192
+    → unpacked (record { mode = m .mode; value = m .value; stage = m .stage; before = m .before + 64; depth = m .depth; cells = m .cells }) ≡ one-more-not (unpacked m)
+not-packed m h =
+    says (record { mode = m .mode; value = m .value; stage = m .stage; before = m .before + 64; depth = m .depth; cells = m .cells }) (m .before % 2) (m .before / 2 % 2)
+    (m .before / 64 + 1) (m .before / 4 % 16) (omega arith) (omega arith) (omega arith) (omega arith)
+    ∙ not-next (unpacked m) h
+
+pub and-packed : (m : Packed) (out : List ℕ)
+    → world (unpacked (record { mode = m .mode; value = m .value; stage = 0; before = m .before % 2 + 2; depth = m .depth; cells = m .cells })) out
+    ≡ and-before (world (unpacked m) out)
+and-packed m out =
+    ap (λ (q : Machine). world q out)
+    (says (record { mode = m .mode; value = m .value; stage = 0; before = m .before % 2 + 2; depth = m .depth; cells = m .cells }) (m .before % 2) 1 0 0 (omega arith) (omega arith)
+    (omega arith) (omega arith))
+
+pub sign-packed : (m : Packed) (tag : ℕ) → tag < 16
+    → unpacked (record { mode = 0; value = m .value; stage = 0; before = m .before - 4 * (m .before / 4 % 16) + 4 * tag; depth = m .depth; cells = m .cells })
+    ≡ signed-left tag (unpacked m)
+sign-packed m tag h =
+    says (record { mode = 0; value = m .value; stage = 0; before = m .before - 4 * (m .before / 4 % 16) + 4 * tag; depth = m .depth; cells = m .cells }) (m .before % 2)
+    (m .before / 2 % 2) (m .before / 64) tag (omega arith) (omega arith) (omega arith) (omega arith)
+
+pub packed-entry : (b : ℕ) → b ≡ b % 2 + 2 * (b / 2 % 2) + 4 * (b / 4 % 16) + 64 * (b / 64)
+packed-entry b =
+    let four : b / 2 / 2 ≡ b / 4 = omega arith in
+    let all : b / 4 / 16 ≡ b / 64 = omega arith in
+    omega (arith, four, all)
+
+pub sign-small : (kind tag : ℕ) → tag ≡ sign-tag kind → tag < 16
+unfolding sign-tag
+sign-small kind tag h = go (eqb kind 9) (eqb kind 10) h
+  where
+    go : (t u : Bool) → tag ≡ cond t 12 (cond u 14 13) → tag < 16
+    go true u e = omega arith
+    go false true e = omega arith
+    go false false e = omega arith
 
 pub sign-last : (s t : ℕ) (m r : Machine) → s ≡ t → r ≡ Lean.sign s m → r ≡ Lean.sign t m
 sign-last s t m r h e = e ∙ ap (λ (z : ℕ). Lean.sign z m) h
@@ -29,7 +70,7 @@ sign-last s t m r h e = e ∙ ap (λ (z : ℕ). Lean.sign z m) h
 pub close-last : (w v : World) (p r : Machine) (d : List ℕ) (e k : ℕ) → world p d ≡ disjoin w → r ≡ reopened e k p → v ≡ fill (world r d) → v ≡ closes e k w
 close-last w v p r d e k h g f = f ∙ ap (λ (z : Machine). fill (world z d)) g ∙ ap (λ (u : World). fill (world (reopened e k (u .0)) (u .1))) h
 
-pub end-last : (w : World) (p r : Machine) (d : List ℕ) → world p d ≡ disjoin w → r ≡ to-mode 0 p → world r d ≡ ended (disjoin w)
+pub end-last : (w : World) (p r : Machine) (d : List ℕ) → world p d ≡ disjoin w → r ≡ valued 0 0 p → world r d ≡ ended (disjoin w)
 end-last w p r d h g = ap (λ (z : Machine). world z d) g ∙ ap ended h
 
 -- ---- the text, part by part

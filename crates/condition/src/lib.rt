@@ -1,83 +1,80 @@
 // Conditions typed as text: what each part does to the machine, and the whole text, a part at a time.
 
-use condition_machine::Machine;
+use condition_machine::Packed;
 use condition_machine::conjoin;
 use condition_machine::disjoin;
 use condition_machine::fill;
 use condition_machine::operand;
 use condition_machine::put;
 use condition_machine::stuck;
-use condition_machine::to_mode;
 use condition_parts::Part;
 use condition_parts::next_part;
 ghost use mathlib.Core.Path.{_≡_};
 ghost use Prim.Native.Nat.{_≤_, _<_};
 ghost use lib.ListN.{length};
-ghost use Rattle.condition_machine.specs.Lean.{world, all};
+ghost use Rattle.condition_machine.specs.Lean.{unpacked, world, all};
 ghost use Rattle.condition_machine.specs.Lean;
 ghost use Rattle.condition_parts.specs.Reads.{sign-tag, fed-word, fed};
 
 // ---- words
 
-fn behind_and(m: Machine, out: &mut [u8]) -> Machine
-    ensures { λ r. ⌜ world r (now (out .exit)) ≡ Lean.behind-and (world m (now (out .entry))) ⌝ }
+fn behind_and(m: Packed, out: &mut [u8]) -> Packed
+    ensures { λ r. ⌜ world (unpacked r) (now (out .exit)) ≡ Lean.behind-and (world (unpacked m) (now (out .entry))) ⌝ }
 {
-    let mut r = conjoin(m, out);
-    r.ands = 1;
-    r.nots = 0;
-    r.stage = 0;
+    let p = conjoin(m, out);
+    let mut r = p;
+    r.before = p.before % 2 + 2;
+    r.stage = condition_machine::WANTED;
     r
 }
 
-fn behind_or(m: Machine, out: &mut [u8]) -> Machine
-    ensures { λ r. ⌜ world r (now (out .exit)) ≡ Lean.behind-or (world m (now (out .entry))) ⌝ }
+fn behind_or(m: Packed, out: &mut [u8]) -> Packed
+    ensures { λ r. ⌜ world (unpacked r) (now (out .exit)) ≡ Lean.behind-or (world (unpacked m) (now (out .entry))) ⌝ }
 {
     let mut r = disjoin(m, out);
-    r.ors = 1;
-    r.ands = 0;
-    r.nots = 0;
-    r.stage = 0;
+    r.before = 1;
+    r.stage = condition_machine::WANTED;
     r
 }
 
 // Behind IS NULL and IS NAN.
-fn behind_is(m: Machine, out: &mut [u8], tag: usize) -> Machine
-    ensures { λ r. ⌜ world r (now (out .exit)) ≡ Lean.behind-is tag (world m (now (out .entry))) ⌝ }
+fn behind_is(m: Packed, out: &mut [u8], tag: usize) -> Packed
+    ensures { λ r. ⌜ world (unpacked r) (now (out .exit)) ≡ Lean.behind-is tag (world (unpacked m) (now (out .entry))) ⌝ }
 {
     let mut r = put(m, out, tag, 0, 0);
-    r.stage = 2;
+    r.stage = condition_machine::COMPARED;
     r
 }
 
-fn one_more_not(m: Machine) -> Machine
-    ensures { λ r. ⌜ r ≡ Lean.one-more-not m ⌝ }
+fn one_more_not(m: Packed) -> Packed
+    ensures { λ r. ⌜ unpacked r ≡ Lean.one-more-not (unpacked m) ⌝ }
 {
     let mut r = m;
-    if 8192 <= m.nots {
+    if 8192 <= m.before / 64 {
         return r;
     }
-    r.nots = m.nots + 1;
+    r.before = m.before + 64;
     r
 }
 
 // Behind a word that is no constant.
-fn fed_word(m: Machine, kind: usize, tag: usize, out: &mut [u8]) -> Machine
-    ensures { λ r. ⌜ world r (now (out .exit)) ≡ fed-word kind tag (world m (now (out .entry))) ⌝ }
+fn fed_word(m: Packed, kind: usize, tag: usize, out: &mut [u8]) -> Packed
+    ensures { λ r. ⌜ world (unpacked r) (now (out .exit)) ≡ fed-word kind tag (world (unpacked m) (now (out .entry))) ⌝ }
 {
-    if kind == 2 {
+    if kind == condition_parts::NOT {
         return one_more_not(m);
     }
-    if kind == 3 {
+    if kind == condition_parts::AND {
         return behind_and(m, out);
     }
-    if kind == 4 {
+    if kind == condition_parts::OR {
         return behind_or(m, out);
     }
-    if kind == 6 {
+    if kind == condition_parts::NULL_OR_NAN {
         return behind_is(m, out, tag);
     }
     let mut r = m;
-    r.stage = 3;
+    r.stage = condition_machine::BEHIND_IS;
     r
 }
 
@@ -86,85 +83,77 @@ fn fed_word(m: Machine, kind: usize, tag: usize, out: &mut [u8]) -> Machine
 fn sign_tag(kind: usize) -> u32
     ensures { λ r. ⌜ r ≡ sign-tag kind ⌝ }
 {
-    if kind == 9 {
+    if kind == condition_parts::EQUAL {
         return 12;
     }
-    if kind == 10 {
+    if kind == condition_parts::LESS_THAN {
         return 14;
     }
     13
 }
 
-fn sign(m: Machine, tag: u32) -> Machine
-    ensures { λ r. ⌜ r ≡ Lean.sign tag m ⌝ }
+fn sign(m: Packed, tag: u32) -> Packed
+    requires { ⌜ tag < 16 ⌝ }
+    ensures { λ r. ⌜ unpacked r ≡ Lean.sign tag (unpacked m) ⌝ }
 {
-    if m.stage != 1 {
+    if m.stage != condition_machine::ALONE {
         return stuck(m);
     }
     let mut r = m;
-    r.mode = 0;
-    r.stage = 0;
-    r.left = tag;
+    r.mode = condition_machine::BETWEEN;
+    r.stage = condition_machine::WANTED;
+    r.before = m.before - 4 * (m.before / 4 % 16) + 4 * tag;
     r
 }
 
 // An opening parenthesis: what stands before it is kept on the stack. Each is a byte of the text, so there is room.
-fn open_one(m: Machine, stack: &mut [u64]) -> Machine
-    ensures { λ r. ⌜ world r (now (stack .exit)) ≡ Lean.open-one (world m (now (stack .entry))) ⌝ }
+fn open_one(m: Packed, stack: &mut [u32]) -> Packed
+    ensures { λ r. ⌜ world (unpacked r) (now (stack .exit)) ≡ Lean.open-one (world (unpacked m) (now (stack .entry))) ⌝ }
 {
     let d = m.depth;
-    if m.stage != 0 {
+    if m.stage != condition_machine::WANTED {
         return stuck(m);
     }
     if stack.len() <= d {
         return stuck(m);
     }
-    stack[d] = m.ors as u64
-        + 256 * (m.ands as u64)
-        + 65536 * (m.left as u64)
-        + 16777216 * (m.nots as u64);
-    Machine {
-        mode: 0,
+    stack[d] = m.before;
+    Packed {
+        mode: condition_machine::BETWEEN,
         value: 0,
-        stage: 0,
-        ors: 0,
-        ands: 0,
-        nots: 0,
-        left: 0,
+        stage: condition_machine::WANTED,
+        before: 0,
         depth: d + 1,
         cells: m.cells,
     }
 }
 
 // What stood before the parenthesis that is closed, by its entry.
-fn reopened(m: Machine, e: u64, d: usize) -> Machine
-    ensures { λ r. ⌜ r ≡ Lean.reopened e d m ⌝ }
+fn reopened(m: Packed, e: u32, d: usize) -> Packed
+    ensures { λ r. ⌜ unpacked r ≡ Lean.reopened e d (unpacked m) ⌝ }
 {
-    Machine {
-        mode: 0,
+    Packed {
+        mode: condition_machine::BETWEEN,
         value: 0,
-        stage: 0,
-        ors: (e % 256) as u32,
-        ands: (e / 256 % 256) as u32,
-        nots: (e / 16777216 % 65536) as u32,
-        left: (e / 65536 % 256) as u32,
+        stage: condition_machine::WANTED,
+        before: e,
         depth: d,
         cells: m.cells,
     }
 }
 
 // An operand or comparison is there.
-fn there(m: Machine) -> bool
-    ensures { λ r. ⌜ r ≡ Lean.there m ⌝ }
+fn there(m: Packed) -> bool
+    ensures { λ r. ⌜ r ≡ Lean.there (unpacked m) ⌝ }
 {
-    if m.stage == 1 {
+    if m.stage == condition_machine::ALONE {
         return true;
     }
-    m.stage == 2
+    m.stage == condition_machine::COMPARED
 }
 
-fn close_one(m: Machine, stack: &[u64], out: &mut [u8]) -> Machine
-    ensures { λ r. ⌜ world r (now (out .exit)) ≡ Lean.close-one (now (stack .entry)) (world m (now (out .entry))) ⌝ }
+fn close_one(m: Packed, stack: &[u32], out: &mut [u8]) -> Packed
+    ensures { λ r. ⌜ world (unpacked r) (now (out .exit)) ≡ Lean.close-one (now (stack .entry)) (world (unpacked m) (now (out .entry))) ⌝ }
 {
     if !there(m) {
         return stuck(m);
@@ -173,46 +162,57 @@ fn close_one(m: Machine, stack: &[u64], out: &mut [u8]) -> Machine
     if d == 0 {
         return stuck(m);
     }
-    if stack.len() < d {
+    let t = d - 1;
+    if stack.len() <= t {
         return stuck(m);
     }
-    let e = stack[d - 1];
+    let e = stack[t];
     let p = disjoin(m, out);
-    let r = reopened(p, e, d - 1);
+    let r = reopened(p, e, t);
     fill(r, out)
 }
 
 // ---- the whole text
 
 // The machine after a part.
-fn fed(m: Machine, p: Part, stack: &mut [u64], out: &mut [u8]) -> Machine
-    ensures { λ r. ⌜ all r (now (stack .exit)) (now (out .exit)) ≡ fed p (all m (now (stack .entry)) (now (out .entry))) ⌝ }
+fn fed(m: Packed, p: Part, stack: &mut [u32], out: &mut [u8]) -> Packed
+    ensures { λ r. ⌜ all (unpacked r) (now (stack .exit)) (now (out .exit)) ≡ fed p (all (unpacked m) (now (stack .entry)) (now (out .entry))) ⌝ }
 {
     let mut q = m;
     q.mode = p.mode;
     q.value = p.value;
-    if p.kind == 12 {
+    if p.kind == condition_parts::SPACES {
         return q;
     }
-    if p.kind == 1 {
+    if p.kind == condition_parts::OPERAND {
         return operand(q, out, p.tag, p.a, p.b);
     }
-    if p.kind < 7 {
+    if p.kind < condition_parts::OPEN {
         return fed_word(q, p.kind, p.tag, out);
     }
-    if p.kind == 7 {
+    if p.kind == condition_parts::OPEN {
         return open_one(q, stack);
     }
-    if p.kind == 8 {
+    if p.kind == condition_parts::CLOSE {
         return close_one(q, stack, out);
     }
     let tag = sign_tag(p.kind);
     sign(q, tag)
 }
 
+// At the end nothing is being read. That the value doesn't last keeps it out of the loop.
+fn done(m: Packed) -> Packed
+    ensures { λ r. ⌜ unpacked r ≡ Lean.valued 0 0 (unpacked m) ⌝ }
+{
+    let mut r = m;
+    r.mode = condition_machine::BETWEEN;
+    r.value = 0;
+    r
+}
+
 // A condition that ends here.
-fn ends(m: Machine, out: &mut [u8]) -> Machine
-    ensures { λ r. ⌜ world r (now (out .exit)) ≡ Lean.ends (world m (now (out .entry))) ⌝ }
+fn ends(m: Packed, out: &mut [u8]) -> Packed
+    ensures { λ r. ⌜ world (unpacked r) (now (out .exit)) ≡ Lean.ends (world (unpacked m) (now (out .entry))) ⌝ }
 {
     if !there(m) {
         return stuck(m);
@@ -221,12 +221,12 @@ fn ends(m: Machine, out: &mut [u8]) -> Machine
         return stuck(m);
     }
     let p = disjoin(m, out);
-    to_mode(p, 0)
+    done(p)
 }
 
 // The machine with a place in its value.
-fn placed(m: Machine, place: usize) -> Machine
-    ensures { λ r. ⌜ r ≡ Lean.placed place m ⌝ }
+fn placed(m: Packed, place: usize) -> Packed
+    ensures { λ r. ⌜ unpacked r ≡ Lean.placed place (unpacked m) ⌝ }
 {
     let mut r = m;
     r.value = place;
@@ -240,28 +240,25 @@ fn wide(b: u8) -> usize
 }
 
 // The machine stuck at a place.
-fn stuck_at(m: Machine, place: usize) -> Machine
-    ensures { λ r. ⌜ r ≡ Lean.valued 24 place m ⌝ }
+fn stuck_at(m: Packed, place: usize) -> Packed
+    ensures { λ r. ⌜ unpacked r ≡ Lean.valued 24 place (unpacked m) ⌝ }
 {
     let mut s = m;
-    s.mode = 24;
+    s.mode = condition_machine::STUCK;
     s.value = place;
     s
 }
 
 // The machine after the whole text, with its cells written where there is room; or stuck, with the place.
-pub fn run(text: &[u8], stack: &mut [u64], out: &mut [u8]) -> Machine
+pub fn run(text: &[u8], stack: &mut [u32], out: &mut [u8]) -> Packed
     requires { ⌜ length (now text) ≤ 8192 ⌝ }
-    ensures { λ r. ⌜ world r (now (out .exit)) ≡ Lean.run 0 (now (text .entry)) (all Lean.start (now (stack .entry)) (now (out .entry))) ⌝ }
+    ensures { λ r. ⌜ world (unpacked r) (now (out .exit)) ≡ Lean.run 0 (now (text .entry)) (all Lean.start (now (stack .entry)) (now (out .entry))) ⌝ }
 {
-    let mut m = Machine {
-        mode: 0,
+    let mut m = Packed {
+        mode: condition_machine::BETWEEN,
         value: 0,
-        stage: 0,
-        ors: 0,
-        ands: 0,
-        nots: 0,
-        left: 0,
+        stage: condition_machine::WANTED,
+        before: 0,
         depth: 0,
         cells: 0,
     };
@@ -270,14 +267,14 @@ pub fn run(text: &[u8], stack: &mut [u64], out: &mut [u8]) -> Machine
         let b = wide(text[i]);
         let room = stack.len();
         let p = next_part(text, i, b, m, room);
-        if p.kind == 0 {
+        if p.kind == condition_parts::NONE {
             return stuck_at(m, p.at);
         }
         m = fed(m, p, stack, out);
         i = p.at;
     }
     let e = ends(m, out);
-    if e.mode == 24 {
+    if e.mode == condition_machine::STUCK {
         return placed(e, i);
     }
     e

@@ -16,7 +16,7 @@ use Rattle.grammar.specs.Parts.{Sign, equal, less, greater}
 use Rattle.grammar.specs.Machine.{Before, nothing-before, Slot, Stack, Position, want, have, is, whole, fill-beside, fill, between, in-string, class, begin}
 use Rattle.condition_machine.specs.Lean as Lean
 use Rattle.condition_machine.specs.Lean.{World, world, all, beside}
-use Rattle.condition_machine.specs.declared.Machine.{Machine}
+use Rattle.condition_machine.specs.Lean.{Machine}
 use Rattle.condition_laws.specs.Drawn.{has, sign-tag, left-tag, before-of, stack-of, beside-cells, stack-cells, position-cells, at-cells, at-position}
 use Rattle.condition_laws.specs.Settled.{disjoin-drawn, fill-follows}
 use Rattle.condition_laws.specs.Bytes.{pick-b, skip-b}
@@ -96,9 +96,9 @@ module _ (out₀ : List ℕ) (at v : ℕ) (stack : List ℕ) (behind : Bool) whe
   open-follows (is b e st) l h = refl
 
   -- What an entry of the stack says of its slot.
-  entry-says : (slot : Slot) (e : ℕ) → e ≡ slot-entry slot → slot .before .nots < 65536
-      → (e % 256 ≡ has (slot .before .ors)) × (e / 256 % 256 ≡ has (slot .before .ands)) × (e / 16777216 % 65536 ≡ slot .before .nots) × (e / 65536 % 256 ≡ left-tag (slot .left))
-  entry-says slot e h n =
+  entry-says : (slot : Slot) (e : ℕ) → e ≡ slot-entry slot
+      → (e % 2 ≡ has (slot .before .ors)) × (e / 2 % 2 ≡ has (slot .before .ands)) × (e / 64 ≡ slot .before .nots) × (e / 4 % 16 ≡ left-tag (slot .left))
+  entry-says slot e h =
       let o : has (slot .before .ors) ≤ 1 = at-most-one (slot .before .ors) in
       let a : has (slot .before .ands) ≤ 1 = at-most-one (slot .before .ands) in
       let t : left-tag (slot .left) ≤ 14 = small-tag (slot .left) in
@@ -122,12 +122,10 @@ module _ (out₀ : List ℕ) (at v : ℕ) (stack : List ℕ) (behind : Bool) whe
       ≡ at-position out₀ 0 0 (fill slot (whole b e) st)
   closes-follows b more e slot st l h =
       let k : ℕ = behind-mode behind in
-      let light : slot .before .nots ≤ at = h .light .0 in
-      let room : length stack ≤ 8192 = h .room in
       let d : suc (length st) - 1 ≡ length st = omega arith in
       let x : ℕ = getD stack (suc (length st) - 1) 0 in
       let is : x ≡ slot-entry slot = ap (λ (i : ℕ). getD stack i 0) d ∙ h .kept .0 in
-      let says = entry-says slot x is (omega arith) in
+      let says = entry-says slot x is in
       let ks : List Cell = stack-cells (slot ∷ st) ++ expression-cells (whole b e) in
       ap (λ (w : World). Lean.fill (world (Lean.reopened x (suc (length st) - 1) (w .0)) (w .1))) (disjoin-drawn out₀ k v b more e (slot ∷ st))
       ∙ ap Lean.fill

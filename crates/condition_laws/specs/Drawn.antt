@@ -12,7 +12,7 @@ use Rattle.sheet.specs.Cells.{expression-cells}
 use Rattle.grammar.specs.Parts.{Sign, equal, less, greater}
 use Rattle.grammar.specs.Machine.{Before, Stack, Position, want, have, is}
 use Rattle.condition_machine.specs.Lean.{World, world, counted, put-in, put-times, put-and, put-or, if-room, four-words}
-use Rattle.condition_machine.specs.declared.Machine.{Machine}
+use Rattle.condition_machine.specs.Lean.{Machine}
 
 -- ---- cells written
 

@@ -16,14 +16,14 @@ use Rattle.grammar.specs.Parts.{Word, TRUE, FALSE, NULL, AND, OR, NOT, IS, NAN,
 use Rattle.grammar.specs.Machine.{Before, Slot, Stack, Position, want, have, is, feed, Sort, plain, minus, hash, greatest, State, between, in-word, begun, in-number, in-string, candidates, narrow, after-letter}
 use Rattle.condition_machine.specs.Lean as Lean
 use Rattle.condition_machine.specs.Lean.{World, world, All, beside}
-use Rattle.condition_machine.specs.declared.Machine.{Machine}
+use Rattle.condition_machine.specs.Lean.{Machine}
 use Rattle.condition_laws.specs.Drawn.{has, left-tag, before-of, stack-of, cell-with, at-position}
 use Rattle.condition_laws.specs.Settled.{and-follows, or-follows, null-follows, nan-follows, operand-follows}
 
 -- ---- the stack, and what bounds it
 
 abbrev pub slot-entry : Slot → ℕ
-slot-entry slot = has (slot .before .ors) + 256 * has (slot .before .ands) + 65536 * left-tag (slot .left) + 16777216 * slot .before .nots
+slot-entry slot = has (slot .before .ors) + 2 * has (slot .before .ands) + 4 * left-tag (slot .left) + 64 * slot .before .nots
 
 abbrev pub Kept : List ℕ → Stack → Type 0
 Kept stack [] = Unit {0}

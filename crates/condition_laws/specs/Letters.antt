@@ -14,7 +14,7 @@ use Rattle.grammar.specs.Parts.{digit, Sign}
 use Rattle.grammar.specs.Machine.{Before, Stack, Position, want, have, is, plain, Candidate, State, Class, a-digit, another, class, candidates, narrow, after-letter, begin}
 use Rattle.condition_machine.specs.Lean as Lean
 use Rattle.condition_machine.specs.Lean.{All, all}
-use Rattle.condition_machine.specs.declared.Machine.{Machine}
+use Rattle.condition_machine.specs.Lean.{Machine}
 use Rattle.condition_laws.specs.Bytes.{pick-b, skip-b, Other, Seen, seen-space, seen-quote, seen-opening, seen-closing, seen-equal, seen-less, seen-greater, seen-minus, seen-hash, seen-t, seen-f, seen-n, seen-a, seen-o, seen-i, seen-digit, seen-other, class-digit, class-other, begins-digit, begins-other}
 use Rattle.condition_laws.specs.Follows.{after-t, after-f, after-a, after-o, after-i, Holds, behind-mode, stands, sim-between, sim-word, sim-n, sim-minus, sim-hash, sim-number, Steps}
 use Rattle.condition_laws.specs.Begin.{hold, Begins, quote-follows, equal-follows, less-follows, greater-follows, open-follows, close-follows}

@@ -18,7 +18,7 @@ use Rattle.grammar.specs.Parts.{Word, TRUE, FALSE, NULL, AND, OR, NOT, IS, NAN,
 use Rattle.grammar.specs.Machine.{Before, Slot, Stack, Position, want, have, is, fill-beside, fill, feed, Sort, plain, minus, hash, greatest, number, numbered, Candidate, State, between, in-word, begun, in-number, in-string, class, candidates, narrow, after-letters, after-letter, begin, one-more-digit, string-ends, step}
 use Rattle.condition_machine.specs.Lean as Lean
 use Rattle.condition_machine.specs.Lean.{World, world, All, all, beside}
-use Rattle.condition_machine.specs.declared.Machine.{Machine}
+use Rattle.condition_machine.specs.Lean.{Machine}
 use Rattle.condition_laws.specs.Drawn.{before-of, stack-of, cell-with, at-position}
 use Rattle.condition_laws.specs.Settled.{operand-follows}
 use Rattle.condition_laws.specs.Bytes.{pick-b, skip-b, seen}

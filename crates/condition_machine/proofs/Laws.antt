@@ -1,8 +1,8 @@
 -- One law for each way out of a function: what its calls gave is what the definition gives.
 -- Assumes nothing.
-use Prim.Native.Nat.{ℕ, suc, _+_, _-_, _*_, _≤_, _<_}
+use Prim.Native.Nat.{ℕ, suc, _+_, _-_, _*_, _/_, _%_, _≤_, _<_}
 use native.Mathlib.Omega.{arith}
-use mathlib.Core.Path.{_≡_, refl, sym, ap, _∙_}
+use mathlib.Core.Path.{_≡_, refl, sym, ap, _∙_, subst}
 use mathlib.Core.Bool.{Bool, true, false, cond}
 use mathlib.Core.List.{List, _++_, append-assoc}
 use lib.Dec.{leb, ltb, eqb}
@@ -11,8 +11,8 @@ use borrow.Author.Tests.{lt-ltb, le-ltb, le-leb, lt-leb, eq-eqb, ne-eqb, eqb-tru
 use Rattle.sheet.specs.Bytes.{bytes}
 use Rattle.encode.specs.Encode.{written}
 use Rattle.encode.proofs.Written.{chain, length-bytes}
-use Rattle.condition_machine.specs.Lean.{World, world, to-stage, counted, four-words, if-room, put-in, Adds, if-before, put-times, put-and, put-or, conjoin, disjoin, compared, filled, fill}
-use Rattle.condition_machine.specs.declared.Machine.{Machine}
+use Rattle.condition_machine.specs.Lean.{Machine, unpacked, World, world, to-stage, counted, four-words, if-room, put-in, Adds, if-before, put-times, put-and, put-or, conjoin, disjoin, compared, filled, fill}
+use Rattle.condition_machine.specs.declared.Packed.{Packed}
 
 -- ---- which side of a test
 
@@ -160,3 +160,30 @@ fill-is m out d k stage a e = go (eqb (m .left) 0) refl
     go false h =
         ap (λ (s : ℕ). world (behind s 0 k m) d) (e ∙ skip-b {A = ℕ} (eqb (m .left) 0) 1 2 h)
         ∙ ap compared (a .adds m refl ∙ skip-b {A = World} (eqb (m .left) 0) _ _ h) ∙ sym (skip-b {A = World} (eqb (m .left) 0) _ _ h)
+
+-- ---- what stands before the operand, in one number
+
+-- A packed machine whose number says this.
+pub says : (p : Packed) (o a n l : ℕ) → p .before % 2 ≡ o → p .before / 2 % 2 ≡ a → p .before / 64 ≡ n → p .before / 4 % 16 ≡ l
+    → unpacked p ≡ record { mode = p .mode; value = p .value; stage = p .stage; ors = o; ands = a; nots = n; left = l; depth = p .depth; cells = p .cells }
+says p o a n l h g f e =
+    λ i. record { mode = p .mode; value = p .value; stage = p .stage; ors = h i; ands = g i; nots = f i; left = e i; depth = p .depth; cells = p .cells }
+
+-- Nothing stands before it, so nothing is joined.
+pub none-joined : (m : Packed) (out : List ℕ) → m .before ≡ 0 → world (unpacked m) out ≡ disjoin (world (unpacked m) out)
+unfolding put-times put-and put-or
+none-joined m out h = subst (λ (b : ℕ). world (unpacked (having b)) out ≡ disjoin (world (unpacked (having b)) out)) (sym h) refl
+  where
+    having : ℕ → Packed
+    having b = record { mode = m .mode; value = m .value; stage = m .stage; before = b; depth = m .depth; cells = m .cells }
+
+-- The comparison is done.
+pub fill-packed : (m r : Packed) (out d : List ℕ) (k stage : ℕ) → Adds (m .cells) out k d (if-before (m .before / 4 % 16) (m .before / 4 % 16)) → stage ≡ filled (m .before / 4 % 16)
+    → r ≡ record { mode = m .mode; value = m .value; stage = stage; before = m .before - 4 * (m .before / 4 % 16); depth = m .depth; cells = k }
+    → world (unpacked r) d ≡ fill (world (unpacked m) out)
+fill-packed m r out d k stage a e h =
+    ap (λ (q : Packed). world (unpacked q) d) h
+    ∙ ap (λ (q : Machine). world q d)
+    (says (record { mode = m .mode; value = m .value; stage = stage; before = m .before - 4 * (m .before / 4 % 16); depth = m .depth; cells = k }) (m .before % 2)
+    (m .before / 2 % 2) (m .before / 64) 0 (omega arith) (omega arith) (omega arith) (omega arith))
+    ∙ fill-is (unpacked m) out d k stage a e

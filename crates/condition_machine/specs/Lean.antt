@@ -8,7 +8,34 @@ use lib.ListN.{length, getD, set}
 use Rattle.sheet.specs.Bytes.{bytes}
 use Rattle.encode.specs.Encode.{written}
 use Rattle.grammar.specs.Parts.{digit}
-use Rattle.condition_machine.specs.declared.Machine.{Machine}
+use Rattle.condition_machine.specs.declared.Packed.{Packed}
+
+-- Where the machine is: as the code keeps it (Packed), with what stands before the operand in its parentheses apart. `ors`, `ands`: 1 if a condition and OR, or AND, stand
+-- there, `nots` how many NOTs, `left` the tag of its comparison, or 0.
+pub record Machine : Type 0 where
+  pub mode : ℕ
+  pub value : ℕ
+  pub stage : ℕ
+  pub ors : ℕ
+  pub ands : ℕ
+  pub nots : ℕ
+  pub left : ℕ
+  pub depth : ℕ
+  pub cells : ℕ
+
+abbrev pub unpacked : Packed → Machine
+unpacked p =
+    record {
+      mode = p .mode;
+      value = p .value;
+      stage = p .stage;
+      ors = p .before % 2;
+      ands = p .before / 2 % 2;
+      nots = p .before / 64;
+      left = p .before / 4 % 16;
+      depth = p .depth;
+      cells = p .cells;
+    }
 
 -- The machine and the output.
 abbrev pub World : Type 0
@@ -115,11 +142,11 @@ operand tag a b w = fill (put-in tag a b w)
 
 abbrev pub and-before : World → World
 and-before w =
-    (record { mode = w .0 .mode; value = w .0 .value; stage = 0; ors = w .0 .ors; ands = 1; nots = 0; left = w .0 .left; depth = w .0 .depth; cells = w .0 .cells }, w .1)
+    (record { mode = w .0 .mode; value = w .0 .value; stage = 0; ors = w .0 .ors; ands = 1; nots = 0; left = 0; depth = w .0 .depth; cells = w .0 .cells }, w .1)
 
 abbrev pub or-before : World → World
 or-before w =
-    (record { mode = w .0 .mode; value = w .0 .value; stage = 0; ors = 1; ands = 0; nots = 0; left = w .0 .left; depth = w .0 .depth; cells = w .0 .cells }, w .1)
+    (record { mode = w .0 .mode; value = w .0 .value; stage = 0; ors = 1; ands = 0; nots = 0; left = 0; depth = w .0 .depth; cells = w .0 .cells }, w .1)
 
 abbrev pub behind-and : World → World
 behind-and w = and-before (conjoin w)
@@ -232,7 +259,7 @@ begin-sign b m = cond (eqb b 61) (sign 12 m) (cond (eqb b 60) (sign 14 m) (cond 
 
 -- What stands before a parenthesis, as one number.
 abbrev pub entry : Machine → ℕ
-entry m = m .ors + 256 * m .ands + 65536 * m .left + 16777216 * m .nots
+entry m = m .ors + 2 * m .ands + 4 * m .left + 64 * m .nots
 
 abbrev pub inner : ℕ → Machine → Machine
 inner d m = record { mode = 0; value = 0; stage = 0; ors = 0; ands = 0; nots = 0; left = 0; depth = d + 1; cells = m .cells }
@@ -249,10 +276,10 @@ reopened e d m =
       mode = 0;
       value = 0;
       stage = 0;
-      ors = e % 256;
-      ands = e / 256 % 256;
-      nots = e / 16777216 % 65536;
-      left = e / 65536 % 256;
+      ors = e % 2;
+      ands = e / 2 % 2;
+      nots = e / 64;
+      left = e / 4 % 16;
       depth = d;
       cells = m .cells;
     }
@@ -328,15 +355,6 @@ unfolding more-digit number-ends begin
 number at b s =
     cond (digit b) (more-digit (b - 48) (s .0), s .1, s .2) (begin at b (number-ends (s .0, s .2) .0, s .1, number-ends (s .0, s .2) .1))
 
--- The number that ends before this byte, if one does; and a digit more.
-unfoldable pub number-before : ℕ → World → World
-unfolding number-ends
-number-before b w = cond (ltb (w .0 .mode) 4) w (cond (ltb 6 (w .0 .mode)) w (cond (digit b) w (number-ends w)))
-
-unfoldable pub next-digit : ℕ → Machine → Machine
-unfolding more-digit
-next-digit b m = cond (digit b) (more-digit (b - 48) m) (stuck m)
-
 -- A string's reference, at its second quote.
 unfoldable pub reference : (from at : ℕ) → ℕ
 reference from at = cond (ltb at from) 0 (from + 65536 * (at - from))
@@ -350,13 +368,6 @@ string at b w = cond (eqb b 39) (operand 5 (reference (w .0 .value) at) 0 (to-mo
 abbrev pub beside : List ℕ → World → All
 beside stack w = (w .0, stack, w .1)
 
--- The state after byte number `at` of the text, b, in a part.
-unfoldable pub within : (at b : ℕ) → World → World
-unfolding begun next-digit string letter
-within at b w =
-    cond (ltb (w .0 .mode) 4) (begun b (w .0), w .1)
-    (cond (ltb (w .0 .mode) 7) (next-digit b (w .0), w .1) (cond (ltb (w .0 .mode) 8) (string at b w) (letter b w)))
-
 -- The state after byte number `at` of the text, b.
 unfoldable pub step : (at b : ℕ) → All → All
 unfolding begin begun number string letter
@@ -368,7 +379,7 @@ step at b s =
 
 -- A condition that ends here.
 abbrev pub ended : World → World
-ended w = (to-mode 0 (w .0), w .1)
+ended w = (valued 0 0 (w .0), w .1)
 
 unfoldable pub ends : World → World
 unfolding put-or put-and put-times

@@ -6,21 +6,40 @@ ghost use Prim.Native.Nat.{_+_, _≤_, _<_};
 ghost use lib.ListN.{length};
 ghost use Rattle.sheet.specs.Bytes.{bytes};
 ghost use Rattle.encode.specs.Encode.{written};
-ghost use Rattle.condition_machine.specs.Lean.{world, Adds};
+ghost use Rattle.condition_machine.specs.Lean.{world, unpacked, Adds};
 ghost use Rattle.condition_machine.specs.Lean;
 
-// Where the machine is. `mode`: 0 between parts, 1 there directly behind a word, number or column, 2 and 3 behind a minus and behind #, 4 to 6 in the digits
-// of a number of each sort, 7 in a string, 8 to 23 in a word, 24 stuck. `value`: the number so far, or where the string begins. `stage`: 0 an operand is
-// wanted, 1 one is there that may be compared, 2 one that may not, 3 behind IS. `ors`, `ands` and `nots`: what stands before the operand in its parentheses,
-// `left` the tag of its comparison, or 0. `depth`: the open parentheses. `cells`: how many cells there are so far, no more than 2,049.
-pub struct Machine {
+// Modes, as far as the code is in them: between parts, and there directly behind a word, number or column, which no other may touch; in the digits of a number of each
+// sort; stuck. The definition (specs/Lean.antt), which goes byte by byte, has one for each byte within a part too.
+pub const BETWEEN: usize = 0;
+
+pub const TOUCHING: usize = 1;
+
+pub const PLAIN: usize = 4;
+
+pub const MINUS: usize = 5;
+
+pub const HASH: usize = 6;
+
+pub const STUCK: usize = 24;
+
+// Stages: an operand is wanted; one is there that may be compared; one, or a comparison, that may not; behind IS.
+pub const WANTED: usize = 0;
+
+pub const ALONE: usize = 1;
+
+pub const COMPARED: usize = 2;
+
+pub const BEHIND_IS: usize = 3;
+
+// Where the machine is. `value`: the number so far, or where the string begins. `before`: what stands before the operand in its parentheses, in one number, which is one
+// register and one entry of the stack: 1 for a condition and OR, 2 for one and AND, 4 times the tag of its comparison, 64 for each NOT. `depth`: the open parentheses.
+// `cells`: how many cells there are so far, no more than 2,049.
+pub struct Packed {
     pub mode: usize,
     pub value: usize,
     pub stage: usize,
-    pub ors: u32,
-    pub ands: u32,
-    pub nots: u32,
-    pub left: u32,
+    pub before: u32,
     pub depth: usize,
     pub cells: usize,
 }
@@ -65,8 +84,8 @@ fn next_cell(n: usize, out: &mut [u8], tag: usize, a: usize, b: usize) -> usize
     n + 1
 }
 
-pub fn put(m: Machine, out: &mut [u8], tag: usize, a: usize, b: usize) -> Machine
-    ensures { λ r. ⌜ world r (now (out .exit)) ≡ Lean.put-in tag a b (world m (now (out .entry))) ⌝ }
+pub fn put(m: Packed, out: &mut [u8], tag: usize, a: usize, b: usize) -> Packed
+    ensures { λ r. ⌜ world (unpacked r) (now (out .exit)) ≡ Lean.put-in tag a b (world (unpacked m) (now (out .entry))) ⌝ }
 {
     let k = next_cell(m.cells, out, tag, a, b);
     let mut r = m;
@@ -98,21 +117,27 @@ fn negated(n: usize, out: &mut [u8], nots: u32) -> usize
 }
 
 // The cells of the NOTs before what is read, with that of the And there, for an AND behind it; and with that of the Or, for an OR, parenthesis or the end.
-pub fn conjoin(m: Machine, out: &mut [u8]) -> Machine
-    ensures { λ r. ⌜ world r (now (out .exit)) ≡ Lean.conjoin (world m (now (out .entry))) ⌝ }
+pub fn conjoin(m: Packed, out: &mut [u8]) -> Packed
+    ensures { λ r. ⌜ world (unpacked r) (now (out .exit)) ≡ Lean.conjoin (world (unpacked m) (now (out .entry))) ⌝ }
 {
-    let k = negated(m.cells, out, m.nots);
-    let n = joined(k, out, m.ands, 10);
+    let nots = m.before / 64;
+    let k = negated(m.cells, out, nots);
+    let ands = m.before / 2 % 2;
+    let n = joined(k, out, ands, 10);
     let mut r = m;
     r.cells = n;
     r
 }
 
-pub fn disjoin(m: Machine, out: &mut [u8]) -> Machine
-    ensures { λ r. ⌜ world r (now (out .exit)) ≡ Lean.disjoin (world m (now (out .entry))) ⌝ }
+pub fn disjoin(m: Packed, out: &mut [u8]) -> Packed
+    ensures { λ r. ⌜ world (unpacked r) (now (out .exit)) ≡ Lean.disjoin (world (unpacked m) (now (out .entry))) ⌝ }
 {
+    if m.before == 0 {
+        return m;
+    }
     let p = conjoin(m, out);
-    let n = joined(p.cells, out, p.ors, 11);
+    let ors = p.before % 2;
+    let n = joined(p.cells, out, ors, 11);
     let mut r = p;
     r.cells = n;
     r
@@ -123,44 +148,37 @@ fn filled(left: u32) -> usize
     ensures { λ r. ⌜ r ≡ Lean.filled left ⌝ }
 {
     if left == 0 {
-        return 1;
+        return ALONE;
     }
-    2
+    COMPARED
 }
 
 // The operand whose cells are there stands in its place.
-pub fn fill(m: Machine, out: &mut [u8]) -> Machine
-    ensures { λ r. ⌜ world r (now (out .exit)) ≡ Lean.fill (world m (now (out .entry))) ⌝ }
+pub fn fill(m: Packed, out: &mut [u8]) -> Packed
+    ensures { λ r. ⌜ world (unpacked r) (now (out .exit)) ≡ Lean.fill (world (unpacked m) (now (out .entry))) ⌝ }
 {
-    let tag = m.left as usize;
-    let k = joined(m.cells, out, m.left, tag);
-    let stage = filled(m.left);
+    let left = m.before / 4 % 16;
+    let tag = left as usize;
+    let k = joined(m.cells, out, left, tag);
+    let stage = filled(left);
     let mut r = m;
     r.cells = k;
-    r.left = 0;
+    r.before = m.before - 4 * left;
     r.stage = stage;
     r
 }
 
-pub fn operand(m: Machine, out: &mut [u8], tag: usize, a: usize, b: usize) -> Machine
-    ensures { λ r. ⌜ world r (now (out .exit)) ≡ Lean.operand tag a b (world m (now (out .entry))) ⌝ }
+pub fn operand(m: Packed, out: &mut [u8], tag: usize, a: usize, b: usize) -> Packed
+    ensures { λ r. ⌜ world (unpacked r) (now (out .exit)) ≡ Lean.operand tag a b (world (unpacked m) (now (out .entry))) ⌝ }
 {
     let p = put(m, out, tag, a, b);
     fill(p, out)
 }
 
-pub fn stuck(m: Machine) -> Machine
-    ensures { λ r. ⌜ r ≡ Lean.stuck m ⌝ }
+pub fn stuck(m: Packed) -> Packed
+    ensures { λ r. ⌜ unpacked r ≡ Lean.stuck (unpacked m) ⌝ }
 {
     let mut r = m;
-    r.mode = 24;
-    r
-}
-
-pub fn to_mode(m: Machine, mode: usize) -> Machine
-    ensures { λ r. ⌜ r ≡ Lean.to-mode mode m ⌝ }
-{
-    let mut r = m;
-    r.mode = mode;
+    r.mode = STUCK;
     r
 }

@@ -16,9 +16,9 @@ use Rattle.grammar.specs.Parts.{digit}
 use Rattle.grammar.specs.Typed.{false-true}
 use Rattle.condition_machine.specs.Lean as Lean
 use Rattle.condition_machine.specs.Lean.{World, world, All, all, beside, valued, to-mode, to-stage, counted, stuck, four-words, if-room, put-in, put-times, put-and, put-or, conjoin, disjoin, compared, fill, operand, number-ends, number-tag, number-low, number-high, signed, placed, step, finish, at-end, run, word}
-use Rattle.condition_machine.specs.declared.Machine.{Machine}
+use Rattle.condition_machine.specs.Lean.{Machine}
 use Rattle.condition_machine.proofs.Laws.{pick-lt, skip-lt, pick-le, skip-le, pick-eq, skip-eq, pick-b, skip-b}
-use Rattle.condition_parts.specs.Reads.{fed, act, fed-word, sign-tag, no-part, operand-part, word-part, whole-or, open-part, close-part, sign-part, same, alike, Onward, LeadsAt, LeadsFrom, Leads, NextAt, SpacesTo, QuoteAt, DigitsTo, Here, Behind, operand-there, comparison-there}
+use Rattle.condition_parts.specs.Reads.{fed, act, fed-word, sign-tag, no-part, operand-part, word-part, whole-or, open-part, close-part, sign-part, same, alike, Onward, LeadsAt, LeadsFrom, Leads, NextAt, Along, QuoteAt, DigitsTo, Here, Behind, operand-there, comparison-there}
 use Rattle.condition_parts.specs.declared.Part.{Part}
 use Rattle.condition_parts.specs.declared.Number.{Number}
 
@@ -450,12 +450,6 @@ module _ (text : List ℕ) (m : Machine) (room i : ℕ) where
 
 -- ---- runs of bytes
 
--- In mode k the machine stays as it is, from byte i to byte r.
-pub record Along (text : List ℕ) (k i r : ℕ) : Type 0 where
-  pub low : i ≤ r
-  pub high : r ≤ length text
-  pub same : (s : All) → s .0 .mode ≡ k → run i (drop i text) s ≡ run r (drop r text) s
-
 pub along-start : (text : List ℕ) (k i : ℕ) → i ≤ length text → Along text k i i
 along-start text k i h = record { low = omega arith; high = h; same = λ s e. refl }
 
@@ -480,8 +474,9 @@ string-step i b s n e =
 pub string-next : (text : List ℕ) (i r b : ℕ) → r < length text → b ≡ getD text r 0 → (b ≡ 39 → ⊥) → Along text 7 i r → Along text 7 i (r + 1)
 string-next text i r b l e n = along-next text 7 i r (λ z. omega arith) l (λ s g. string-step r (getD text r 0) s (λ z. n (e ∙ z)) g)
 
-pub spaces-to : {text : List ℕ} {i r : ℕ} → Along text 0 i r → SpacesTo text i r
-spaces-to h = record { low = h .low; high = h .high; same = h .same }
+-- the same with the place as so many bytes behind another
+pub string-more : (text : List ℕ) (i r d b : ℕ) → r + d < length text → b ≡ getD text (r + d) 0 → (b ≡ 39 → ⊥) → Along text 7 i (r + d) → Along text 7 i (r + (d + 1))
+string-more text i r d b l e n a = let h : r + d + 1 ≡ r + (d + 1) = omega arith in subst (Along text 7 i) h (string-next text i (r + d) b l e n a)
 
 pub quote-at : {text : List ℕ} {i r : ℕ} → (r < length text → getD text r 0 ≡ 39) → Along text 7 i r → QuoteAt text i r
 quote-at q h = record { low = h .low; high = h .high; quote = q; same = h .same }
@@ -743,7 +738,7 @@ module _ (text : List ℕ) (room i b : ℕ) (m : Machine) (here : Here text i b 
 
   -- ---- spaces
 
-  pub space-leads : {p : Part} (e : ℕ) → b ≡ 32 → SpacesTo text (i + 1) e → p ≡ word-part 12 0 (m .value) 0 e → NextAt text room m i p
+  pub space-leads : {p : Part} (e : ℕ) → b ≡ 32 → Along text 0 (i + 1) e → p ≡ word-part 12 0 (m .value) 0 e → NextAt text room m i p
   unfolding Lean.begin act
   space-leads {p} e h s f =
       subst (NextAt text room m i) (sym f)

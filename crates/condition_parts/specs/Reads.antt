@@ -6,7 +6,7 @@ use mathlib.Core.List.{List, [], _∷_}
 use lib.Dec.{leb, ltb, eqb}
 use lib.ListN.{length, getD, drop}
 use Rattle.condition_machine.specs.Lean.{World, All, all, valued, to-stage, operand, behind-and, behind-or, behind-is, one-more-not, open-one, close-one, sign, beside, number-ends, run}
-use Rattle.condition_machine.specs.declared.Machine.{Machine}
+use Rattle.condition_machine.specs.Lean.{Machine}
 use Rattle.condition_parts.specs.declared.Part.{Part}
 use Rattle.condition_parts.specs.declared.Number.{Number}
 
@@ -97,11 +97,13 @@ NextAt text room m i p = LeadsAt text room m (i + 1) i (m .mode) (m .value) p
 abbrev pub NextFrom : List ℕ → Machine → ℕ → Part → Type 0
 NextFrom text m i p = (room : ℕ) → NextAt text room m i p
 
--- the same of runs of spaces, of a string's bytes up to its second quote, and of digits
-pub record SpacesTo (text : List ℕ) (i r : ℕ) : Type 0 where
+-- In mode k the machine stays as it is, from byte i to byte r: 0 in spaces, 7 in a string.
+pub record Along (text : List ℕ) (k i r : ℕ) : Type 0 where
   pub low : i ≤ r
   pub high : r ≤ length text
-  pub same : (s : All) → s .0 .mode ≡ 0 → run i (drop i text) s ≡ run r (drop r text) s
+  pub same : (s : All) → s .0 .mode ≡ k → run i (drop i text) s ≡ run r (drop r text) s
+
+-- the same up to a string's second quote, and of digits
 
 pub record QuoteAt (text : List ℕ) (i r : ℕ) : Type 0 where
   pub low : i ≤ r

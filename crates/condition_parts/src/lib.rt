@@ -1,17 +1,45 @@
 // Conditions typed as text: the next part of a text, read whole, or the place where no text of the grammar goes on.
 
-use condition_machine::Machine;
+use condition_machine::Packed;
 ghost use mathlib.Core.Path.{_≡_};
 ghost use Prim.Native.Nat.{_+_, _≤_, _<_};
 ghost use mathlib.Core.List.{[], _∷_};
 ghost use lib.ListN.{length};
 ghost use Rattle.condition_machine.specs.Lean;
+ghost use Rattle.condition_machine.specs.Lean.{unpacked};
 ghost use Rattle.grammar.specs.Parts as Parts;
-ghost use Rattle.condition_parts.specs.Reads.{same, alike, whole-or, no-part, operand-part, word-part, open-part, close-part, sign-part, SpacesTo, QuoteAt, DigitsTo, Here, Behind, LeadsFrom, Leads, NextAt, NextFrom};
+ghost use Rattle.condition_parts.specs.Reads.{same, alike, whole-or, no-part, operand-part, word-part, open-part, close-part, sign-part, Along, QuoteAt, DigitsTo, Here, Behind, LeadsFrom, Leads, NextAt, NextFrom};
 
-// What stands at a place of the text, and what it does to the machine. `kind`: 0 no part that can stand there, and `at` is the first byte that no text of the
-// grammar has there; 1 an operand whose cell is `tag`, `a` and `b`, 2 NOT, 3 AND, 4 OR, 5 IS, 6 the word behind IS, whose cell has this tag, 7 and 8 an opening
-// and a closing parenthesis, 9 to 11 the signs =, < and >, 12 spaces. `mode` and `value`: what these become. `at`: the first byte behind it.
+// The kinds of parts. NONE: no part that can stand there, and `at` is the first byte that no text of the grammar has there.
+pub const NONE: usize = 0;
+
+pub const OPERAND: usize = 1;
+
+pub const NOT: usize = 2;
+
+pub const AND: usize = 3;
+
+pub const OR: usize = 4;
+
+pub const IS: usize = 5;
+
+// The word behind IS.
+pub const NULL_OR_NAN: usize = 6;
+
+pub const OPEN: usize = 7;
+
+pub const CLOSE: usize = 8;
+
+pub const EQUAL: usize = 9;
+
+pub const LESS_THAN: usize = 10;
+
+pub const GREATER_THAN: usize = 11;
+
+pub const SPACES: usize = 12;
+
+// What stands at a place of the text, and what it does to the machine. `tag`, `a` and `b`: the cell of an operand, or of the word behind IS. `mode` and `value`: what these
+// become. `at`: the first byte behind it.
 pub struct Part {
     pub kind: usize,
     pub mode: usize,
@@ -26,8 +54,8 @@ fn no_part(place: usize) -> Part
     ensures { λ r. ⌜ r ≡ no-part place ⌝ }
 {
     Part {
-        kind: 0,
-        mode: 0,
+        kind: NONE,
+        mode: condition_machine::BETWEEN,
         value: 0,
         tag: 0,
         a: 0,
@@ -40,7 +68,7 @@ fn operand_part(mode: usize, value: usize, tag: usize, a: usize, b: usize, at: u
     ensures { λ r. ⌜ r ≡ operand-part mode value tag a b at ⌝ }
 {
     Part {
-        kind: 1,
+        kind: OPERAND,
         mode: mode,
         value: value,
         tag: tag,
@@ -84,7 +112,7 @@ fn digit(b: usize) -> bool
 // Where spaces end.
 fn spaces_end(text: &[u8], at: usize) -> usize
     requires { ⌜ at ≤ length (now text) ⌝ }
-    ensures { λ r. ⌜ SpacesTo (now (text .entry)) at r ⌝ }
+    ensures { λ r. ⌜ Along (now (text .entry)) 0 at r ⌝ }
 {
     let mut i: usize = at;
     while i < text.len() {
@@ -97,12 +125,31 @@ fn spaces_end(text: &[u8], at: usize) -> usize
     i
 }
 
-// Where a string ends: at its second quote, or with the text.
+// Where a string ends: at its second quote, or with the text. It goes four bytes at a time.
 fn string_end(text: &[u8], at: usize) -> usize
     requires { ⌜ at ≤ length (now text) ⌝ }
     ensures { λ r. ⌜ QuoteAt (now (text .entry)) at r ⌝ }
 {
     let mut i: usize = at;
+    while i + 4 <= text.len() {
+        let p = wide(text[i]);
+        if p == 39 {
+            return i;
+        }
+        let q = wide(text[i + 1]);
+        if q == 39 {
+            return i + 1;
+        }
+        let r = wide(text[i + 2]);
+        if r == 39 {
+            return i + 2;
+        }
+        let s = wide(text[i + 3]);
+        if s == 39 {
+            return i + 3;
+        }
+        i += 4;
+    }
     while i < text.len() {
         let b = wide(text[i]);
         if b == 39 {
@@ -116,10 +163,10 @@ fn string_end(text: &[u8], at: usize) -> usize
 fn greatest(mode: usize) -> usize
     ensures { λ r. ⌜ r ≡ Lean.greatest mode ⌝ }
 {
-    if mode == 4 {
+    if mode == condition_machine::PLAIN {
         return 9223372036854775807;
     }
-    if mode == 5 {
+    if mode == condition_machine::MINUS {
         return 9223372036854775808;
     }
     4294967295
@@ -179,7 +226,7 @@ fn digits(text: &[u8], at: usize, mode: usize, value: usize) -> Number
 fn signed(mode: usize, value: usize) -> usize
     ensures { λ r. ⌜ r ≡ Lean.signed mode value ⌝ }
 {
-    if mode == 4 {
+    if mode == condition_machine::PLAIN {
         return value;
     }
     if value == 0 {
@@ -192,7 +239,7 @@ fn signed(mode: usize, value: usize) -> usize
 fn number_tag(mode: usize) -> usize
     ensures { λ r. ⌜ r ≡ Lean.number-tag mode ⌝ }
 {
-    if mode == 6 {
+    if mode == condition_machine::HASH {
         return 6;
     }
     3
@@ -201,7 +248,7 @@ fn number_tag(mode: usize) -> usize
 fn number_low(mode: usize, value: usize) -> usize
     ensures { λ r. ⌜ r ≡ Lean.number-low mode value ⌝ }
 {
-    if mode == 6 {
+    if mode == condition_machine::HASH {
         return value;
     }
     let bits = signed(mode, value);
@@ -211,7 +258,7 @@ fn number_low(mode: usize, value: usize) -> usize
 fn number_high(mode: usize, value: usize) -> usize
     ensures { λ r. ⌜ r ≡ Lean.number-high mode value ⌝ }
 {
-    if mode == 6 {
+    if mode == condition_machine::HASH {
         return 0;
     }
     let bits = signed(mode, value);
@@ -230,7 +277,7 @@ fn number_part(text: &[u8], at: usize, mode: usize, value: usize) -> Part
     let tag = number_tag(mode);
     let a = number_low(mode, d.value);
     let b = number_high(mode, d.value);
-    operand_part(1, d.value, tag, a, b, d.at)
+    operand_part(condition_machine::TOUCHING, d.value, tag, a, b, d.at)
 }
 
 // A number, behind its minus or #.
@@ -269,7 +316,7 @@ fn string_part(text: &[u8], at: usize) -> Part
         return no_part(e);
     }
     let a = reference(at, e);
-    operand_part(0, at, 5, a, 0, e + 1)
+    operand_part(condition_machine::BETWEEN, at, 5, a, 0, e + 1)
 }
 
 // ---- words
@@ -341,7 +388,7 @@ fn true_part(text: &[u8], at: usize) -> Part
     ensures { λ r. ⌜ Leads (now (text .entry)) at 8 0 r ⌝ }
 {
     let place = spelled_3(text, at, 82, 85, 69);
-    let p = operand_part(1, 0, 2, 1, 0, at + 3);
+    let p = operand_part(condition_machine::TOUCHING, 0, 2, 1, 0, at + 3);
     whole_or(place, p)
 }
 
@@ -350,7 +397,7 @@ fn false_part(text: &[u8], at: usize) -> Part
     ensures { λ r. ⌜ Leads (now (text .entry)) at 11 0 r ⌝ }
 {
     let place = spelled_4(text, at, 65, 76, 83, 69);
-    let p = operand_part(1, 0, 2, 0, 0, at + 4);
+    let p = operand_part(condition_machine::TOUCHING, 0, 2, 0, 0, at + 4);
     whole_or(place, p)
 }
 
@@ -359,7 +406,7 @@ fn and_part(text: &[u8], at: usize, value: usize) -> Part
     ensures { λ r. ⌜ Leads (now (text .entry)) at 19 value r ⌝ }
 {
     let place = spelled_2(text, at, 78, 68);
-    let p = word_part(3, 1, value, 0, at + 2);
+    let p = word_part(AND, condition_machine::TOUCHING, value, 0, at + 2);
     whole_or(place, p)
 }
 
@@ -368,7 +415,7 @@ fn or_part(text: &[u8], at: usize, value: usize) -> Part
     ensures { λ r. ⌜ Leads (now (text .entry)) at 21 value r ⌝ }
 {
     let place = spelled_1(text, at, 82);
-    let p = word_part(4, 1, value, 0, at + 1);
+    let p = word_part(OR, condition_machine::TOUCHING, value, 0, at + 1);
     whole_or(place, p)
 }
 
@@ -377,66 +424,66 @@ fn is_part(text: &[u8], at: usize, value: usize) -> Part
     ensures { λ r. ⌜ Leads (now (text .entry)) at 22 value r ⌝ }
 {
     let place = spelled_1(text, at, 83);
-    let p = word_part(5, 1, value, 0, at + 1);
+    let p = word_part(IS, condition_machine::TOUCHING, value, 0, at + 1);
     whole_or(place, p)
 }
 
 // NULL or NOT, behind the N, where an operand is wanted.
-fn null_or_not(text: &[u8], at: usize, m: Machine) -> Part
+fn null_or_not(text: &[u8], at: usize, m: Packed) -> Part
     requires { ⌜ (at ≤ length (now text)) × (length (now text) ≤ 8192) × (m .stage ≡ 0) ⌝ }
-    ensures { λ r. ⌜ LeadsFrom (now (text .entry)) m at 23 (m .value) r ⌝ }
+    ensures { λ r. ⌜ LeadsFrom (now (text .entry)) (unpacked m) at 23 (m .value) r ⌝ }
 {
     if same(text, at, 85) {
         let place = spelled_2(text, at + 1, 76, 76);
-        let p = operand_part(1, m.value, 1, 0, 0, at + 3);
+        let p = operand_part(condition_machine::TOUCHING, m.value, 1, 0, 0, at + 3);
         return whole_or(place, p);
     }
-    if m.left != 0 {
+    if m.before / 4 % 16 != 0 {
         return no_part(at);
     }
     if !same(text, at, 79) {
         return no_part(at);
     }
     let place = spelled_1(text, at + 1, 84);
-    let p = word_part(2, 1, m.value, 0, at + 2);
+    let p = word_part(NOT, condition_machine::TOUCHING, m.value, 0, at + 2);
     whole_or(place, p)
 }
 
 // NULL or NAN, behind the N, behind IS.
-fn null_or_nan(text: &[u8], at: usize, m: Machine) -> Part
+fn null_or_nan(text: &[u8], at: usize, m: Packed) -> Part
     requires { ⌜ (at ≤ length (now text)) × (length (now text) ≤ 8192) × (m .stage ≡ 3) ⌝ }
-    ensures { λ r. ⌜ LeadsFrom (now (text .entry)) m at 23 (m .value) r ⌝ }
+    ensures { λ r. ⌜ LeadsFrom (now (text .entry)) (unpacked m) at 23 (m .value) r ⌝ }
 {
     if same(text, at, 85) {
         let place = spelled_2(text, at + 1, 76, 76);
-        let p = word_part(6, 1, m.value, 31, at + 3);
+        let p = word_part(NULL_OR_NAN, condition_machine::TOUCHING, m.value, 31, at + 3);
         return whole_or(place, p);
     }
     if !same(text, at, 65) {
         return no_part(at);
     }
     let place = spelled_1(text, at + 1, 78);
-    let p = word_part(6, 1, m.value, 32, at + 2);
+    let p = word_part(NULL_OR_NAN, condition_machine::TOUCHING, m.value, 32, at + 2);
     whole_or(place, p)
 }
 
 // ---- signs and parentheses, which are one byte
 
 // An opening parenthesis, if the stack has room for it.
-fn open_part(at: usize, m: Machine, room: usize) -> Part
+fn open_part(at: usize, m: Packed, room: usize) -> Part
     requires { ⌜ at < 8192 ⌝ }
-    ensures { λ r. ⌜ r ≡ open-part at m room ⌝ }
+    ensures { λ r. ⌜ r ≡ open-part at (unpacked m) room ⌝ }
 {
     if room <= m.depth {
         return no_part(at);
     }
-    word_part(7, m.mode, m.value, 0, at + 1)
+    word_part(OPEN, m.mode, m.value, 0, at + 1)
 }
 
 // A closing one, if one is open.
-fn close_part(at: usize, m: Machine, room: usize) -> Part
+fn close_part(at: usize, m: Packed, room: usize) -> Part
     requires { ⌜ at < 8192 ⌝ }
-    ensures { λ r. ⌜ r ≡ close-part at m room ⌝ }
+    ensures { λ r. ⌜ r ≡ close-part at (unpacked m) room ⌝ }
 {
     if m.depth == 0 {
         return no_part(at);
@@ -444,15 +491,15 @@ fn close_part(at: usize, m: Machine, room: usize) -> Part
     if room < m.depth {
         return no_part(at);
     }
-    word_part(8, m.mode, m.value, 0, at + 1)
+    word_part(CLOSE, m.mode, m.value, 0, at + 1)
 }
 
 // A sign, if a comparison may follow.
-fn sign_part(kind: usize, at: usize, m: Machine) -> Part
+fn sign_part(kind: usize, at: usize, m: Packed) -> Part
     requires { ⌜ at < 8192 ⌝ }
-    ensures { λ r. ⌜ r ≡ sign-part kind at m ⌝ }
+    ensures { λ r. ⌜ r ≡ sign-part kind at (unpacked m) ⌝ }
 {
-    if m.stage != 1 {
+    if m.stage != condition_machine::ALONE {
         return no_part(at);
     }
     word_part(kind, m.mode, m.value, 0, at + 1)
@@ -461,9 +508,9 @@ fn sign_part(kind: usize, at: usize, m: Machine) -> Part
 // ---- the next part, by its first byte
 
 // Where an operand is wanted. The stack has room for so many parentheses.
-fn wanted_part(text: &[u8], at: usize, b: usize, m: Machine, room: usize) -> Part
-    requires { ⌜ Here (now text) at b m × (m .stage ≡ 0) × (b ≡ 32 → ⊥) ⌝ }
-    ensures { λ r. ⌜ NextAt (now (text .entry)) room m at r ⌝ }
+fn wanted_part(text: &[u8], at: usize, b: usize, m: Packed, room: usize) -> Part
+    requires { ⌜ Here (now text) at b (unpacked m) × (m .stage ≡ 0) × (b ≡ 32 → ⊥) ⌝ }
+    ensures { λ r. ⌜ NextAt (now (text .entry)) room (unpacked m) at r ⌝ }
 {
     if b == 40 {
         return open_part(at, m, room);
@@ -475,7 +522,7 @@ fn wanted_part(text: &[u8], at: usize, b: usize, m: Machine, room: usize) -> Par
         return no_part(at);
     }
     if digit(b) {
-        return number_part(text, at + 1, 4, b - 48);
+        return number_part(text, at + 1, condition_machine::PLAIN, b - 48);
     }
     if b == 35 {
         return begun_part(text, at + 1, 3, 0);
@@ -496,21 +543,21 @@ fn wanted_part(text: &[u8], at: usize, b: usize, m: Machine, room: usize) -> Par
 }
 
 // Behind an operand or comparison.
-fn behind_part(text: &[u8], at: usize, b: usize, m: Machine, room: usize) -> Part
-    requires { ⌜ Here (now text) at b m × Behind (m .stage) × (b ≡ 32 → ⊥) ⌝ }
-    ensures { λ r. ⌜ NextAt (now (text .entry)) room m at r ⌝ }
+fn behind_part(text: &[u8], at: usize, b: usize, m: Packed, room: usize) -> Part
+    requires { ⌜ Here (now text) at b (unpacked m) × Behind (m .stage) × (b ≡ 32 → ⊥) ⌝ }
+    ensures { λ r. ⌜ NextAt (now (text .entry)) room (unpacked m) at r ⌝ }
 {
     if b == 41 {
         return close_part(at, m, room);
     }
     if b == 61 {
-        return sign_part(9, at, m);
+        return sign_part(EQUAL, at, m);
     }
     if b == 60 {
-        return sign_part(10, at, m);
+        return sign_part(LESS_THAN, at, m);
     }
     if b == 62 {
-        return sign_part(11, at, m);
+        return sign_part(GREATER_THAN, at, m);
     }
     if m.mode != 0 {
         return no_part(at);
@@ -524,16 +571,16 @@ fn behind_part(text: &[u8], at: usize, b: usize, m: Machine, room: usize) -> Par
     if b != 73 {
         return no_part(at);
     }
-    if m.stage != 1 {
+    if m.stage != condition_machine::ALONE {
         return no_part(at);
     }
     is_part(text, at + 1, m.value)
 }
 
 // Behind IS.
-fn behind_is_part(text: &[u8], at: usize, b: usize, m: Machine) -> Part
-    requires { ⌜ Here (now text) at b m × (3 ≤ m .stage) × (b ≡ 32 → ⊥) ⌝ }
-    ensures { λ r. ⌜ NextFrom (now (text .entry)) m at r ⌝ }
+fn behind_is_part(text: &[u8], at: usize, b: usize, m: Packed) -> Part
+    requires { ⌜ Here (now text) at b (unpacked m) × (3 ≤ m .stage) × (b ≡ 32 → ⊥) ⌝ }
+    ensures { λ r. ⌜ NextFrom (now (text .entry)) (unpacked m) at r ⌝ }
 {
     if m.mode != 0 {
         return no_part(at);
@@ -541,25 +588,25 @@ fn behind_is_part(text: &[u8], at: usize, b: usize, m: Machine) -> Part
     if b != 78 {
         return no_part(at);
     }
-    if m.stage != 3 {
+    if m.stage != condition_machine::BEHIND_IS {
         return no_part(at);
     }
     null_or_nan(text, at + 1, m)
 }
 
 // The part at byte number `at` of the text, b, or the spaces there.
-pub fn next_part(text: &[u8], at: usize, b: usize, m: Machine, room: usize) -> Part
-    requires { ⌜ Here (now text) at b m ⌝ }
-    ensures { λ r. ⌜ NextAt (now (text .entry)) room m at r ⌝ }
+pub fn next_part(text: &[u8], at: usize, b: usize, m: Packed, room: usize) -> Part
+    requires { ⌜ Here (now text) at b (unpacked m) ⌝ }
+    ensures { λ r. ⌜ NextAt (now (text .entry)) room (unpacked m) at r ⌝ }
 {
     if b == 32 {
         let e = spaces_end(text, at + 1);
-        return word_part(12, 0, m.value, 0, e);
+        return word_part(SPACES, condition_machine::BETWEEN, m.value, 0, e);
     }
-    if m.stage == 0 {
+    if m.stage == condition_machine::WANTED {
         return wanted_part(text, at, b, m, room);
     }
-    if m.stage < 3 {
+    if m.stage < condition_machine::BEHIND_IS {
         return behind_part(text, at, b, m, room);
     }
     behind_is_part(text, at, b, m)

@@ -10,12 +10,12 @@ ghost use Rattle.checker.specs.Checker.{outcome};
 
 // The cells are written to a buffer, and copied from there: a refusal leaves the output as it was. The stack has an entry for each byte, the buffer room for a
 // cell a byte, or for all that there may be.
-fn read_in(text: &[u8], stack: &mut [u64], cells: &mut [u8], out: &mut [u8]) -> Answer
+fn read_in(text: &[u8], stack: &mut [u32], cells: &mut [u8], out: &mut [u8]) -> Answer
     requires { ⌜ (length (now text) ≤ length (now stack)) × (length (now stack) ≤ 8192) × Room (now text) (now cells) ⌝ }
     ensures { λ a. ⌜ outcome a (now (out .exit)) ≡ condition (now (text .entry)) (now (out .entry)) ⌝ }
 {
     let m = condition::run(text, stack, cells);
-    if m.mode == 24 {
+    if m.mode == condition_machine::STUCK {
         return checker::refusal(22, m.value);
     }
     if 2048 < m.cells {
@@ -40,8 +40,17 @@ fn in_32(text: &[u8], out: &mut [u8]) -> Answer
     requires { ⌜ length (now text) ≤ 32 ⌝ }
     ensures { λ a. ⌜ outcome a (now (out .exit)) ≡ condition (now (text .entry)) (now (out .entry)) ⌝ }
 {
-    let mut stack = [0u64; 32];
+    let mut stack = [0u32; 32];
     let mut cells = [0u8; 512];
+    read_in(text, &mut stack, &mut cells, out)
+}
+
+fn in_64(text: &[u8], out: &mut [u8]) -> Answer
+    requires { ⌜ length (now text) ≤ 64 ⌝ }
+    ensures { λ a. ⌜ outcome a (now (out .exit)) ≡ condition (now (text .entry)) (now (out .entry)) ⌝ }
+{
+    let mut stack = [0u32; 64];
+    let mut cells = [0u8; 1024];
     read_in(text, &mut stack, &mut cells, out)
 }
 
@@ -49,8 +58,17 @@ fn in_128(text: &[u8], out: &mut [u8]) -> Answer
     requires { ⌜ length (now text) ≤ 128 ⌝ }
     ensures { λ a. ⌜ outcome a (now (out .exit)) ≡ condition (now (text .entry)) (now (out .entry)) ⌝ }
 {
-    let mut stack = [0u64; 128];
+    let mut stack = [0u32; 128];
     let mut cells = [0u8; 2048];
+    read_in(text, &mut stack, &mut cells, out)
+}
+
+fn in_256(text: &[u8], out: &mut [u8]) -> Answer
+    requires { ⌜ length (now text) ≤ 256 ⌝ }
+    ensures { λ a. ⌜ outcome a (now (out .exit)) ≡ condition (now (text .entry)) (now (out .entry)) ⌝ }
+{
+    let mut stack = [0u32; 256];
+    let mut cells = [0u8; 4096];
     read_in(text, &mut stack, &mut cells, out)
 }
 
@@ -58,8 +76,17 @@ fn in_512(text: &[u8], out: &mut [u8]) -> Answer
     requires { ⌜ length (now text) ≤ 512 ⌝ }
     ensures { λ a. ⌜ outcome a (now (out .exit)) ≡ condition (now (text .entry)) (now (out .entry)) ⌝ }
 {
-    let mut stack = [0u64; 512];
+    let mut stack = [0u32; 512];
     let mut cells = [0u8; 8192];
+    read_in(text, &mut stack, &mut cells, out)
+}
+
+fn in_1024(text: &[u8], out: &mut [u8]) -> Answer
+    requires { ⌜ length (now text) ≤ 1024 ⌝ }
+    ensures { λ a. ⌜ outcome a (now (out .exit)) ≡ condition (now (text .entry)) (now (out .entry)) ⌝ }
+{
+    let mut stack = [0u32; 1024];
+    let mut cells = [0u8; 16384];
     read_in(text, &mut stack, &mut cells, out)
 }
 
@@ -67,7 +94,16 @@ fn in_2048(text: &[u8], out: &mut [u8]) -> Answer
     requires { ⌜ length (now text) ≤ 2048 ⌝ }
     ensures { λ a. ⌜ outcome a (now (out .exit)) ≡ condition (now (text .entry)) (now (out .entry)) ⌝ }
 {
-    let mut stack = [0u64; 2048];
+    let mut stack = [0u32; 2048];
+    let mut cells = [0u8; 32768];
+    read_in(text, &mut stack, &mut cells, out)
+}
+
+fn in_4096(text: &[u8], out: &mut [u8]) -> Answer
+    requires { ⌜ length (now text) ≤ 4096 ⌝ }
+    ensures { λ a. ⌜ outcome a (now (out .exit)) ≡ condition (now (text .entry)) (now (out .entry)) ⌝ }
+{
+    let mut stack = [0u32; 4096];
     let mut cells = [0u8; 32768];
     read_in(text, &mut stack, &mut cells, out)
 }
@@ -76,22 +112,41 @@ fn in_8192(text: &[u8], out: &mut [u8]) -> Answer
     requires { ⌜ length (now text) ≤ 8192 ⌝ }
     ensures { λ a. ⌜ outcome a (now (out .exit)) ≡ condition (now (text .entry)) (now (out .entry)) ⌝ }
 {
-    let mut stack = [0u64; 8192];
+    let mut stack = [0u32; 8192];
     let mut cells = [0u8; 32768];
     read_in(text, &mut stack, &mut cells, out)
 }
 
 // The place of a text that is stuck in its first k bytes, or k and more: a long one that is wrong at its beginning is answered before large buffers are cleared.
 fn early(text: &[u8], k: usize) -> usize
-    requires { ⌜ (k ≤ length (now text)) × (k ≤ 128) × (length (now text) ≤ 8192) ⌝ }
+    requires { ⌜ (k ≤ length (now text)) × (k ≤ 64) × (length (now text) ≤ 8192) ⌝ }
     ensures { λ r. ⌜ Early (now (text .entry)) k r ⌝ }
 {
+    let mut stack = [0u32; 64];
     let mut none = [0u8; 1];
-    let a = in_128(&text[..k], &mut none);
-    if a.number != 22 {
+    let m = condition::run(&text[..k], &mut stack, &mut none);
+    if m.mode != condition_machine::STUCK {
         return k;
     }
-    a.place
+    m.value
+}
+
+// The largest texts, in buffers for their size.
+fn read_large(text: &[u8], out: &mut [u8]) -> Answer
+    requires { ⌜ length (now text) ≤ 8192 ⌝ }
+    ensures { λ a. ⌜ outcome a (now (out .exit)) ≡ condition (now (text .entry)) (now (out .entry)) ⌝ }
+{
+    let n = text.len();
+    if n <= 1024 {
+        return in_1024(text, out);
+    }
+    if n <= 2048 {
+        return in_2048(text, out);
+    }
+    if n <= 4096 {
+        return in_4096(text, out);
+    }
+    in_8192(text, out)
 }
 
 // In buffers for a text of this size; a long one is first tried so many times at its beginning. It calls itself behind that, and so keeps a small frame: LLVM puts
@@ -104,8 +159,14 @@ fn read_sized(text: &[u8], tries: usize, out: &mut [u8]) -> Answer
     if n <= 32 {
         return in_32(text, out);
     }
+    if n <= 64 {
+        return in_64(text, out);
+    }
     if n <= 128 {
         return in_128(text, out);
+    }
+    if n <= 256 {
+        return in_256(text, out);
     }
     if n <= 512 {
         return in_512(text, out);
@@ -117,10 +178,7 @@ fn read_sized(text: &[u8], tries: usize, out: &mut [u8]) -> Answer
         }
         return read_sized(text, tries - 1, out);
     }
-    if n <= 2048 {
-        return in_2048(text, out);
-    }
-    in_8192(text, out)
+    read_large(text, out)
 }
 
 pub fn read_condition(text: &[u8], out: &mut [u8]) -> Answer

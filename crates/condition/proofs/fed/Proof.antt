@@ -7,11 +7,12 @@ use borrow.Author.Needs.{needs}
 use Rattle.condition_machine.proofs.Laws.{pick-lt, skip-lt, pick-eq, skip-eq}
 use Rattle.condition_machine.specs.Lean.{World, world, All, all, beside}
 use Rattle.condition_machine.specs.Lean
-use Rattle.condition_machine.specs.declared.Machine.{Machine}
+use Rattle.condition_machine.specs.Lean.{Machine}
 use Rattle.condition.proofs.Laws as Laws
 use Rattle.condition_parts.specs.Reads as Reads
 use Rattle.condition.proofs.fed.Statement.{statement}
 use Rattle.condition.proofs.fed.Tie as tie
+use Rattle.condition_machine.specs.Lean.{unpacked}
 
 returns : tie.Need-returns
 unfolding Reads.act
@@ -64,11 +65,11 @@ sign-tag-requires : tie.Need-sign-tag-requires
 sign-tag-requires c κs = search needs
 
 sign-requires : tie.Need-sign-requires
-sign-requires c κs = search needs
+sign-requires c κs = Laws.sign-small _ _ (c .sign-tag .ensures)
 
 returns-6 : tie.Need-returns-6
 unfolding Reads.act
-returns-6 c = ap (λ (z : Machine). all z (c .before .before .before .before .before .before .before .before .before .before .before .before .before .before .args .stack .now) (c .before .before .before .before .before .before .before .before .before .before .before .before .before .before .args .out .now)) (Laws.sign-last _ _ (Lean.valued (c .before .before .before .before .before .before .before .before .before .before .before .before .before .before .args .p .mode) (c .before .before .before .before .before .before .before .before .before .before .before .before .before .before .args .p .value) (c .before .before .before .before .before .before .before .before .before .before .before .before .before .before .args .m)) _ (c .before .sign-tag .ensures) (c .sign .ensures)) ∙ sym (skip-eq {A = All} _ _ _ _ (c .before .before .before .before .before .before .before .before .before .before .if1 .left) ∙ skip-eq {A = All} _ _ _ _ (c .before .before .before .before .before .before .before .before .if2 .left) ∙ skip-lt {A = All} _ _ _ _ (c .before .before .before .before .before .before .if3 .left) ∙ skip-eq {A = All} _ _ _ _ (c .before .before .before .before .if4 .left) ∙ skip-eq {A = All} _ _ _ _ (c .before .before .if5 .left))
+returns-6 c = ap (λ (z : Machine). all z (c .before .before .before .before .before .before .before .before .before .before .before .before .before .before .args .stack .now) (c .before .before .before .before .before .before .before .before .before .before .before .before .before .before .args .out .now)) (Laws.sign-last _ _ (Lean.valued (c .before .before .before .before .before .before .before .before .before .before .before .before .before .before .args .p .mode) (c .before .before .before .before .before .before .before .before .before .before .before .before .before .before .args .p .value) (unpacked (c .before .before .before .before .before .before .before .before .before .before .before .before .before .before .args .m))) _ (c .before .sign-tag .ensures) (c .sign .ensures)) ∙ sym (skip-eq {A = All} _ _ _ _ (c .before .before .before .before .before .before .before .before .before .before .if1 .left) ∙ skip-eq {A = All} _ _ _ _ (c .before .before .before .before .before .before .before .before .if2 .left) ∙ skip-lt {A = All} _ _ _ _ (c .before .before .before .before .before .before .if3 .left) ∙ skip-eq {A = All} _ _ _ _ (c .before .before .before .before .if4 .left) ∙ skip-eq {A = All} _ _ _ _ (c .before .before .if5 .left))
 
 pub fed-spec : {M : Type 1} → statement M
 fed-spec = tie.close (tie.spec returns operand-requires same-length returns-2 fed-word-requires same-length-2 returns-3 open-one-requires same-length-3 returns-4 close-one-requires same-length-4 same-length-5 returns-5 sign-tag-requires sign-requires returns-6)

@@ -7,7 +7,7 @@ use borrow.Author.Needs.{needs}
 use Rattle.condition_machine.proofs.Laws.{pick-lt, skip-lt, pick-eq, skip-eq}
 use Rattle.condition_machine.specs.Lean.{World, world, All, all, beside}
 use Rattle.condition_machine.specs.Lean
-use Rattle.condition_machine.specs.declared.Machine.{Machine}
+use Rattle.condition_machine.specs.Lean.{Machine}
 use Rattle.condition.proofs.Laws as Laws
 use Rattle.condition_parts.specs.Reads as Reads
 use Rattle.condition.proofs.fed_word.Statement.{statement}

@@ -1,4 +1,5 @@
-use Rattle.condition_machine.proofs.Laws.{fill-is}
+use Rattle.condition_machine.proofs.Laws.{fill-packed}
+use mathlib.Core.Path.{refl}
 use borrow.Author.Needs.{needs}
 use Rattle.condition_machine.proofs.fill.Statement.{statement}
 use Rattle.condition_machine.proofs.fill.Tie as tie
@@ -16,11 +17,24 @@ joined-requires c κs = search needs
 filled-requires : tie.Need-filled-requires
 filled-requires c κs = search needs
 
+mul-r : tie.Need-mul-r
+mul-r c = search needs
+
+sub-r : tie.Need-sub-r
+sub-r c = search needs
+
 same-length : tie.Need-same-length
 same-length c = search needs
 
 returns : tie.Need-returns
-returns c = fill-is (c .before .before .before .before .before .before .before .args .m) (c .before .before .before .before .before .before .before .args .out .now) _ _ _ (c .before .before .before .joined .ensures) (c .filled .ensures)
+returns c = fill-packed (c .before .before .before .before .before .before .before .before .args .m) _ (c .before .before .before .before .before .before .before .before .args .out .now) _ _ _ (c .before .before .before .before .joined .ensures) (c .before .filled .ensures) refl
 
 pub fill-spec : {M : Type 1} → statement M
-fill-spec = tie.close (tie.spec cast-tag joined-requires filled-requires same-length returns)
+fill-spec = tie.close (tie.spec
+    cast-tag
+    joined-requires
+    filled-requires
+    mul-r
+    sub-r
+    same-length
+    returns)

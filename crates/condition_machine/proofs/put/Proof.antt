@@ -1,4 +1,5 @@
 use mathlib.Core.Path.{refl}
+use Rattle.condition_machine.specs.Lean.{unpacked}
 use borrow.Author.Needs.{needs}
 use Rattle.condition_machine.proofs.put.Statement.{statement}
 use Rattle.condition_machine.proofs.put.Tie as tie
@@ -13,7 +14,7 @@ same-length : tie.Need-same-length
 same-length c = search needs
 
 returns : tie.Need-returns
-returns c = c .before .before .next-cell .ensures .adds (c .before .before .before .before .before .args .m) refl
+returns c = c .before .before .next-cell .ensures .adds (unpacked (c .before .before .before .before .before .args .m)) refl
 
 pub put-spec : {M : Type 1} → statement M
 put-spec = tie.close (tie.spec next-cell-requires same-length returns)

@@ -9,6 +9,7 @@ use borrow.Author.Tests.{not-true, not-false}
 use borrow.Author.Needs.{needs}
 use Rattle.condition_machine.proofs.Laws.{pick-lt, skip-lt, pick-le, skip-le, pick-eq, skip-eq}
 use Rattle.condition_machine.specs.Lean
+use Rattle.condition_machine.specs.Lean.{unpacked}
 use Rattle.condition_parts.proofs.Laws as Laws
 use Rattle.condition_parts.specs.Reads as Reads
 use Rattle.condition_parts.specs.Reads.{Here, Leads, NextAt, NextFrom, operand-part, word-part, no-part}
@@ -26,7 +27,7 @@ word-part-requires : tie.Need-word-part-requires
 word-part-requires c κs = search needs
 
 returns : tie.Need-returns
-returns c = Laws.space-leads (c .before .before .before .before .args .text .now) (c .before .before .before .before .args .room) (c .before .before .before .before .args .at) (c .before .before .before .before .args .b) (c .before .before .before .before .args .m) (c .before .before .before .before .pre) _ (c .before .before .if1 .taken) (c .before .spaces-end .ensures) (c .word-part .ensures)
+returns c = Laws.space-leads (c .before .before .before .before .args .text .now) (c .before .before .before .before .args .room) (c .before .before .before .before .args .at) (c .before .before .before .before .args .b) (unpacked (c .before .before .before .before .args .m)) (c .before .before .before .before .pre) _ (c .before .before .if1 .taken) (c .before .spaces-end .ensures) (c .word-part .ensures)
 
 wanted-part-requires : tie.Need-wanted-part-requires
 wanted-part-requires c κs = (c .before .before .before .before .pre, c .if2 .taken, c .before .before .if1 .left)

@@ -17,7 +17,7 @@ use Rattle.condition_parts.proofs.spaces_end.Statement.{statement}
 use Rattle.condition_parts.proofs.spaces_end.Tie as tie
 
 abbrev Inv-loop : tie.InvT-loop
-Inv-loop text at i₀ i = Laws.Along text 0 at i
+Inv-loop text at i₀ i = Reads.Along text 0 at i
 
 abbrev μ-loop : tie.MeasureT-loop
 μ-loop text at i₀ i = length text - i
@@ -32,7 +32,7 @@ wide-requires : tie.Need-wide-requires Inv-loop μ-loop
 wide-requires c κs = tt
 
 returns : tie.Need-returns Inv-loop μ-loop
-returns c = Laws.spaces-to (c .before .before .before .before .loop .inv)
+returns c = c .before .before .before .before .loop .inv
 
 add-i : tie.Need-add-i Inv-loop μ-loop
 add-i c = omega arith
@@ -44,7 +44,7 @@ loop-again : tie.Need-loop-again Inv-loop μ-loop
 loop-again c = Laws.spaces-next _ _ _ _ (omega arith) (c .before .wide .ensures) (c .if1 .left) (c .before .before .before .before .loop .inv)
 
 returns-2 : tie.Need-returns-2 Inv-loop μ-loop
-returns-2 c = Laws.spaces-to (c .before .loop .inv)
+returns-2 c = c .before .loop .inv
 
 pub spaces-end-spec : {M : Type 1} → statement M
 spaces-end-spec = tie.close (tie.spec Inv-loop μ-loop loop-holds shared-slice-read-wide wide-requires returns add-i loop-less loop-again returns-2)
