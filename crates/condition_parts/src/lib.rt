@@ -456,14 +456,26 @@ fn null_or_nan(text: &[u8], at: usize, m: Packed) -> Part
 {
     if same(text, at, 85) {
         let place = spelled_2(text, at + 1, 76, 76);
-        let p = word_part(NULL_OR_NAN, condition_machine::TOUCHING, m.value, 31, at + 3);
+        let p = word_part(
+            NULL_OR_NAN,
+            condition_machine::TOUCHING,
+            m.value,
+            31,
+            at + 3,
+        );
         return whole_or(place, p);
     }
     if !same(text, at, 65) {
         return no_part(at);
     }
     let place = spelled_1(text, at + 1, 78);
-    let p = word_part(NULL_OR_NAN, condition_machine::TOUCHING, m.value, 32, at + 2);
+    let p = word_part(
+        NULL_OR_NAN,
+        condition_machine::TOUCHING,
+        m.value,
+        32,
+        at + 2,
+    );
     whole_or(place, p)
 }
 
