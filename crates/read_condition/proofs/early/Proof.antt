@@ -5,7 +5,7 @@ use mathlib.Core.List.{List, []}
 use lib.ListN.{length, take}
 use lib.Seq.{length-take-le}
 use borrow.Author.Needs.{needs}
-use Rattle.sheet.specs.Operations.{refuse}
+use Rattle.sheet.specs.Check.{refuse}
 use Rattle.condition_laws.specs.Answers.{not-taken}
 use Rattle.condition_laws.specs.Early.{early-none, early-some}
 use Rattle.read_condition.proofs.early.Statement.{statement}
