@@ -497,7 +497,7 @@ impl Passes<'_> {
         }
         let (lefts, rights) = (for_left.len(), for_right.len());
         for e in &stays {
-            let (true, Some(l), Some(r)) = (e.is(tag::EQUAL), e.kids[0].column(), e.kids.get(1).and_then(Tree::column)) else {
+            let (true, Some(l), Some(r)) = (e.is(tag::EQUAL), e.kids.first().and_then(Tree::column), e.kids.get(1).and_then(Tree::column)) else {
                 continue;
             };
             let (l, r) = (l.min(r), l.max(r));
