@@ -10,7 +10,7 @@ use lib.Seq.{take-append-seam, take-length}
 use Rattle.sql.specs.Expression.{Expression}
 use Rattle.sheet.specs.Cells.{expression-cells}
 use Rattle.sheet.specs.Write.{cells-bytes}
-use Rattle.sheet.specs.Operations.{Outcome, refuse}
+use Rattle.sheet.specs.Check.{Outcome, refuse}
 use Rattle.grammar.specs.Machine.{Reading, taken, refused, reading}
 use Rattle.grammar.specs.Operation.{tree-bytes, written, answered, condition}
 use Rattle.grammar.specs.Proof.{proved}

@@ -53,8 +53,8 @@ reads-few (simple {p = p} {e = e} h) = omega (arith, simple-one p e h)
 reads-few (in-parentheses d) = omega (arith, reads-few d)
 reads-few (alone d) = reads-few d
 reads-few (compared {o = o} {l = l} {e = e} d c) = omega (arith, binary-count (operator o) l e, reads-few d, reads-few c)
-reads-few (is-null {e = e} d) = omega (arith, unary-count (Unary.function IsNull) e, reads-few d)
-reads-few (is-nan {e = e} d) = omega (arith, unary-count (Unary.function IsNaN) e, reads-few d)
+reads-few (is-null {e = e} d) = omega (arith, unary-count (Unary.function1 IsNull) e, reads-few d)
+reads-few (is-nan {e = e} d) = omega (arith, unary-count (Unary.function1 IsNaN) e, reads-few d)
 reads-few (affirmed d) = reads-few d
 reads-few (negated {e = e} d) = omega (arith, unary-count Not e, reads-few d)
 reads-few (one d) = reads-few d

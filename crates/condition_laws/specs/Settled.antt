@@ -82,21 +82,21 @@ module _ (out₀ : List ℕ) where
 
   -- IS NULL and IS NAN.
   pub null-follows : (k v : ℕ) (b : Before) (e : Expression) (st : Stack)
-      → Lean.behind-is 31 (at-position out₀ k v (is b e st)) ≡ at-position out₀ k v (have b false (unary 0 (Unary.function IsNull) e) st)
+      → Lean.behind-is 31 (at-position out₀ k v (is b e st)) ≡ at-position out₀ k v (have b false (unary 0 (Unary.function1 IsNull) e) st)
   unfolding expression-cells
   null-follows k v b e st =
       ap Lean.closed (put-drawn out₀ (position-cells (is b e st)) k v (is b e st) 31 0 0)
-      ∙ ap (λ (ks : List Cell). at-cells out₀ ks k v (have b false (unary 0 (Unary.function IsNull) e) st)) (regroup (stack-cells st) (before-cells b) (expression-cells e) (cell-with 31 0 0 ∷ []))
+      ∙ ap (λ (ks : List Cell). at-cells out₀ ks k v (have b false (unary 0 (Unary.function1 IsNull) e) st)) (regroup (stack-cells st) (before-cells b) (expression-cells e) (cell-with 31 0 0 ∷ []))
     where
       regroup : (s o x f : List Cell) → (s ++ (o ++ x)) ++ f ≡ s ++ (o ++ (x ++ f))
       regroup s o x f = simp append-assoc
 
   pub nan-follows : (k v : ℕ) (b : Before) (e : Expression) (st : Stack)
-      → Lean.behind-is 32 (at-position out₀ k v (is b e st)) ≡ at-position out₀ k v (have b false (unary 0 (Unary.function IsNaN) e) st)
+      → Lean.behind-is 32 (at-position out₀ k v (is b e st)) ≡ at-position out₀ k v (have b false (unary 0 (Unary.function1 IsNaN) e) st)
   unfolding expression-cells
   nan-follows k v b e st =
       ap Lean.closed (put-drawn out₀ (position-cells (is b e st)) k v (is b e st) 32 0 0)
-      ∙ ap (λ (ks : List Cell). at-cells out₀ ks k v (have b false (unary 0 (Unary.function IsNaN) e) st)) (regroup (stack-cells st) (before-cells b) (expression-cells e) (cell-with 32 0 0 ∷ []))
+      ∙ ap (λ (ks : List Cell). at-cells out₀ ks k v (have b false (unary 0 (Unary.function1 IsNaN) e) st)) (regroup (stack-cells st) (before-cells b) (expression-cells e) (cell-with 32 0 0 ∷ []))
     where
       regroup : (s o x f : List Cell) → (s ++ (o ++ x)) ++ f ≡ s ++ (o ++ (x ++ f))
       regroup s o x f = simp append-assoc

@@ -10,7 +10,7 @@ use mathlib.Core.Option.{Option, none, some, Option·some-injective, Option·non
 use lib.Dec.{leb, eqb}
 use lib.ListN.{length, length-append}
 use Rattle.value.specs.Value.{datum, string}
-use Rattle.value.specs.Meaning.{integer-bits}
+use Rattle.value.specs.Encoding.{integer-bits}
 use Rattle.sql.specs.Expression.{Expression, constant}
 use Rattle.sheet.specs.Cells.{expression-cells}
 use Rattle.sheet_laws.specs.Content.{and-right}

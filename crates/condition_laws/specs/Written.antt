@@ -13,7 +13,8 @@ use Rattle.value.specs.Value.{truth, datum, False, Unknown, True, integer, floa
 use Rattle.sql.specs.Expression.{Expression, constant, column, unary, binary, Unary, Binary, Not, IsNull, IsNaN, Identity, Negate, SquareRoot, And, Or, Equal, GreaterThan, LessThan, Add, Divide, Subtract, Multiply, logical}
 use Rattle.sheet.specs.Cell.{Cell}
 use Rattle.sheet.specs.Cells.{expression-cells}
-use Rattle.sheet.specs.Content.{Content, cell-of, marked, constant-cell, column-cell, unary-cell, binary-cell}
+use Rattle.sheet.specs.Content.{Content, constant-cell, column-cell, unary-cell, binary-cell}
+use Rattle.sheet.specs.AsCell.{cell-of, marked}
 use Rattle.sheet.specs.Write.{cell-bytes, cells-bytes}
 use Rattle.encode.specs.Encode.{written}
 use Rattle.encode.proofs.Written.{chain, written-none}
@@ -55,20 +56,20 @@ plain-cells (constant og (datum (float b))) z = at-zero og (constant-cell (datum
 plain-cells (constant og (datum (string r s))) z = at-zero og (constant-cell (datum (string r s))) z refl
 plain-cells (column og c) z = at-zero og (column-cell c) z refl
 plain-cells (unary og Not x) z = plain-append (expression-cells x) _ (plain-cells x (z .1)) (at-zero og (unary-cell Not) (z .0) refl)
-plain-cells (unary og (Unary.function IsNull) x) z = plain-append (expression-cells x) _ (plain-cells x (z .1)) (at-zero og (unary-cell (Unary.function IsNull)) (z .0) refl)
-plain-cells (unary og (Unary.function IsNaN) x) z = plain-append (expression-cells x) _ (plain-cells x (z .1)) (at-zero og (unary-cell (Unary.function IsNaN)) (z .0) refl)
-plain-cells (unary og (Unary.function Identity) x) z = plain-append (expression-cells x) _ (plain-cells x (z .1)) (at-zero og (unary-cell (Unary.function Identity)) (z .0) refl)
-plain-cells (unary og (Unary.function Negate) x) z = plain-append (expression-cells x) _ (plain-cells x (z .1)) (at-zero og (unary-cell (Unary.function Negate)) (z .0) refl)
-plain-cells (unary og (Unary.function SquareRoot) x) z = plain-append (expression-cells x) _ (plain-cells x (z .1)) (at-zero og (unary-cell (Unary.function SquareRoot)) (z .0) refl)
+plain-cells (unary og (Unary.function1 IsNull) x) z = plain-append (expression-cells x) _ (plain-cells x (z .1)) (at-zero og (unary-cell (Unary.function1 IsNull)) (z .0) refl)
+plain-cells (unary og (Unary.function1 IsNaN) x) z = plain-append (expression-cells x) _ (plain-cells x (z .1)) (at-zero og (unary-cell (Unary.function1 IsNaN)) (z .0) refl)
+plain-cells (unary og (Unary.function1 Identity) x) z = plain-append (expression-cells x) _ (plain-cells x (z .1)) (at-zero og (unary-cell (Unary.function1 Identity)) (z .0) refl)
+plain-cells (unary og (Unary.function1 Negate) x) z = plain-append (expression-cells x) _ (plain-cells x (z .1)) (at-zero og (unary-cell (Unary.function1 Negate)) (z .0) refl)
+plain-cells (unary og (Unary.function1 SquareRoot) x) z = plain-append (expression-cells x) _ (plain-cells x (z .1)) (at-zero og (unary-cell (Unary.function1 SquareRoot)) (z .0) refl)
 plain-cells (binary og (logical And) l r) z = plain-append (expression-cells l) _ (plain-cells l (z .1)) (plain-append (expression-cells r) _ (plain-cells r (z .2)) (at-zero og (binary-cell (logical And)) (z .0) refl))
 plain-cells (binary og (logical Or) l r) z = plain-append (expression-cells l) _ (plain-cells l (z .1)) (plain-append (expression-cells r) _ (plain-cells r (z .2)) (at-zero og (binary-cell (logical Or)) (z .0) refl))
 plain-cells (binary og Equal l r) z = plain-append (expression-cells l) _ (plain-cells l (z .1)) (plain-append (expression-cells r) _ (plain-cells r (z .2)) (at-zero og (binary-cell Equal) (z .0) refl))
-plain-cells (binary og (Binary.function GreaterThan) l r) z = plain-append (expression-cells l) _ (plain-cells l (z .1)) (plain-append (expression-cells r) _ (plain-cells r (z .2)) (at-zero og (binary-cell (Binary.function GreaterThan)) (z .0) refl))
-plain-cells (binary og (Binary.function LessThan) l r) z = plain-append (expression-cells l) _ (plain-cells l (z .1)) (plain-append (expression-cells r) _ (plain-cells r (z .2)) (at-zero og (binary-cell (Binary.function LessThan)) (z .0) refl))
-plain-cells (binary og (Binary.function Add) l r) z = plain-append (expression-cells l) _ (plain-cells l (z .1)) (plain-append (expression-cells r) _ (plain-cells r (z .2)) (at-zero og (binary-cell (Binary.function Add)) (z .0) refl))
-plain-cells (binary og (Binary.function Divide) l r) z = plain-append (expression-cells l) _ (plain-cells l (z .1)) (plain-append (expression-cells r) _ (plain-cells r (z .2)) (at-zero og (binary-cell (Binary.function Divide)) (z .0) refl))
-plain-cells (binary og (Binary.function Subtract) l r) z = plain-append (expression-cells l) _ (plain-cells l (z .1)) (plain-append (expression-cells r) _ (plain-cells r (z .2)) (at-zero og (binary-cell (Binary.function Subtract)) (z .0) refl))
-plain-cells (binary og (Binary.function Multiply) l r) z = plain-append (expression-cells l) _ (plain-cells l (z .1)) (plain-append (expression-cells r) _ (plain-cells r (z .2)) (at-zero og (binary-cell (Binary.function Multiply)) (z .0) refl))
+plain-cells (binary og (Binary.function2 GreaterThan) l r) z = plain-append (expression-cells l) _ (plain-cells l (z .1)) (plain-append (expression-cells r) _ (plain-cells r (z .2)) (at-zero og (binary-cell (Binary.function2 GreaterThan)) (z .0) refl))
+plain-cells (binary og (Binary.function2 LessThan) l r) z = plain-append (expression-cells l) _ (plain-cells l (z .1)) (plain-append (expression-cells r) _ (plain-cells r (z .2)) (at-zero og (binary-cell (Binary.function2 LessThan)) (z .0) refl))
+plain-cells (binary og (Binary.function2 Add) l r) z = plain-append (expression-cells l) _ (plain-cells l (z .1)) (plain-append (expression-cells r) _ (plain-cells r (z .2)) (at-zero og (binary-cell (Binary.function2 Add)) (z .0) refl))
+plain-cells (binary og (Binary.function2 Divide) l r) z = plain-append (expression-cells l) _ (plain-cells l (z .1)) (plain-append (expression-cells r) _ (plain-cells r (z .2)) (at-zero og (binary-cell (Binary.function2 Divide)) (z .0) refl))
+plain-cells (binary og (Binary.function2 Subtract) l r) z = plain-append (expression-cells l) _ (plain-cells l (z .1)) (plain-append (expression-cells r) _ (plain-cells r (z .2)) (at-zero og (binary-cell (Binary.function2 Subtract)) (z .0) refl))
+plain-cells (binary og (Binary.function2 Multiply) l r) z = plain-append (expression-cells l) _ (plain-cells l (z .1)) (plain-append (expression-cells r) _ (plain-cells r (z .2)) (at-zero og (binary-cell (Binary.function2 Multiply)) (z .0) refl))
 
 word-zero : (w : Word) (e : Expression) → part-tree (word w) ≡ some e → Zero e
 word-zero TRUE e h = subst Zero (Option·some-injective _ e h) refl

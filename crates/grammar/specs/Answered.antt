@@ -11,7 +11,7 @@ use Rattle.sql.specs.Expression.{Expression}
 use Rattle.sheet.specs.Cell.{Cell}
 use Rattle.sheet.specs.Cells.{expression-cells}
 use Rattle.sheet.specs.Write.{cell-bytes, cells-bytes}
-use Rattle.sheet.specs.Operations.{Outcome, refuse}
+use Rattle.sheet.specs.Check.{Outcome, refuse}
 use Rattle.sheet_laws.specs.Bytes.{length-cell-bytes}
 use Rattle.grammar.specs.Grammar.{Condition}
 use Rattle.grammar.specs.Machine.{Reading, taken, refused, reading}

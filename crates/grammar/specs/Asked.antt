@@ -8,7 +8,7 @@ use lib.ListN.{length, take, drop}
 use Rattle.sql.specs.Expression.{Expression}
 use Rattle.sheet.specs.Cells.{expression-cells}
 use Rattle.sheet.specs.Write.{cells-bytes}
-use Rattle.sheet.specs.Operations.{Outcome, refuse}
+use Rattle.sheet.specs.Check.{Outcome, refuse}
 use Rattle.grammar.specs.Parts.{bytes-only}
 use Rattle.grammar.specs.Grammar.{Condition}
 use Rattle.grammar.specs.Operation.{condition}

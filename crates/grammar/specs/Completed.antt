@@ -65,7 +65,7 @@ position-completed (want slot st) behind =
     (one-byte 48 (between false (want slot st)) (in-number plain 0 slot st) refl (λ at. refl) (number-closes plain 0 slot st))
 position-completed (have b more e st) behind = closes st b more e behind
 position-completed (is b e st) behind =
-    let null = unary 0 (Unary.function IsNull) e in
+    let null = unary 0 (Unary.function1 IsNull) e in
     let c = closes st b false null true in
     let named : Completed (between false (is b e st)) =
     record { rest = letters NULL ++ c .rest; tree = c .tree; bytes = c .bytes; completes = λ at. word-run NULL (is b e st) (have b false null st) (c .rest) at refl ∙ c .completes (at + 4) } in

@@ -10,7 +10,7 @@ use Rattle.value.specs.Value.{datum, null, boolean, integer, string}
 use Rattle.sql.specs.Expression.{Equal, LessThan, IsNull, IsNaN, Binary, Unary, Expression, constant, column, unary, binary, and, or, not}
 use Rattle.grammar.specs.Parts.{ascii, decimal-from, TRUE, NOT, OR, IS, NAN, equal, word, sign, opening, closing, Part, none-left, space, part, a-word, an-integer, a-column, a-string, a-sign, a-parenthesis, its-end}
 use Rattle.grammar.specs.Grammar.{Condition, simple, in-parentheses, alone, compared, is-nan, affirmed, negated, one, single, either}
-use Rattle.sheet.specs.Operations.{refuse}
+use Rattle.sheet.specs.Check.{refuse}
 use Rattle.grammar.specs.Operation.{condition}
 use Rattle.grammar.specs.Machine.{reading, refused, taken}
 
@@ -146,7 +146,7 @@ minus-and-zeros : reading (ascii "-007") ≡ taken (constant 0 (datum (integer (
 unfolding reading
 minus-and-zeros = refl
 
-minus-behind-a-sign : reading (ascii "1<-1") ≡ taken (binary 0 (Binary.function LessThan) (int 1) (constant 0 (datum (integer (negsuc 0)))))
+minus-behind-a-sign : reading (ascii "1<-1") ≡ taken (binary 0 (Binary.function2 LessThan) (int 1) (constant 0 (datum (integer (negsuc 0)))))
 unfolding reading
 minus-behind-a-sign = refl
 
@@ -170,7 +170,7 @@ parentheses-alone : reading (ascii "( (1) )") ≡ taken (int 1)
 unfolding reading
 parentheses-alone = refl
 
-null-is-null : reading (ascii "NULL IS NULL") ≡ taken (unary 0 (Unary.function IsNull) (constant 0 null))
+null-is-null : reading (ascii "NULL IS NULL") ≡ taken (unary 0 (Unary.function1 IsNull) (constant 0 null))
 unfolding reading
 null-is-null = refl
 
@@ -207,7 +207,7 @@ derived-negation =
     }
 
 -- A string behind its first quote: byte 2, of 1 byte.
-derived-string : Condition (ascii "('a'IS NAN)OR TRUE") (or 0 (unary 0 (Unary.function IsNaN) (constant 0 (datum (string 65538 (97 ∷ []))))) (constant 0 (boolean true)))
+derived-string : Condition (ascii "('a'IS NAN)OR TRUE") (or 0 (unary 0 (Unary.function1 IsNaN) (constant 0 (datum (string 65538 (97 ∷ []))))) (constant 0 (boolean true)))
 derived-string =
     record {
       parts = opening ∷ Part.string 65538 (97 ∷ []) ∷ word IS ∷ word NAN ∷ closing ∷ word OR ∷ word TRUE ∷ [];

@@ -10,8 +10,8 @@ use Rattle.grammar.specs.Parts.{Word, TRUE, FALSE, NULL, AND, OR, NOT, I
 
 abbrev pub operator : Sign → Binary
 operator equal = Equal
-operator less = Binary.function LessThan
-operator greater = Binary.function GreaterThan
+operator less = Binary.function2 LessThan
+operator greater = Binary.function2 GreaterThan
 
 -- The tree of a part that is "a constant, a column". Every cell's origin is 0.
 abbrev pub word-tree : Word → Option Expression
@@ -46,8 +46,8 @@ pub data Reads : Rank → List Part → List Part → Expression → Type 0 wher
   alone : {s r : List Part} {e : Expression} → Reads operand s r e → Reads comparison s r e
   compared : {s t r : List Part} {o : Sign} {l e : Expression}
       → Reads operand s (sign o ∷ t) l → Reads operand t r e → Reads comparison s r (binary 0 (operator o) l e)
-  is-null : {s r : List Part} {e : Expression} → Reads operand s (word IS ∷ word NULL ∷ r) e → Reads comparison s r (unary 0 (Unary.function IsNull) e)
-  is-nan : {s r : List Part} {e : Expression} → Reads operand s (word IS ∷ word NAN ∷ r) e → Reads comparison s r (unary 0 (Unary.function IsNaN) e)
+  is-null : {s r : List Part} {e : Expression} → Reads operand s (word IS ∷ word NULL ∷ r) e → Reads comparison s r (unary 0 (Unary.function1 IsNull) e)
+  is-nan : {s r : List Part} {e : Expression} → Reads operand s (word IS ∷ word NAN ∷ r) e → Reads comparison s r (unary 0 (Unary.function1 IsNaN) e)
   -- "NOT, which may repeat"
   affirmed : {s r : List Part} {e : Expression} → Reads comparison s r e → Reads negation s r e
   negated : {s r : List Part} {e : Expression} → Reads negation s r e → Reads negation (word NOT ∷ s) r (not 0 e)

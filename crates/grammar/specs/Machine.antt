@@ -125,12 +125,12 @@ feed-had b more e st closing = close (whole b e) st
 abbrev pub feed-is : Before → Expression → Stack → Part → Option Position
 feed-is b e st (word TRUE) = none
 feed-is b e st (word FALSE) = none
-feed-is b e st (word NULL) = some (have b false (unary 0 (Unary.function IsNull) e) st)
+feed-is b e st (word NULL) = some (have b false (unary 0 (Unary.function1 IsNull) e) st)
 feed-is b e st (word AND) = none
 feed-is b e st (word OR) = none
 feed-is b e st (word NOT) = none
 feed-is b e st (word IS) = none
-feed-is b e st (word NAN) = some (have b false (unary 0 (Unary.function IsNaN) e) st)
+feed-is b e st (word NAN) = some (have b false (unary 0 (Unary.function1 IsNaN) e) st)
 feed-is b e st (Part.integer z) = none
 feed-is b e st (Part.column c) = none
 feed-is b e st (Part.string r s) = none

@@ -7,7 +7,7 @@ use lib.ListN.{length, drop}
 use Rattle.sql.specs.Expression.{Expression}
 use Rattle.sheet.specs.Cells.{expression-cells}
 use Rattle.sheet.specs.Write.{cells-bytes}
-use Rattle.sheet.specs.Operations.{Outcome, refuse}
+use Rattle.sheet.specs.Check.{Outcome, refuse}
 use Rattle.grammar.specs.Machine.{Reading, taken, refused, reading}
 
 -- The bytes of a tree's cells, children before their parent.

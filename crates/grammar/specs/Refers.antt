@@ -8,7 +8,7 @@ use mathlib.Core.Bool.{Bool}
 use lib.ListN.{length, take, drop, length-append}
 use lib.Seq.{take-append-seam, drop-append-add}
 use Rattle.value.specs.Value.{Datum, integer, float, string, Value, truth, datum}
-use Rattle.value.specs.Meaning.{bytes-at}
+use Rattle.value.specs.Encoding.{bytes-at}
 use Rattle.sql.specs.Expression.{Expression, constant, column, unary, binary}
 use Rattle.sheet_laws.specs.Content.{low-part, high-part}
 use Rattle.grammar.specs.Parts.{Word, TRUE, FALSE, NULL, AND, OR, NOT, IS, NAN, Part, word, sign, opening, closing, Parts, none-left, space, part, Spells, a-word, an-integer, a-negative, a-column, a-string, a-sign, a-parenthesis, its-end}
