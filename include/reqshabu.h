@@ -49,13 +49,13 @@ typedef struct reqshabu_answer {
 reqshabu_answer plan_check(const uint8_t *sheet, size_t length);
 
 /* One pass of the optimizer on a sheet of `length` bytes: 1 ConstantFolding, 2 FilterPushdown, 3 IndexLookup, 4 HashJoin, 5 ShortCircuit; any other number is
- * refusal 1. The sheet that the pass gives is written to the first bytes of `output`, which has `capacity` bytes; those after it stay. On a refusal no byte
- * of the output changes; refusal 15 says in `place` how many bytes are needed. A sheet has at most 45,332 bytes. The two may not overlap; either may be
- * NULL if its length is 0. */
-reqshabu_answer plan_pass(const uint8_t *sheet, size_t length, size_t pass, uint8_t *output, size_t capacity);
+ * refusal 1. mode is 0, plain, as toyDB does, or 1, house, by the rules of FORMAT.md, Modes; any other is refusal 17, before all others. The sheet that the pass
+ * gives is written to the first bytes of `output`, which has `capacity` bytes; those after it stay. On a refusal no byte of the output changes; refusal 15 says in
+ * `place` how many bytes are needed. A sheet has at most 45,332 bytes. The two may not overlap; either may be NULL if its length is 0. */
+reqshabu_answer plan_pass(const uint8_t *sheet, size_t length, size_t mode, size_t pass, uint8_t *output, size_t capacity);
 
 /* All five passes in turn, likewise. */
-reqshabu_answer plan_optimize(const uint8_t *sheet, size_t length, uint8_t *output, size_t capacity);
+reqshabu_answer plan_optimize(const uint8_t *sheet, size_t length, size_t mode, uint8_t *output, size_t capacity);
 
 /* The same sheet in the other edition, written likewise; it is as long as it was. To edition 2 the origin of each cell becomes its number, to edition 1 it becomes 0.
  * An edition that is neither 1 nor 2, or that is the sheet's own, is refusal 21. To 2 and back to 1 gives the same bytes; to 1 and back to 2 does so if and only if
@@ -79,10 +79,10 @@ reqshabu_answer plan_condition(const uint8_t *text, size_t length, uint8_t *outp
 
 /* What will change
  *
- * Requests to come add a mode, a mark and a summary to these operations, and operations beside them. What they will look like is settled now, so that a caller
- * changes once, from interface 1 to interface 2. Version 1.0.0 is the first with interface 2; until then the versions 0.x keep interface 1, and add to it at
- * most. Between the two there is no third: a tree in which only some of these requests have landed isn't released. A caller may write both calls today, the
- * second behind `#if REQSHABU_INTERFACE >= 2`.
+ * Requests add a mode, a mark and a summary to these operations, and operations beside them. The mode is in the prototypes above already; mark and summary are to
+ * come. What they will look like is settled now, so that a caller changes once, from interface 1, in which plan_pass and plan_optimize have no mode, to interface 2.
+ * Version 1.0.0 is the first with interface 2; until then the versions 0.x keep interface 1, and add to it at most. Between the two there is no third: a tree in
+ * which only some of these requests have landed, as this one, isn't released. A caller may write both calls today, the second behind `#if REQSHABU_INTERFACE >= 2`.
  *
  * Interface 2:
  *

@@ -7,7 +7,8 @@ use std::process::exit;
 use harness::compare::{self, Settled};
 use harness::conditions_compare::Comparison;
 use harness::original;
-use harness::promise::{self, Case};
+use harness::house::Mode;
+use harness::promise::{self, Case, Lacking};
 use harness::rng::Rng;
 use harness::{check, conditions, damage, extremes, generate, model, origins, sheet, tree, vectors, worked};
 
@@ -30,7 +31,7 @@ fn main() {
         Some("extremes") => show_extremes(),
         Some("counts") => counts(number(1), number(2)),
         Some("values") => values(number(1), number(2)),
-        Some("rows") => rows(number(1), number(2)),
+        Some("rows") => rows(number(1), number(2), mode(args.get(3))),
         _ => usage(),
     });
     exit(if ok { 0 } else { 1 });
@@ -39,7 +40,7 @@ fn main() {
 fn usage() -> ! {
     eprintln!(
         "usage: oracle worked | self N SEED | origins N SEED | conditions N SEED | answer | listing | explain | sheets N SEED | damaged N SEED | \
-         extremes | extremes show | counts N SEED | values SEED N | rows N SEED"
+         extremes | extremes show | counts N SEED | values SEED N | rows N SEED [house]"
     );
     exit(2);
 }
@@ -314,14 +315,19 @@ fn list(items: impl Iterator<Item = (String, u64)>) -> String {
     items.map(|(name, n)| format!("{name}: {n}")).collect::<Vec<_>>().join(", ")
 }
 
-/// `rows N SEED`: the row promise on random sheets and tables, and for each
-/// premise a case that breaks without it.
-fn rows(count: u64, seed: u64) -> bool {
+/// Plain mode, or house mode where that is asked for.
+fn mode(word: Option<&String>) -> Mode {
+    if word.is_some_and(|word| word == "house") { Mode::House } else { Mode::Plain }
+}
+
+/// `rows N SEED [house]`: the row promise on random sheets and tables, and for
+/// each premise a case that breaks without it.
+fn rows(count: u64, seed: u64, mode: Mode) -> bool {
     let (mut kept, mut with_rows, mut refused, mut many, mut broken) = (0, 0, 0, 0, 0);
     let mut by_pass = [0u64; 5];
-    let mut outside: BTreeMap<(bool, bool, bool), (u64, u64)> = BTreeMap::new();
+    let mut outside: BTreeMap<Lacking, (u64, u64)> = BTreeMap::new();
     for n in 0..count {
-        match promise::random(seed, n) {
+        match promise::random(seed, n, mode) {
             Case::Kept { rows, changed } => {
                 kept += 1;
                 with_rows += (rows > 0) as u64;
@@ -335,8 +341,8 @@ fn rows(count: u64, seed: u64) -> bool {
                 println!("case {n} of seed {seed}: {what}");
                 broken += 1;
             }
-            Case::Outside { outer, fails, mixed, same } => {
-                let (all, differ) = outside.entry((outer, fails, mixed)).or_default();
+            Case::Outside { lacking, same } => {
+                let (all, differ) = outside.entry(lacking).or_default();
                 *all += 1;
                 *differ += !same as u64;
             }
@@ -348,9 +354,14 @@ fn rows(count: u64, seed: u64) -> bool {
     );
     println!("of those with rows, changed by pass 1 to 5: {by_pass:?}");
     println!("a step refused: {refused}; more rows than the reader takes on: {many}");
-    for ((outer, fails, mixed), (all, differ)) in outside {
-        let names =
-            [(outer, "outer join"), (fails, "failing expression"), (mixed, "two kinds equal")];
+    for (Lacking { outer, fails, mixed, untyped, unsuited }, (all, differ)) in outside {
+        let names = [
+            (outer, "outer join"),
+            (fails, "failing expression"),
+            (mixed, "two kinds equal"),
+            (untyped, "table of another kind"),
+            (unsuited, "lookup constant of another kind"),
+        ];
         let names: Vec<&str> = names.iter().filter(|(on, _)| *on).map(|(_, name)| *name).collect();
         println!("outside, {}: {all}, readings differ in {differ}", names.join(" and "));
     }
