@@ -7,7 +7,7 @@ use mathlib.Core.List.{List, [], _∷_, _++_}
 use lib.IntN.{pos, negsuc}
 use lib.ListN.{replicate}
 use Rattle.value.specs.Value.{datum, null, boolean, integer, string}
-use Rattle.sql.specs.Expression.{Equal, LessThan, IsNull, IsNaN, Binary, Unary, Expression, constant, column, unary, binary, and, or, not}
+use Rattle.sql.specs.Expression.{Equal, LessThan, IsNull, IsNaN, function1, function2, Expression, constant, column, unary, binary, and, or, not}
 use Rattle.grammar.specs.Parts.{ascii, decimal-from, TRUE, NOT, OR, IS, NAN, equal, word, sign, opening, closing, Part, none-left, space, part, a-word, an-integer, a-column, a-string, a-sign, a-parenthesis, its-end}
 use Rattle.grammar.specs.Grammar.{Condition, simple, in-parentheses, alone, compared, is-nan, affirmed, negated, one, single, either}
 use Rattle.sheet.specs.Check.{refuse}
@@ -146,7 +146,7 @@ minus-and-zeros : reading (ascii "-007") ≡ taken (constant 0 (datum (integer (
 unfolding reading
 minus-and-zeros = refl
 
-minus-behind-a-sign : reading (ascii "1<-1") ≡ taken (binary 0 (Binary.function2 LessThan) (int 1) (constant 0 (datum (integer (negsuc 0)))))
+minus-behind-a-sign : reading (ascii "1<-1") ≡ taken (binary 0 (function2 LessThan) (int 1) (constant 0 (datum (integer (negsuc 0)))))
 unfolding reading
 minus-behind-a-sign = refl
 
@@ -170,11 +170,11 @@ parentheses-alone : reading (ascii "( (1) )") ≡ taken (int 1)
 unfolding reading
 parentheses-alone = refl
 
-null-is-null : reading (ascii "NULL IS NULL") ≡ taken (unary 0 (Unary.function1 IsNull) (constant 0 null))
+null-is-null : reading (ascii "NULL IS NULL") ≡ taken (unary 0 (function1 IsNull) (constant 0 null))
 unfolding reading
 null-is-null = refl
 
-two-spaces : reading (ascii "1 IS  NULL") ≡ taken (unary 0 (Unary.function IsNull) (int 1))
+two-spaces : reading (ascii "1 IS  NULL") ≡ taken (unary 0 (function1 IsNull) (int 1))
 unfolding reading
 two-spaces = refl
 
@@ -207,7 +207,7 @@ derived-negation =
     }
 
 -- A string behind its first quote: byte 2, of 1 byte.
-derived-string : Condition (ascii "('a'IS NAN)OR TRUE") (or 0 (unary 0 (Unary.function1 IsNaN) (constant 0 (datum (string 65538 (97 ∷ []))))) (constant 0 (boolean true)))
+derived-string : Condition (ascii "('a'IS NAN)OR TRUE") (or 0 (unary 0 (function1 IsNaN) (constant 0 (datum (string 65538 (97 ∷ []))))) (constant 0 (boolean true)))
 derived-string =
     record {
       parts = opening ∷ Part.string 65538 (97 ∷ []) ∷ word IS ∷ word NAN ∷ closing ∷ word OR ∷ word TRUE ∷ [];
