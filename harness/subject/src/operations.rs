@@ -241,7 +241,7 @@ pub fn origins(n: u64, seed: u64) -> bool {
     tally.print(&format!("{n} accepted sheets in edition 2, and a damaged copy of each"))
 }
 
-/// `house`: n accepted sheets, every second one full of lookups, of both editions, in house mode beside the model: each pass and all five, every byte; outputs of
+/// `house`: n accepted sheets, every second one full of lookups and outer joins, of both editions, in house mode beside the model: each pass and all five, every byte; outputs of
 /// awkward lengths on every fifth; a damaged copy; and modes that there aren't, on all of these, with passes that there are and that there aren't. Says how many answers
 /// are others than plain mode's.
 pub fn in_house(n: u64, seed: u64) -> bool {
@@ -431,7 +431,7 @@ pub fn rows(n: u64, seed: u64, mode: Mode) -> bool {
     original::on_deep_stack(|| {
         for i in 0..n {
             let mut rng = Rng::case(seed ^ 0x2035, i);
-            let sheet = promise::draw(&mut rng, i);
+            let sheet = promise::draw(&mut rng, i, mode);
             let texts = Interner::default();
             let tables = rows::random_tables(&mut rng, &sheet, &texts);
             let (rule, function) = (rng.next(), rng.next());
