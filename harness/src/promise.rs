@@ -17,9 +17,9 @@ pub enum Case {
     Refused,
     /// More rows than the reader takes on.
     TooMany,
-    /// All premises hold and the six read the same. How many rows, and whether
-    /// each of the passes 1 to 5 changed the plan.
-    Kept { rows: usize, changed: [bool; 5] },
+    /// All premises hold and the six read the same. How many rows, whether each
+    /// of the passes 1 to 5 changed the plan, and whether a join is outer.
+    Kept { rows: usize, changed: [bool; 5], outer: bool },
     /// All premises hold and two readings differ: the promise is broken.
     Broken(String),
     /// Some premises don't hold, and whether the six readings are the same all
@@ -107,7 +107,8 @@ pub fn read_six(
         None => {
             let cells: Vec<_> = plans.iter().map(tree::cells).collect();
             let changed = std::array::from_fn(|i| cells[i] != cells[i + 1]);
-            Case::Kept { rows: readings[0].as_ref().map_or(0, |rows| rows.len()), changed }
+            let outer = rows::has_outer(&sheet.root);
+            Case::Kept { rows: readings[0].as_ref().map_or(0, |rows| rows.len()), changed, outer }
         }
         Some(pass) => {
             Case::Broken(format!("after pass {pass}: {:?}, not {:?}", readings[pass], readings[0]))
@@ -214,7 +215,7 @@ pub fn witnesses() -> Vec<(&'static str, bool)> {
     let outside = without(Lacking { outer: true, ..none });
     let sheet = over([1, 1], root);
     let differs = case(&sheet, Mode::Plain, tables.clone(), &texts, 0, 0) == outside;
-    let kept = case(&sheet, Mode::House, tables, &texts, 0, 0) == Case::Kept { rows: 1, changed: [false; 5] };
+    let kept = case(&sheet, Mode::House, tables, &texts, 0, 0) == Case::Kept { rows: 1, changed: [false; 5], outer: true };
     list.push((
         "plain mode, no outer join: t(1) left joined to u(1) on #0 = 2 gives (1, Null), after pass 2 \
          nothing; house mode keeps the row",
@@ -263,7 +264,7 @@ pub fn witnesses() -> Vec<(&'static str, bool)> {
         differs,
     ));
     let unsuited = without(Lacking { unsuited: true, ..none });
-    let kept = Case::Kept { rows: 1, changed: [false; 5] };
+    let kept = Case::Kept { rows: 1, changed: [false; 5], outer: false };
     let differs = looked_up(float, seven, Mode::Plain) == unsuited && looked_up(float, seven, Mode::House) == kept;
     list.push((
         "plain mode, constants of their column's kind: an Integer key that holds 7 loses its row \

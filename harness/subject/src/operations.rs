@@ -427,7 +427,7 @@ pub fn at_limits(kib: u64) -> bool {
 
 /// `rows`: the six plans that the library hands out in a mode, one pass after the other, read over random tables. Those of all five at once are the sixth.
 pub fn rows(n: u64, seed: u64, mode: Mode) -> bool {
-    let (mut kept, mut with_rows, mut refused, mut outside, mut broken) = (0, 0, 0, 0, 0);
+    let (mut kept, mut with_rows, mut with_outer, mut refused, mut outside, mut broken) = (0, 0, 0, 0, 0, 0);
     original::on_deep_stack(|| {
         for i in 0..n {
             let mut rng = Rng::case(seed ^ 0x2035, i);
@@ -440,9 +440,10 @@ pub fn rows(n: u64, seed: u64, mode: Mode) -> bool {
                 continue;
             };
             match promise::read_six(&sheet, mode, &plans, tables, &texts, rule, function) {
-                promise::Case::Kept { rows, .. } => {
+                promise::Case::Kept { rows, outer, .. } => {
                     kept += 1;
                     with_rows += u64::from(rows > 0);
+                    with_outer += u64::from(rows > 0 && outer);
                 }
                 promise::Case::Broken(said) => {
                     broken += 1;
@@ -452,7 +453,7 @@ pub fn rows(n: u64, seed: u64, mode: Mode) -> bool {
             }
         }
     });
-    println!("{n} sheets: {kept} within the premises ({with_rows} of them with rows), {broken} broken; {outside} outside, {refused} with a step refused");
+    println!("{n} sheets: {kept} within the premises ({with_rows} of them with rows, {with_outer} of those with an outer join), {broken} broken; {outside} outside, {refused} with a step refused");
     broken == 0
 }
 
