@@ -7,7 +7,7 @@ use std::process::exit;
 use harness::compare::{self, Settled};
 use harness::conditions_compare::Comparison;
 use harness::original;
-use harness::house::Mode;
+use harness::house::{self, Mode};
 use harness::promise::{self, Case, Lacking};
 use harness::rng::Rng;
 use harness::{check, conditions, damage, extremes, generate, model, origins, sheet, tree, vectors, worked};
@@ -20,13 +20,16 @@ fn main() {
     let ok = original::on_deep_stack(|| match args.first().map(String::as_str) {
         Some("worked") => worked::worked(|line| println!("{line}")),
         Some("self") => compare_many(number(1), number(2)),
-        Some("origins") => origins_many(number(1), number(2)),
+        Some("origins") => origins_many(number(1), number(2), mode(args.get(3))),
         Some("conditions") => Comparison::new(&[("by hand", &conditions::read)]).all(number(1), number(2)),
         Some("answer") => answer(),
         Some("listing") => listing(),
         Some("explain") => explain(),
-        Some("sheets") => sheets(number(1), number(2), false),
-        Some("damaged") => sheets(number(1), number(2), true),
+        Some("sheets") => match mode(args.get(3)) {
+            Mode::Plain => sheets(number(1), number(2), |seed, n| generate::bytes(&mut Rng::case(seed, n))),
+            Mode::House => sheets(number(1), number(2), |seed, n| tree::encode(&house::sheet(&mut Rng::case(seed, n)))),
+        },
+        Some("damaged") => sheets(number(1), number(2), damaged),
         Some("extremes") if args.len() == 1 => write_extremes(),
         Some("extremes") => show_extremes(),
         Some("counts") => counts(number(1), number(2)),
@@ -39,16 +42,21 @@ fn main() {
 
 fn usage() -> ! {
     eprintln!(
-        "usage: oracle worked | self N SEED | origins N SEED | conditions N SEED | answer | listing | explain | sheets N SEED | damaged N SEED | \
+        "usage: oracle worked | self N SEED | origins N SEED [house] | conditions N SEED | answer | listing | explain | sheets N SEED [house] | damaged N SEED | \
          extremes | extremes show | counts N SEED | values SEED N | rows N SEED [house]"
     );
     exit(2);
 }
 
+/// Operations in house mode, as `answer` numbers them.
+const HOUSE: u32 = 50;
+const HOUSE_ALL: u32 = HOUSE + model::ALL;
+
 /// `answer`: the model's answers to a batch of questions.
 ///
 /// Each question: operation (0 check, 1 to 5 a pass, 6 all five, from 100 the
-/// one-pass operation asked for pass n - 100), output capacity, sheet length,
+/// one-pass operation asked for pass n - 100, from 50 to 56 that of n - 50 in
+/// house mode), output capacity, sheet length,
 /// each a u32, then the sheet. Each answer: number, place, length, cells and
 /// columns, each a u64, the output's length as a u32, then the output.
 /// Everything is little-endian.
@@ -74,6 +82,8 @@ fn answer() -> bool {
         let (answer, output) = match op {
             0 => (model::check(&bytes), Vec::new()),
             model::ALL => model::all_five(&bytes, capacity),
+            HOUSE_ALL => model::all_five_in(&bytes, 1, capacity),
+            HOUSE..HOUSE_ALL => model::one_pass_in(&bytes, 1, op - HOUSE, capacity),
             100.. => model::one_pass(&bytes, op - 100, capacity),
             _ => model::one_pass(&bytes, op, capacity),
         };
@@ -133,14 +143,11 @@ fn damaged(seed: u64, n: u64) -> Vec<u8> {
     damage::damage(&mut rng, &bytes)
 }
 
-/// `sheets N SEED`, `damaged N SEED`: length (u32) and bytes of each sheet.
-fn sheets(count: u64, seed: u64, broken: bool) -> bool {
+/// `sheets N SEED [house]`, `damaged N SEED`: length (u32) and bytes of each sheet.
+fn sheets(count: u64, seed: u64, draw: impl Fn(u64, u64) -> Vec<u8>) -> bool {
     let mut out = std::io::BufWriter::new(std::io::stdout().lock());
     for n in 0..count {
-        let bytes = match broken {
-            true => damaged(seed, n),
-            false => generate::bytes(&mut Rng::case(seed, n)),
-        };
+        let bytes = draw(seed, n);
         out.write_all(&(bytes.len() as u32).to_le_bytes()).expect("output");
         out.write_all(&bytes).expect("output");
     }
@@ -216,17 +223,20 @@ fn values(seed: u64, count: u64) -> bool {
     out.flush().is_ok()
 }
 
-/// The model of origins on random accepted sheets: each result, taken down to edition 1, must be the model's, to the byte.
-fn origins_many(n: u64, seed: u64) -> bool {
+/// `origins N SEED [house]`: the model of origins on random accepted sheets: each result, taken down to edition 1, must be the model's, to the byte.
+fn origins_many(n: u64, seed: u64, mode: Mode) -> bool {
     let (mut answers, mut different) = (0, 0);
     for i in 0..n {
         let mut rng = Rng::case(seed ^ 0x0216, i);
-        let plain = generate::bytes(&mut rng);
+        let plain = match mode {
+            Mode::House if i % 2 == 0 => tree::encode(&house::sheet(&mut rng)),
+            _ => generate::bytes(&mut rng),
+        };
         let bytes = origins::any_up(&mut rng, &plain);
         for pass in 1..=model::ALL {
             let run = |bytes: &[u8]| match pass {
-                model::ALL => model::all_five(bytes, 45_332),
-                k => model::one_pass(bytes, k, 45_332),
+                model::ALL => model::all_five_in(bytes, mode as usize, 45_332),
+                k => model::one_pass_in(bytes, mode as usize, k, 45_332),
             };
             let ((first, unmarked), (second, marked)) = (run(&plain), run(&bytes));
             let down = if second.number == 0 { origins::down(&marked) } else { marked };
