@@ -23,7 +23,7 @@ use Rattle.same_rows.specs.Agree.{no-value, ok-same, Came, came}
 
 -- ---- an expression without columns has one value
 
-still : (row those : Row) (e : Expression) → contains-column (λ c. true) e ≡ false → evaluate row e ≡ evaluate those e
+pub still : (row those : Row) (e : Expression) → contains-column (λ c. true) e ≡ false → evaluate row e ≡ evaluate those e
 still row those (constant og v) h = refl
 still row those (column og c) h = false≢true (sym h)
 still row those (unary og o x) h = ap (λ z. bind z (evaluate-unary o)) (still row those x h)
