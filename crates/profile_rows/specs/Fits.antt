@@ -35,10 +35,18 @@ pub record Gives (s : Sort) (r : Result Value) : Type 0 where
 gives : (s : Sort) (v : Value) → fits-value s v ≡ true → Gives s (ok v)
 gives s v h = record { value = v; is-value = refl; fits = h }
 
-truth-fits : (t : Truth) → fits-value (some Boolean) (truth t) ≡ true
+pub truth-fits : (t : Truth) → fits-value (some Boolean) (truth t) ≡ true
 truth-fits False = refl
 truth-fits Unknown = refl
 truth-fits True = refl
+
+pub own-sort : (v : Value) → fits-value (value-sort v) v ≡ true
+own-sort (truth False) = refl
+own-sort (truth Unknown) = refl
+own-sort (truth True) = refl
+own-sort (datum (integer i)) = refl
+own-sort (datum (float b)) = refl
+own-sort (datum (string r t)) = refl
 
 -- ---- Boolean operators
 
@@ -255,7 +263,7 @@ checked-by : (b : Bool) (i : ℤ) (u : Value) → cond b (ok (datum (integer i))
 checked-by true i u e = subst (λ z. fits-value (some Integer) z ≡ true) (ok-same e) refl
 checked-by false i u e = no-value e
 
-checked-fits : (i : ℤ) (u : Value) → checked i ≡ ok u → fits-value (some Integer) u ≡ true
+pub checked-fits : (i : ℤ) (u : Value) → checked i ≡ ok u → fits-value (some Integer) u ≡ true
 unfolding checked
 checked-fits i u e = checked-by (ltb (mag i) (2 ^ 63)) i u e
 

@@ -1,2 +1,4 @@
 pub mod Fits
+pub mod Rules
+pub mod Closed
 pub mod Sorted
