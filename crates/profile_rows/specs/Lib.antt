@@ -2,3 +2,4 @@ pub mod Fits
 pub mod Rules
 pub mod Closed
 pub mod Sorted
+pub mod Judged

@@ -96,7 +96,7 @@ Sorted columns (binary og o l r) s = Closed (binary og o l r) s ⊎ Open2 column
 
 -- ---- what is always Null is of every sort
 
-none≢some : {A : Type 0} {k : Kind} → _≡_ {A = Sort} none (some k) → A
+pub none≢some : {A : Type 0} {k : Kind} → _≡_ {A = Sort} none (some k) → A
 none≢some h = absurd (let y : _≡_ {A = ℕ} 0 1 = cc in omega arith)
 
 pub null-any : (s : Sort) (v : Value) → fits-value none v ≡ true → fits-value s v ≡ true

@@ -1,0 +1,132 @@
+-- An expression that keeps the profile, and what ConstantFolding makes of it, have the sort that the profile gives.
+use Prim.Native.Nat.{ℕ, _+_}
+use mathlib.Core.Bool.{Bool, true, false, _&&_, _||_}
+use mathlib.Core.List.{List, []}
+use mathlib.Core.Logic.{_⊎_, inl, inr}
+use mathlib.Core.Option.{Option, none, some}
+use mathlib.Core.Path.{_≡_, refl, sym, ap, ap₂, _∙_, subst}
+use lib.ListN.{getD}
+use native.Mathlib.Omega.{arith}
+use Rattle.value.specs.Value.{Value, truth, null, ok}
+use Rattle.sql.specs.Schema.{Kind, Boolean, Integer, Float}
+use Rattle.sql.specs.Expression.{Logical, And, Or, IsNull, IsNaN, Identity, Negate, SquareRoot, GreaterThan, LessThan, Add, Divide, Subtract, Multiply, Unary, Not, function1, Binary, logical, Equal, function2, Expression, constant, column, unary, binary, size, origin, evaluate}
+use Rattle.sql.specs.Answer.{Answer, done, refused, _>>=_}
+use Rattle.sql.specs.Optimizer.{Operand, deciding, neutral, undetermined, operand, decided, simplify-logical, simplify, fold-by, fold, fold-expression}
+use Rattle.room.specs.Done.{done-same, After, after}
+use Rattle.same_rows.specs.Booleans.{false≢true, and-left, and-right, or-left, or-right}
+use Rattle.same_rows.specs.Agree.{ok-same}
+use Rattle.profile.specs.Profile.{Sort, is-null-sort, found, fits, operand-ok, equated, compared, is-column, has-column, unary-sort, binary-sort, judged, expression-sort}
+use Rattle.profile_rows.specs.Fits.{fits-value, Gives, own-sort, truth-fits}
+use Rattle.profile_rows.specs.Rules as Rules
+use Rattle.profile_rows.specs.Rules.{if-kept-is, Number-sort, null-sort, integer-sort, float-sort, One, one, Sides, sides, found-same, fits-float, same-is, operand-is, Alike, compared-is, equated-compared, equated-same}
+use Rattle.profile_rows.specs.Closed.{judged-is, closed-fits, Valued, fold-valued, closed-folds}
+use Rattle.profile_rows.specs.Sorted as Sorted
+use Rattle.profile_rows.specs.Sorted.{is-null-column, Closed, Number, an-integer, a-float, Arithmetic1, Arithmetic2, Open1, Open2, Sorted, none≢some, of-every-sort, evaluates}
+
+-- A Null column is one that stood there by itself.
+abbrev Bare : List Sort → (e d : Expression) → Sort → Type 0
+Bare columns e d s = is-null-column columns d ≡ true → (is-column e ≡ true) × (s ≡ none)
+
+pub record Kept (columns : List Sort) (e d : Expression) (s : Sort) : Type 0 where
+  pub before : Sorted columns e s
+  pub after : Sorted columns d s
+  pub bare : Bare columns e d s
+  pub closed : has-column e ≡ false → has-column d ≡ false
+
+column-in : (e : Expression) → is-column e ≡ true → has-column e ≡ true
+column-in (constant og v) h = false≢true h
+column-in (column og c) h = refl
+column-in (unary og o x) h = false≢true h
+column-in (binary og o l r) h = false≢true h
+
+module _ (columns : List Sort) where
+  at-sort : (e : Expression) (s t : Sort) → s ≡ t → Sorted columns e s → Sorted columns e t
+  at-sort e s t h k = subst (λ z. Sorted columns e z) h k
+
+  -- of a sort or Null
+  or-null : (e : Expression) (s t : Sort) → (s ≡ none) ⊎ (s ≡ t) → Sorted columns e s → Sorted columns e t
+  or-null e s t (inl h) k = of-every-sort columns e t (at-sort e s none h k)
+  or-null e s t (inr h) k = at-sort e s t h k
+
+  -- ---- the rules, of what the operands became
+
+  not-null : (x y : Expression) (s : Sort) (b : Bool) → (b ≡ true → (is-column x ≡ true) × (s ≡ none)) → operand-ok x s ≡ true → b ≡ false
+  not-null x y s false bare h = refl
+  not-null x y s true bare h = by (operand-is x s h)
+    where
+      by : (s ≡ some Boolean) ⊎ ((s ≡ none) × (is-column x ≡ false)) → true ≡ false
+      by (inl e) = none≢some (sym (bare refl .1) ∙ e)
+      by (inr e) = false≢true (sym (e .1) ∙ bare refl .0)
+
+  boolean-operand : (x y : Expression) (s : Sort) → operand-ok x s ≡ true → Sorted columns y s → Sorted columns y (some Boolean)
+  boolean-operand x y s h k = by (operand-is x s h)
+    where
+      by : (s ≡ some Boolean) ⊎ ((s ≡ none) × (is-column x ≡ false)) → Sorted columns y (some Boolean)
+      by (inl e) = at-sort y s (some Boolean) e k
+      by (inr e) = of-every-sort columns y (some Boolean) (at-sort y s none (e .0) k)
+
+  an-operand : (x y : Expression) (s : Sort) → operand-ok x s ≡ true → Sorted columns y s → Bare columns x y s → Sorted.Operand columns y (Sorted columns y)
+  an-operand x y s h k bare = record { boolean = boolean-operand x y s h k; no-null = not-null x y s (is-null-column columns y) bare h }
+
+  one-arithmetic : (of-integer : Kind) (x y : Expression) (s t : Sort) → One of-integer x s t → has-column x ≡ true → Sorted columns y s → Arithmetic1 (Sorted columns y) t
+  one-arithmetic k x y s t (Rules.of-null h e) c i = Sorted.of-null (at-sort y s none h i)
+  one-arithmetic k x y s t (Rules.of-an-integer h n e) c i = false≢true (sym n ∙ c)
+  one-arithmetic k x y s t (Rules.of-a-float h e) c i = Sorted.of-float (at-sort y s (some Float) h i) e
+
+  open1-of : (o : Unary) (x y : Expression) (s t : Sort) → unary-sort o x s ≡ found t → has-column x ≡ true → Sorted columns y s → Bare columns x y s → Open1 columns o y (Sorted columns y) t
+  open1-of Not x y s t h c k bare = let kept = if-kept-is (operand-ok x s) (some Boolean) t h in (an-operand x y s (kept .0) k bare, kept .1)
+  open1-of (function1 IsNull) x y s t h c k bare = (record { sort = s; has = k }, found-same h)
+  open1-of (function1 IsNaN) x y s t h c k bare = let kept = if-kept-is (fits Float s) (some Boolean) t h in (or-null y s (some Float) (fits-float s (kept .0)) k, kept .1)
+  open1-of (function1 Identity) x y s t h c k bare = one-arithmetic Integer x y s t (one Integer x s t h) c k
+  open1-of (function1 Negate) x y s t h c k bare = one-arithmetic Integer x y s t (one Integer x s t h) c k
+  open1-of (function1 SquareRoot) x y s t h c k bare = one-arithmetic Float x y s t (one Float x s t h) c k
+
+  a-number : (x : Expression) (s : Sort) → Number-sort s → Sorted columns x s → Number (Sorted columns x)
+  a-number x s (null-sort e) h = a-float (of-every-sort columns x (some Float) (at-sort x s none e h))
+  a-number x s (integer-sort e) h = an-integer (at-sort x s (some Integer) e h)
+  a-number x s (float-sort e) h = a-float (at-sort x s (some Float) e h)
+
+  two-arithmetic : (l r x y : Expression) (s t k : Sort) → Sides l r s t k → (has-column l || has-column r) ≡ true → Sorted columns x s → Sorted columns y t
+      → Arithmetic2 (Sorted columns x) (Sorted columns y) k
+  two-arithmetic l r x y s t k (Rules.null-first h n e) c i j = Sorted.null-first (at-sort x s none h i) (a-number y t n j)
+  two-arithmetic l r x y s t k (Rules.null-second n h e) c i j = Sorted.null-second (a-number x s n i) (at-sort y t none h j)
+  two-arithmetic l r x y s t k (Rules.float-first h n e) c i j = Sorted.float-first (at-sort x s (some Float) h i) (a-number y t n j) e
+  two-arithmetic l r x y s t k (Rules.float-second n h e) c i j = Sorted.float-second (a-number x s n i) (at-sort y t (some Float) h j) e
+  two-arithmetic l r x y s t k (Rules.integers h g n e) c i j = false≢true (sym n ∙ c)
+
+  two-compared : (x y : Expression) (s t : Sort) → Alike s t → Sorted columns x s → Sorted columns y t → Sorted.Compared (Sorted columns x) (Sorted columns y)
+  two-compared x y s t (Rules.null-left e) h k = record { sort = t; left = of-every-sort columns x t (at-sort x s none e h); right = k }
+  two-compared x y s t (Rules.null-right e) h k = record { sort = s; left = h; right = of-every-sort columns y s (at-sort y t none e k) }
+  two-compared x y s t (Rules.alike e) h k = record { sort = s; left = h; right = at-sort y t s (sym e) k }
+
+  -- a Null column's other side
+  other-side : (r y : Expression) (t : Sort) → Sorted columns y t → (has-column r ≡ false → has-column y ≡ false) → (b : Bool) → has-column r ≡ b → (has-column r ≡ true → t ≡ none)
+      → Sorted columns y none ⊎ (has-column y ≡ false)
+  other-side r y t k closed true h null = inl (at-sort y t none (null h) k)
+  other-side r y t k closed false h null = inr (closed h)
+
+  two-equated : (l r x y : Expression) (s t : Sort) → equated l r s t ≡ true → Sorted columns x s → Sorted columns y t → Bare columns l x s → Bare columns r y t
+      → (has-column l ≡ false → has-column x ≡ false) → (has-column r ≡ false → has-column y ≡ false) → Sorted.Equated columns x y (Sorted columns x) (Sorted columns y)
+  two-equated l r x y s t h i j left right cl cr =
+      record {
+        compared = two-compared x y s t (compared-is s t (equated-compared l r s t h)) i j;
+        null-left = λ n. other-side r y t j cr (has-column r) refl (λ c. sym (equated-same l r s t (column-in l (left n .0)) c h) ∙ left n .1);
+        null-right = λ n. other-side l x s i cl (has-column l) refl (λ c. equated-same l r s t c (column-in r (right n .0)) h ∙ right n .1);
+      }
+
+  open2-of : (o : Binary) (l r x y : Expression) (s t k : Sort) → binary-sort o l r s t ≡ found k → (has-column l || has-column r) ≡ true → Sorted columns x s → Sorted columns y t
+      → Bare columns l x s → Bare columns r y t → (has-column l ≡ false → has-column x ≡ false) → (has-column r ≡ false → has-column y ≡ false)
+      → Open2 columns o x y (Sorted columns x) (Sorted columns y) k
+  open2-of (logical o) l r x y s t k h c i j left right cl cr =
+      let kept = if-kept-is (operand-ok l s && operand-ok r t) (some Boolean) k h in
+      (an-operand l x s (and-left (operand-ok l s) (operand-ok r t) (kept .0)) i left, an-operand r y t (and-right (operand-ok l s) (operand-ok r t) (kept .0)) j right, kept .1)
+  open2-of Equal l r x y s t k h c i j left right cl cr =
+      let kept = if-kept-is (equated l r s t) (some Boolean) k h in (two-equated l r x y s t (kept .0) i j left right cl cr, kept .1)
+  open2-of (function2 GreaterThan) l r x y s t k h c i j left right cl cr =
+      let kept = if-kept-is (compared s t) (some Boolean) k h in (two-compared x y s t (compared-is s t (kept .0)) i j, kept .1)
+  open2-of (function2 LessThan) l r x y s t k h c i j left right cl cr =
+      let kept = if-kept-is (compared s t) (some Boolean) k h in (two-compared x y s t (compared-is s t (kept .0)) i j, kept .1)
+  open2-of (function2 Add) l r x y s t k h c i j left right cl cr = two-arithmetic l r x y s t k (sides l r s t k h) c i j
+  open2-of (function2 Divide) l r x y s t k h c i j left right cl cr = two-arithmetic l r x y s t k (sides l r s t k h) c i j
+  open2-of (function2 Subtract) l r x y s t k h c i j left right cl cr = two-arithmetic l r x y s t k (sides l r s t k h) c i j
+  open2-of (function2 Multiply) l r x y s t k h c i j left right cl cr = two-arithmetic l r x y s t k (sides l r s t k h) c i j
