@@ -130,3 +130,144 @@ module _ (columns : List Sort) where
   open2-of (function2 Divide) l r x y s t k h c i j left right cl cr = two-arithmetic l r x y s t k (sides l r s t k h) c i j
   open2-of (function2 Subtract) l r x y s t k h c i j left right cl cr = two-arithmetic l r x y s t k (sides l r s t k h) c i j
   open2-of (function2 Multiply) l r x y s t k h c i j left right cl cr = two-arithmetic l r x y s t k (sides l r s t k h) c i j
+
+  -- ---- without columns
+
+  closed-sorted : (e : Expression) (s : Sort) (v : Value) → has-column e ≡ false → evaluate [] e ≡ ok v → fits-value s v ≡ true → Sorted columns e s
+  closed-sorted (constant og u) s v n e h = subst (λ z. fits-value s z ≡ true) (sym (ok-same e)) h
+  closed-sorted (column og c) s v n e h = false≢true (sym n)
+  closed-sorted (unary og o x) s v n e h = inl (record { no-column = n; gives = record { value = v; is-value = e; fits = h } })
+  closed-sorted (binary og o l r) s v n e h = inl (record { no-column = n; gives = record { value = v; is-value = e; fits = h } })
+
+  -- it became this constant
+  a-constant : (e d : Expression) (og : ℕ) (v : Value) (s : Sort) → Sorted columns e s → d ≡ constant og v → fits-value s v ≡ true → Kept columns e d s
+  a-constant e d og v s before is h =
+      record {
+        before = before;
+        after = subst (λ z. Sorted columns z s) (sym is) h;
+        bare = λ n. false≢true (sym (ap (is-null-column columns) is) ∙ n);
+        closed = λ n. ap has-column is;
+      }
+
+  closed-kept : (at first : ℕ) (e d : Expression) (s : Sort) → expression-sort columns at e ≡ done s → fold-expression first e ≡ done d → has-column e ≡ false → Kept columns e d s
+  closed-kept at first e d s h k n =
+      let valued = closed-folds first e d n k in
+      let fit = closed-fits columns at e s (valued .value) h n (valued .is-value) in
+      a-constant e d (origin e) (valued .value) s (closed-sorted e s (valued .value) n (valued .is-value) fit) (valued .is) fit
+
+  -- ---- with columns
+
+  own-bare : (at : ℕ) (x : Expression) (s : Sort) → expression-sort columns at x ≡ done s → Bare columns x x s
+  own-bare at (constant og v) s h n = false≢true n
+  own-bare at (column og c) s h n = (refl, sym (done-same h) ∙ same-is (getD columns c none) none n)
+  own-bare at (unary og o x) s h n = false≢true n
+  own-bare at (binary og o l r) s h n = false≢true n
+
+  -- What an operator with these operands became, if they have no column: its value, which has its sort.
+  valued-kept : (place : ℕ) (e f d : Expression) (s : Sort) → Sorted columns e s → Sorted columns f s → has-column f ≡ false → fold place f ≡ done d → Kept columns e d s
+  valued-kept place e f d s before h n k =
+      let valued = fold-valued place f d n k in
+      let g = evaluates columns [] (λ c. refl) f s h in
+      a-constant e d (origin f) (valued .value) s before (valued .is) (subst (λ z. fits-value s z ≡ true) (ok-same (sym (g .is-value) ∙ valued .is-value)) (g .fits))
+
+  fold-open : (place : ℕ) (f d : Expression) → has-column f ≡ true → fold place f ≡ done d → d ≡ simplify f
+  fold-open place f d n k = sym (done-same (sym (ap (λ b. fold-by b place f) n) ∙ k))
+
+  open-closed : (e d : Expression) → has-column e ≡ true → has-column e ≡ false → has-column d ≡ false
+  open-closed e d p q = false≢true (sym q ∙ p)
+
+  unary-kept : (og place : ℕ) (o : Unary) (x y d : Expression) (s t : Sort) → has-column x ≡ true → unary-sort o x s ≡ found t → Bare columns x x s → Kept columns x y s
+      → fold place (unary og o y) ≡ done d → (b : Bool) → has-column y ≡ b → Kept columns (unary og o x) d t
+  unary-kept og place o x y d s t c h own x-kept k true n =
+      let is = fold-open place (unary og o y) d n k in
+      record {
+        before = inr (open1-of o x x s t h c (x-kept .before) own);
+        after = subst (λ z. Sorted columns z t) (sym is) (inr (open1-of o x y s t h c (x-kept .after) (x-kept .bare)));
+        bare = λ m. false≢true (sym (ap (is-null-column columns) is) ∙ m);
+        closed = open-closed (unary og o x) d c;
+      }
+  unary-kept og place o x y d s t c h own x-kept k false n =
+      valued-kept place (unary og o x) (unary og o y) d t (inr (open1-of o x x s t h c (x-kept .before) own)) (inr (open1-of o x y s t h c (x-kept .after) (x-kept .bare))) n k
+
+  -- And and Or, simplified
+  pub record Simplified (d : Expression) : Type 0 where
+    pub sorted : Sorted columns d (some Boolean)
+    pub no-null : is-null-column columns d ≡ false
+
+  simplified : (og : ℕ) (o : Logical) (a b : Operand) (x y : Expression) → Sorted.Operand columns x (Sorted columns x) → Sorted.Operand columns y (Sorted columns y)
+      → Simplified (simplify-logical og o a b x y)
+  simplified og o deciding b x y p q = record { sorted = truth-fits (decided o); no-null = refl }
+  simplified og o neutral deciding x y p q = record { sorted = truth-fits (decided o); no-null = refl }
+  simplified og o neutral neutral x y p q = record { sorted = q .boolean; no-null = q .no-null }
+  simplified og o neutral undetermined x y p q = record { sorted = q .boolean; no-null = q .no-null }
+  simplified og o undetermined deciding x y p q = record { sorted = truth-fits (decided o); no-null = refl }
+  simplified og o undetermined neutral x y p q = record { sorted = p .boolean; no-null = p .no-null }
+  simplified og o undetermined undetermined x y p q = record { sorted = inr (p, q, refl); no-null = refl }
+
+  simplified-binary : (og : ℕ) (o : Binary) (x y : Expression) (t : Sort) → Open2 columns o x y (Sorted columns x) (Sorted columns y) t
+      → Sorted columns (simplify (binary og o x y)) t × (is-null-column columns (simplify (binary og o x y)) ≡ false)
+  simplified-binary og (logical o) x y t h =
+      let s = simplified og o (operand o x) (operand o y) x y (h .0) (h .1) in
+      (at-sort (simplify-logical og o (operand o x) (operand o y) x y) (some Boolean) t (sym (h .2)) (s .sorted), s .no-null)
+  simplified-binary og Equal x y t h = (inr h, refl)
+  simplified-binary og (function2 f) x y t h = (inr h, refl)
+
+  binary-kept : (og place : ℕ) (o : Binary) (l r x y d : Expression) (s t k : Sort) → (has-column l || has-column r) ≡ true → binary-sort o l r s t ≡ found k
+      → Bare columns l l s → Bare columns r r t → Kept columns l x s → Kept columns r y t
+      → fold place (binary og o x y) ≡ done d → (b : Bool) → (has-column x || has-column y) ≡ b → Kept columns (binary og o l r) d k
+  binary-kept og place o l r x y d s t k c h own-l own-r l-kept r-kept f b n =
+      by b n
+    where
+      before-is : Open2 columns o l r (Sorted columns l) (Sorted columns r) k
+      before-is = open2-of o l r l r s t k h c (l-kept .before) (r-kept .before) own-l own-r (λ m. m) (λ m. m)
+      after-is : Open2 columns o x y (Sorted columns x) (Sorted columns y) k
+      after-is = open2-of o l r x y s t k h c (l-kept .after) (r-kept .after) (l-kept .bare) (r-kept .bare) (l-kept .closed) (r-kept .closed)
+      by : (b : Bool) → (has-column x || has-column y) ≡ b → Kept columns (binary og o l r) d k
+      by true m =
+          let is = fold-open place (binary og o x y) d m f in
+          let s = simplified-binary og o x y k after-is in
+          record {
+            before = inr before-is;
+            after = subst (λ z. Sorted columns z k) (sym is) (s .0);
+            bare = λ i. false≢true (sym (ap (is-null-column columns) is ∙ s .1) ∙ i);
+            closed = open-closed (binary og o l r) d c;
+          }
+      by false m = valued-kept place (binary og o l r) (binary og o x y) d k (inr before-is) (inr after-is) m f
+
+  by-columns : (at first : ℕ) (e d : Expression) (s : Sort) → expression-sort columns at e ≡ done s → fold-expression first e ≡ done d
+      → (has-column e ≡ true → Kept columns e d s) → (b : Bool) → has-column e ≡ b → Kept columns e d s
+  by-columns at first e d s h k opened true n = opened n
+  by-columns at first e d s h k opened false n = closed-kept at first e d s h k n
+
+  -- The profile's sort is the sort of the expression, and of what it folds to.
+  pub keeps : (at first : ℕ) (e d : Expression) (s : Sort) → expression-sort columns at e ≡ done s → fold-expression first e ≡ done d → Kept columns e d s
+  keeps at first (constant og v) d s h k = closed-kept at first (constant og v) d s h k refl
+  keeps at first (column og c) d s h k =
+      let is = fold-open first (column og c) d refl k in
+      let own : Sorted columns (column og c) s = inr (done-same h) in
+      record {
+        before = own;
+        after = subst (λ z. Sorted columns z s) (sym is) own;
+        bare = λ n. own-bare at (column og c) s h (sym (ap (is-null-column columns) is) ∙ n);
+        closed = open-closed (column og c) d refl;
+      }
+  keeps at first (unary og o x) d s h k =
+      let f = after (fold-expression first x) (λ y. fold (first + size x) (unary og o y)) d k in
+      let a = after (expression-sort columns at x) (λ t. judged (at + size x) (unary-sort o x t)) s h in
+      by-columns at first (unary og o x) d s h k
+      (λ c. unary-kept og (first + size x) o x (f .of) d (a .of) s c (judged-is (at + size x) (unary-sort o x (a .of)) s (a .second)) (own-bare at x (a .of) (a .first))
+      (keeps at first x (f .of) (a .of) (a .first) (f .first)) (f .second) (has-column (f .of)) refl)
+      (has-column x) refl
+  keeps at first (binary og o l r) d s h k =
+      let place = first + (size l + size r) in
+      let cell = at + (size l + size r) in
+      let f = after (fold-expression first l) (λ x. fold-expression (first + size l) r >>= λ y. fold place (binary og o x y)) d k in
+      let g = after (fold-expression (first + size l) r) (λ y. fold place (binary og o (f .of) y)) d (f .second) in
+      let a = after (expression-sort columns at l) (λ u. expression-sort columns (at + size l) r >>= λ m. judged cell (binary-sort o l r u m)) s h in
+      let b = after (expression-sort columns (at + size l) r) (λ m. judged cell (binary-sort o l r (a .of) m)) s (a .second) in
+      by-columns at first (binary og o l r) d s h k
+      (λ c. binary-kept og place o l r (f .of) (g .of) d (a .of) (b .of) s c (judged-is cell (binary-sort o l r (a .of) (b .of)) s (b .second))
+      (own-bare at l (a .of) (a .first)) (own-bare (at + size l) r (b .of) (b .first))
+      (keeps at first l (f .of) (a .of) (a .first) (f .first)) (keeps (at + size l) (first + size l) r (g .of) (b .of) (b .first) (g .first)) (g .second)
+      (has-column (f .of) || has-column (g .of)) refl)
+      (has-column l || has-column r) refl
