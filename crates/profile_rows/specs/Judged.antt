@@ -28,8 +28,8 @@ abbrev Bare : List Sort → (e d : Expression) → Sort → Type 0
 Bare columns e d s = is-null-column columns d ≡ true → (is-column e ≡ true) × (s ≡ none)
 
 pub record Kept (columns : List Sort) (e d : Expression) (s : Sort) : Type 0 where
-  pub before : Sorted columns e s
-  pub after : Sorted columns d s
+  pub before : Sorted true columns e s
+  pub after : Sorted false columns d s
   pub bare : Bare columns e d s
   pub closed : has-column e ≡ false → has-column d ≡ false
 
@@ -39,13 +39,13 @@ column-in (column og c) h = refl
 column-in (unary og o x) h = false≢true h
 column-in (binary og o l r) h = false≢true h
 
-module _ (columns : List Sort) where
-  at-sort : (e : Expression) (s t : Sort) → s ≡ t → Sorted columns e s → Sorted columns e t
-  at-sort e s t h k = subst (λ z. Sorted columns e z) h k
+module _ (unfolded : Bool) (columns : List Sort) where
+  at-sort : (e : Expression) (s t : Sort) → s ≡ t → Sorted unfolded columns e s → Sorted unfolded columns e t
+  at-sort e s t h k = subst (λ z. Sorted unfolded columns e z) h k
 
   -- of a sort or Null
-  or-null : (e : Expression) (s t : Sort) → (s ≡ none) ⊎ (s ≡ t) → Sorted columns e s → Sorted columns e t
-  or-null e s t (inl h) k = of-every-sort columns e t (at-sort e s none h k)
+  or-null : (e : Expression) (s t : Sort) → (s ≡ none) ⊎ (s ≡ t) → Sorted unfolded columns e s → Sorted unfolded columns e t
+  or-null e s t (inl h) k = of-every-sort unfolded columns e t (at-sort e s none h k)
   or-null e s t (inr h) k = at-sort e s t h k
 
   -- ---- the rules, of what the operands became
@@ -58,22 +58,22 @@ module _ (columns : List Sort) where
       by (inl e) = none≢some (sym (bare refl .1) ∙ e)
       by (inr e) = false≢true (sym (e .1) ∙ bare refl .0)
 
-  boolean-operand : (x y : Expression) (s : Sort) → operand-ok x s ≡ true → Sorted columns y s → Sorted columns y (some Boolean)
+  boolean-operand : (x y : Expression) (s : Sort) → operand-ok x s ≡ true → Sorted unfolded columns y s → Sorted unfolded columns y (some Boolean)
   boolean-operand x y s h k = by (operand-is x s h)
     where
-      by : (s ≡ some Boolean) ⊎ ((s ≡ none) × (is-column x ≡ false)) → Sorted columns y (some Boolean)
+      by : (s ≡ some Boolean) ⊎ ((s ≡ none) × (is-column x ≡ false)) → Sorted unfolded columns y (some Boolean)
       by (inl e) = at-sort y s (some Boolean) e k
-      by (inr e) = of-every-sort columns y (some Boolean) (at-sort y s none (e .0) k)
+      by (inr e) = of-every-sort unfolded columns y (some Boolean) (at-sort y s none (e .0) k)
 
-  an-operand : (x y : Expression) (s : Sort) → operand-ok x s ≡ true → Sorted columns y s → Bare columns x y s → Sorted.Operand columns y (Sorted columns y)
+  an-operand : (x y : Expression) (s : Sort) → operand-ok x s ≡ true → Sorted unfolded columns y s → Bare columns x y s → Sorted.Operand columns y (Sorted unfolded columns y)
   an-operand x y s h k bare = record { boolean = boolean-operand x y s h k; no-null = not-null x y s (is-null-column columns y) bare h }
 
-  one-arithmetic : (of-integer : Kind) (x y : Expression) (s t : Sort) → One of-integer x s t → has-column x ≡ true → Sorted columns y s → Arithmetic1 (Sorted columns y) t
+  one-arithmetic : (of-integer : Kind) (x y : Expression) (s t : Sort) → One of-integer x s t → has-column x ≡ true → Sorted unfolded columns y s → Arithmetic1 (Sorted unfolded columns y) t
   one-arithmetic k x y s t (Rules.of-null h e) c i = Sorted.of-null (at-sort y s none h i)
   one-arithmetic k x y s t (Rules.of-an-integer h n e) c i = false≢true (sym n ∙ c)
   one-arithmetic k x y s t (Rules.of-a-float h e) c i = Sorted.of-float (at-sort y s (some Float) h i) e
 
-  open1-of : (o : Unary) (x y : Expression) (s t : Sort) → unary-sort o x s ≡ found t → has-column x ≡ true → Sorted columns y s → Bare columns x y s → Open1 columns o y (Sorted columns y) t
+  open1-of : (o : Unary) (x y : Expression) (s t : Sort) → unary-sort o x s ≡ found t → has-column x ≡ true → Sorted unfolded columns y s → Bare columns x y s → Open1 columns o y (Sorted unfolded columns y) t
   open1-of Not x y s t h c k bare = let kept = if-kept-is (operand-ok x s) (some Boolean) t h in (an-operand x y s (kept .0) k bare, kept .1)
   open1-of (function1 IsNull) x y s t h c k bare = (record { sort = s; has = k }, found-same h)
   open1-of (function1 IsNaN) x y s t h c k bare = let kept = if-kept-is (fits Float s) (some Boolean) t h in (or-null y s (some Float) (fits-float s (kept .0)) k, kept .1)
@@ -81,32 +81,32 @@ module _ (columns : List Sort) where
   open1-of (function1 Negate) x y s t h c k bare = one-arithmetic Integer x y s t (one Integer x s t h) c k
   open1-of (function1 SquareRoot) x y s t h c k bare = one-arithmetic Float x y s t (one Float x s t h) c k
 
-  a-number : (x : Expression) (s : Sort) → Number-sort s → Sorted columns x s → Number (Sorted columns x)
-  a-number x s (null-sort e) h = a-float (of-every-sort columns x (some Float) (at-sort x s none e h))
+  a-number : (x : Expression) (s : Sort) → Number-sort s → Sorted unfolded columns x s → Number (Sorted unfolded columns x)
+  a-number x s (null-sort e) h = a-float (of-every-sort unfolded columns x (some Float) (at-sort x s none e h))
   a-number x s (integer-sort e) h = an-integer (at-sort x s (some Integer) e h)
   a-number x s (float-sort e) h = a-float (at-sort x s (some Float) e h)
 
-  two-arithmetic : (l r x y : Expression) (s t k : Sort) → Sides l r s t k → (has-column l || has-column r) ≡ true → Sorted columns x s → Sorted columns y t
-      → Arithmetic2 (Sorted columns x) (Sorted columns y) k
+  two-arithmetic : (l r x y : Expression) (s t k : Sort) → Sides l r s t k → (has-column l || has-column r) ≡ true → Sorted unfolded columns x s → Sorted unfolded columns y t
+      → Arithmetic2 (Sorted unfolded columns x) (Sorted unfolded columns y) k
   two-arithmetic l r x y s t k (Rules.null-first h n e) c i j = Sorted.null-first (at-sort x s none h i) (a-number y t n j)
   two-arithmetic l r x y s t k (Rules.null-second n h e) c i j = Sorted.null-second (a-number x s n i) (at-sort y t none h j)
   two-arithmetic l r x y s t k (Rules.float-first h n e) c i j = Sorted.float-first (at-sort x s (some Float) h i) (a-number y t n j) e
   two-arithmetic l r x y s t k (Rules.float-second n h e) c i j = Sorted.float-second (a-number x s n i) (at-sort y t (some Float) h j) e
   two-arithmetic l r x y s t k (Rules.integers h g n e) c i j = false≢true (sym n ∙ c)
 
-  two-compared : (x y : Expression) (s t : Sort) → Alike s t → Sorted columns x s → Sorted columns y t → Sorted.Compared (Sorted columns x) (Sorted columns y)
-  two-compared x y s t (Rules.null-left e) h k = record { sort = t; left = of-every-sort columns x t (at-sort x s none e h); right = k }
-  two-compared x y s t (Rules.null-right e) h k = record { sort = s; left = h; right = of-every-sort columns y s (at-sort y t none e k) }
+  two-compared : (x y : Expression) (s t : Sort) → Alike s t → Sorted unfolded columns x s → Sorted unfolded columns y t → Sorted.Compared (Sorted unfolded columns x) (Sorted unfolded columns y)
+  two-compared x y s t (Rules.null-left e) h k = record { sort = t; left = of-every-sort unfolded columns x t (at-sort x s none e h); right = k }
+  two-compared x y s t (Rules.null-right e) h k = record { sort = s; left = h; right = of-every-sort unfolded columns y s (at-sort y t none e k) }
   two-compared x y s t (Rules.alike e) h k = record { sort = s; left = h; right = at-sort y t s (sym e) k }
 
   -- a Null column's other side
-  other-side : (r y : Expression) (t : Sort) → Sorted columns y t → (has-column r ≡ false → has-column y ≡ false) → (b : Bool) → has-column r ≡ b → (has-column r ≡ true → t ≡ none)
-      → Sorted columns y none ⊎ (has-column y ≡ false)
+  other-side : (r y : Expression) (t : Sort) → Sorted unfolded columns y t → (has-column r ≡ false → has-column y ≡ false) → (b : Bool) → has-column r ≡ b → (has-column r ≡ true → t ≡ none)
+      → Sorted unfolded columns y none ⊎ (has-column y ≡ false)
   other-side r y t k closed true h null = inl (at-sort y t none (null h) k)
   other-side r y t k closed false h null = inr (closed h)
 
-  two-equated : (l r x y : Expression) (s t : Sort) → equated l r s t ≡ true → Sorted columns x s → Sorted columns y t → Bare columns l x s → Bare columns r y t
-      → (has-column l ≡ false → has-column x ≡ false) → (has-column r ≡ false → has-column y ≡ false) → Sorted.Equated columns x y (Sorted columns x) (Sorted columns y)
+  two-equated : (l r x y : Expression) (s t : Sort) → equated l r s t ≡ true → Sorted unfolded columns x s → Sorted unfolded columns y t → Bare columns l x s → Bare columns r y t
+      → (has-column l ≡ false → has-column x ≡ false) → (has-column r ≡ false → has-column y ≡ false) → Sorted.Equated columns x y (Sorted unfolded columns x) (Sorted unfolded columns y)
   two-equated l r x y s t h i j left right cl cr =
       record {
         compared = two-compared x y s t (compared-is s t (equated-compared l r s t h)) i j;
@@ -114,9 +114,9 @@ module _ (columns : List Sort) where
         null-right = λ n. other-side l x s i cl (has-column l) refl (λ c. equated-same l r s t c (column-in r (right n .0)) h ∙ right n .1);
       }
 
-  open2-of : (o : Binary) (l r x y : Expression) (s t k : Sort) → binary-sort o l r s t ≡ found k → (has-column l || has-column r) ≡ true → Sorted columns x s → Sorted columns y t
+  open2-of : (o : Binary) (l r x y : Expression) (s t k : Sort) → binary-sort o l r s t ≡ found k → (has-column l || has-column r) ≡ true → Sorted unfolded columns x s → Sorted unfolded columns y t
       → Bare columns l x s → Bare columns r y t → (has-column l ≡ false → has-column x ≡ false) → (has-column r ≡ false → has-column y ≡ false)
-      → Open2 columns o x y (Sorted columns x) (Sorted columns y) k
+      → Open2 columns o x y (Sorted unfolded columns x) (Sorted unfolded columns y) k
   open2-of (logical o) l r x y s t k h c i j left right cl cr =
       let kept = if-kept-is (operand-ok l s && operand-ok r t) (some Boolean) k h in
       (an-operand l x s (and-left (operand-ok l s) (operand-ok r t) (kept .0)) i left, an-operand r y t (and-right (operand-ok l s) (operand-ok r t) (kept .0)) j right, kept .1)
@@ -131,20 +131,21 @@ module _ (columns : List Sort) where
   open2-of (function2 Subtract) l r x y s t k h c i j left right cl cr = two-arithmetic l r x y s t k (sides l r s t k h) c i j
   open2-of (function2 Multiply) l r x y s t k h c i j left right cl cr = two-arithmetic l r x y s t k (sides l r s t k h) c i j
 
+module _ (columns : List Sort) where
   -- ---- without columns
 
-  closed-sorted : (e : Expression) (s : Sort) (v : Value) → has-column e ≡ false → evaluate [] e ≡ ok v → fits-value s v ≡ true → Sorted columns e s
+  closed-sorted : (e : Expression) (s : Sort) (v : Value) → has-column e ≡ false → evaluate [] e ≡ ok v → fits-value s v ≡ true → Sorted true columns e s
   closed-sorted (constant og u) s v n e h = subst (λ z. fits-value s z ≡ true) (sym (ok-same e)) h
   closed-sorted (column og c) s v n e h = false≢true (sym n)
-  closed-sorted (unary og o x) s v n e h = inl (record { no-column = n; gives = record { value = v; is-value = e; fits = h } })
-  closed-sorted (binary og o l r) s v n e h = inl (record { no-column = n; gives = record { value = v; is-value = e; fits = h } })
+  closed-sorted (unary og o x) s v n e h = inl (refl, record { no-column = n; gives = record { value = v; is-value = e; fits = h } })
+  closed-sorted (binary og o l r) s v n e h = inl (refl, record { no-column = n; gives = record { value = v; is-value = e; fits = h } })
 
   -- it became this constant
-  a-constant : (e d : Expression) (og : ℕ) (v : Value) (s : Sort) → Sorted columns e s → d ≡ constant og v → fits-value s v ≡ true → Kept columns e d s
+  a-constant : (e d : Expression) (og : ℕ) (v : Value) (s : Sort) → Sorted true columns e s → d ≡ constant og v → fits-value s v ≡ true → Kept columns e d s
   a-constant e d og v s before is h =
       record {
         before = before;
-        after = subst (λ z. Sorted columns z s) (sym is) h;
+        after = subst (λ z. Sorted false columns z s) (sym is) h;
         bare = λ n. false≢true (sym (ap (is-null-column columns) is) ∙ n);
         closed = λ n. ap has-column is;
       }
@@ -164,10 +165,10 @@ module _ (columns : List Sort) where
   own-bare at (binary og o l r) s h n = false≢true n
 
   -- What an operator with these operands became, if they have no column: its value, which has its sort.
-  valued-kept : (place : ℕ) (e f d : Expression) (s : Sort) → Sorted columns e s → Sorted columns f s → has-column f ≡ false → fold place f ≡ done d → Kept columns e d s
+  valued-kept : (place : ℕ) (e f d : Expression) (s : Sort) → Sorted true columns e s → Sorted false columns f s → has-column f ≡ false → fold place f ≡ done d → Kept columns e d s
   valued-kept place e f d s before h n k =
       let valued = fold-valued place f d n k in
-      let g = evaluates columns [] (λ c. refl) f s h in
+      let g = evaluates false columns [] (λ c. refl) f s h in
       a-constant e d (origin f) (valued .value) s before (valued .is) (subst (λ z. fits-value s z ≡ true) (ok-same (sym (g .is-value) ∙ valued .is-value)) (g .fits))
 
   fold-open : (place : ℕ) (f d : Expression) → has-column f ≡ true → fold place f ≡ done d → d ≡ simplify f
@@ -181,20 +182,20 @@ module _ (columns : List Sort) where
   unary-kept og place o x y d s t c h own x-kept k true n =
       let is = fold-open place (unary og o y) d n k in
       record {
-        before = inr (open1-of o x x s t h c (x-kept .before) own);
-        after = subst (λ z. Sorted columns z t) (sym is) (inr (open1-of o x y s t h c (x-kept .after) (x-kept .bare)));
+        before = inr (open1-of true columns o x x s t h c (x-kept .before) own);
+        after = subst (λ z. Sorted false columns z t) (sym is) (inr (open1-of false columns o x y s t h c (x-kept .after) (x-kept .bare)));
         bare = λ m. false≢true (sym (ap (is-null-column columns) is) ∙ m);
         closed = open-closed (unary og o x) d c;
       }
   unary-kept og place o x y d s t c h own x-kept k false n =
-      valued-kept place (unary og o x) (unary og o y) d t (inr (open1-of o x x s t h c (x-kept .before) own)) (inr (open1-of o x y s t h c (x-kept .after) (x-kept .bare))) n k
+      valued-kept place (unary og o x) (unary og o y) d t (inr (open1-of true columns o x x s t h c (x-kept .before) own)) (inr (open1-of false columns o x y s t h c (x-kept .after) (x-kept .bare))) n k
 
   -- And and Or, simplified
   pub record Simplified (d : Expression) : Type 0 where
-    pub sorted : Sorted columns d (some Boolean)
+    pub sorted : Sorted false columns d (some Boolean)
     pub no-null : is-null-column columns d ≡ false
 
-  simplified : (og : ℕ) (o : Logical) (a b : Operand) (x y : Expression) → Sorted.Operand columns x (Sorted columns x) → Sorted.Operand columns y (Sorted columns y)
+  simplified : (og : ℕ) (o : Logical) (a b : Operand) (x y : Expression) → Sorted.Operand columns x (Sorted false columns x) → Sorted.Operand columns y (Sorted false columns y)
       → Simplified (simplify-logical og o a b x y)
   simplified og o deciding b x y p q = record { sorted = truth-fits (decided o); no-null = refl }
   simplified og o neutral deciding x y p q = record { sorted = truth-fits (decided o); no-null = refl }
@@ -204,11 +205,11 @@ module _ (columns : List Sort) where
   simplified og o undetermined neutral x y p q = record { sorted = p .boolean; no-null = p .no-null }
   simplified og o undetermined undetermined x y p q = record { sorted = inr (p, q, refl); no-null = refl }
 
-  simplified-binary : (og : ℕ) (o : Binary) (x y : Expression) (t : Sort) → Open2 columns o x y (Sorted columns x) (Sorted columns y) t
-      → Sorted columns (simplify (binary og o x y)) t × (is-null-column columns (simplify (binary og o x y)) ≡ false)
+  simplified-binary : (og : ℕ) (o : Binary) (x y : Expression) (t : Sort) → Open2 columns o x y (Sorted false columns x) (Sorted false columns y) t
+      → Sorted false columns (simplify (binary og o x y)) t × (is-null-column columns (simplify (binary og o x y)) ≡ false)
   simplified-binary og (logical o) x y t h =
       let s = simplified og o (operand o x) (operand o y) x y (h .0) (h .1) in
-      (at-sort (simplify-logical og o (operand o x) (operand o y) x y) (some Boolean) t (sym (h .2)) (s .sorted), s .no-null)
+      (at-sort false columns (simplify-logical og o (operand o x) (operand o y) x y) (some Boolean) t (sym (h .2)) (s .sorted), s .no-null)
   simplified-binary og Equal x y t h = (inr h, refl)
   simplified-binary og (function2 f) x y t h = (inr h, refl)
 
@@ -218,17 +219,17 @@ module _ (columns : List Sort) where
   binary-kept og place o l r x y d s t k c h own-l own-r l-kept r-kept f b n =
       by b n
     where
-      before-is : Open2 columns o l r (Sorted columns l) (Sorted columns r) k
-      before-is = open2-of o l r l r s t k h c (l-kept .before) (r-kept .before) own-l own-r (λ m. m) (λ m. m)
-      after-is : Open2 columns o x y (Sorted columns x) (Sorted columns y) k
-      after-is = open2-of o l r x y s t k h c (l-kept .after) (r-kept .after) (l-kept .bare) (r-kept .bare) (l-kept .closed) (r-kept .closed)
+      before-is : Open2 columns o l r (Sorted true columns l) (Sorted true columns r) k
+      before-is = open2-of true columns o l r l r s t k h c (l-kept .before) (r-kept .before) own-l own-r (λ m. m) (λ m. m)
+      after-is : Open2 columns o x y (Sorted false columns x) (Sorted false columns y) k
+      after-is = open2-of false columns o l r x y s t k h c (l-kept .after) (r-kept .after) (l-kept .bare) (r-kept .bare) (l-kept .closed) (r-kept .closed)
       by : (b : Bool) → (has-column x || has-column y) ≡ b → Kept columns (binary og o l r) d k
       by true m =
           let is = fold-open place (binary og o x y) d m f in
           let s = simplified-binary og o x y k after-is in
           record {
             before = inr before-is;
-            after = subst (λ z. Sorted columns z k) (sym is) (s .0);
+            after = subst (λ z. Sorted false columns z k) (sym is) (s .0);
             bare = λ i. false≢true (sym (ap (is-null-column columns) is ∙ s .1) ∙ i);
             closed = open-closed (binary og o l r) d c;
           }
@@ -244,10 +245,10 @@ module _ (columns : List Sort) where
   keeps at first (constant og v) d s h k = closed-kept at first (constant og v) d s h k refl
   keeps at first (column og c) d s h k =
       let is = fold-open first (column og c) d refl k in
-      let own : Sorted columns (column og c) s = inr (done-same h) in
+      let own : Sorted true columns (column og c) s = inr (done-same h) in
       record {
         before = own;
-        after = subst (λ z. Sorted columns z s) (sym is) own;
+        after = subst (λ z. Sorted false columns z s) (sym is) own;
         bare = λ n. own-bare at (column og c) s h (sym (ap (is-null-column columns) is) ∙ n);
         closed = open-closed (column og c) d refl;
       }

@@ -87,12 +87,12 @@ Open2 columns (function2 Divide) l r L R s = Arithmetic2 L R s
 Open2 columns (function2 Subtract) l r L R s = Arithmetic2 L R s
 Open2 columns (function2 Multiply) l r L R s = Arithmetic2 L R s
 
--- A sort that an expression has: its values are Null, or of this kind.
-abbrev pub Sorted : List Sort → Expression → Sort → Type 0
-Sorted columns (constant og v) s = fits-value s v ≡ true
-Sorted columns (column og c) s = (getD columns c none ≡ none) ⊎ (getD columns c none ≡ s)
-Sorted columns (unary og o x) s = Closed (unary og o x) s ⊎ Open1 columns o x (Sorted columns x) s
-Sorted columns (binary og o l r) s = Closed (binary og o l r) s ⊎ Open2 columns o l r (Sorted columns l) (Sorted columns r) s
+-- A sort that an expression has: its values are Null, or of this kind. Operators without columns, which ConstantFolding leaves none of, are let in only by `unfolded`.
+abbrev pub Sorted : (unfolded : Bool) → List Sort → Expression → Sort → Type 0
+Sorted unfolded columns (constant og v) s = fits-value s v ≡ true
+Sorted unfolded columns (column og c) s = (getD columns c none ≡ none) ⊎ (getD columns c none ≡ s)
+Sorted unfolded columns (unary og o x) s = ((unfolded ≡ true) × Closed (unary og o x) s) ⊎ Open1 columns o x (Sorted unfolded columns x) s
+Sorted unfolded columns (binary og o l r) s = ((unfolded ≡ true) × Closed (binary og o l r) s) ⊎ Open2 columns o l r (Sorted unfolded columns l) (Sorted unfolded columns r) s
 
 -- ---- what is always Null is of every sort
 
@@ -137,14 +137,15 @@ module _ (columns : List Sort) where
   open2-any (function2 Subtract) l r L R s h = arithmetic2-any L R s h
   open2-any (function2 Multiply) l r L R s h = arithmetic2-any L R s h
 
-  pub of-every-sort : (e : Expression) (s : Sort) → Sorted columns e none → Sorted columns e s
+module _ (unfolded : Bool) (columns : List Sort) where
+  pub of-every-sort : (e : Expression) (s : Sort) → Sorted unfolded columns e none → Sorted unfolded columns e s
   of-every-sort (constant og v) s h = null-any s v h
   of-every-sort (column og c) s (inl h) = inl h
   of-every-sort (column og c) s (inr h) = inl h
-  of-every-sort (unary og o x) s (inl h) = inl (closed-any s (unary og o x) h)
-  of-every-sort (unary og o x) s (inr h) = inr (open1-any o x (Sorted columns x) s h)
-  of-every-sort (binary og o l r) s (inl h) = inl (closed-any s (binary og o l r) h)
-  of-every-sort (binary og o l r) s (inr h) = inr (open2-any o l r (Sorted columns l) (Sorted columns r) s h)
+  of-every-sort (unary og o x) s (inl h) = inl (h .0, closed-any s (unary og o x) (h .1))
+  of-every-sort (unary og o x) s (inr h) = inr (open1-any columns o x (Sorted unfolded columns x) s h)
+  of-every-sort (binary og o l r) s (inl h) = inl (h .0, closed-any s (binary og o l r) (h .1))
+  of-every-sort (binary og o l r) s (inr h) = inr (open2-any columns o l r (Sorted unfolded columns l) (Sorted unfolded columns r) s h)
 
 -- ---- such an expression has a value
 
@@ -159,17 +160,17 @@ bind-gives k s r f g h = subst (λ z. Gives s (bind z f)) (sym (g .is-value)) (h
 at-sort : {k s : Sort} (r : Result Value) → s ≡ k → Gives k r → Gives s r
 at-sort r e g = subst (λ z. Gives z r) (sym e) g
 
-module _ (columns : List Sort) (row : Row) (x : Expression) (value : (k : Sort) → Sorted columns x k → Gives k (evaluate row x)) where
-  one-null : (s : Sort) (f : Value → Result Value) → f null ≡ ok null → Sorted columns x none → Gives s (bind (evaluate row x) f)
+module _ (unfolded : Bool) (columns : List Sort) (row : Row) (x : Expression) (value : (k : Sort) → Sorted unfolded columns x k → Gives k (evaluate row x)) where
+  one-null : (s : Sort) (f : Value → Result Value) → f null ≡ ok null → Sorted unfolded columns x none → Gives s (bind (evaluate row x) f)
   one-null s f e h = bind-gives none s (evaluate row x) f (value none h)
       (λ v k. record { value = null; is-value = ap f (is-null-value v k) ∙ e; fits = refl })
 
   one-arithmetic : (s : Sort) (f : Value → Result Value) → f null ≡ ok null → ((v : Value) → fits-value (some Float) v ≡ true → Gives (some Float) (f v))
-      → Arithmetic1 (Sorted columns x) s → Gives s (bind (evaluate row x) f)
+      → Arithmetic1 (Sorted unfolded columns x) s → Gives s (bind (evaluate row x) f)
   one-arithmetic s f e g (of-null h) = one-null s f e h
   one-arithmetic s f e g (of-float h i) = at-sort (bind (evaluate row x) f) i (bind-gives (some Float) (some Float) (evaluate row x) f (value (some Float) h) g)
 
-  open1-gives : (o : Unary) (s : Sort) → Open1 columns o x (Sorted columns x) s → Gives s (bind (evaluate row x) (evaluate-unary o))
+  open1-gives : (o : Unary) (s : Sort) → Open1 columns o x (Sorted unfolded columns x) s → Gives s (bind (evaluate row x) (evaluate-unary o))
   open1-gives Not s h =
       at-sort (bind (evaluate row x) (evaluate-unary Not)) (h .1) (bind-gives (some Boolean) (some Boolean) (evaluate row x) (evaluate-unary Not) (value (some Boolean) (h .0 .boolean)) not-gives)
   open1-gives (function1 IsNull) s h =
@@ -192,14 +193,14 @@ bind2-is r q f v w h k = ap (λ z. bind z (λ y. bind q (f y))) h ∙ ap (λ z. 
 bind2-gives : (s : Sort) (r q : Result Value) (f : Value → Value → Result Value) (v w : Value) → r ≡ ok v → q ≡ ok w → Gives s (f v w) → Gives s (bind r (λ z. bind q (f z)))
 bind2-gives s r q f v w h k g = subst (λ z. Gives s z) (sym (bind2-is r q f v w h k)) g
 
-module _ (columns : List Sort) (row : Row) where
-  number-gives : (x : Expression) → ((k : Sort) → Sorted columns x k → Gives k (evaluate row x)) → Number (Sorted columns x) → A-number (evaluate row x)
+module _ (unfolded : Bool) (columns : List Sort) (row : Row) where
+  number-gives : (x : Expression) → ((k : Sort) → Sorted unfolded columns x k → Gives k (evaluate row x)) → Number (Sorted unfolded columns x) → A-number (evaluate row x)
   number-gives x value (an-integer h) =
       let g = value (some Integer) h in record { value = g .value; is-value = g .is-value; number = integer-number (g .value) (g .fits) }
   number-gives x value (a-float h) = let g = value (some Float) h in record { value = g .value; is-value = g .is-value; number = float-number (g .value) (g .fits) }
 
-  module _ (l r : Expression) (left : (k : Sort) → Sorted columns l k → Gives k (evaluate row l)) (right : (k : Sort) → Sorted columns r k → Gives k (evaluate row r)) where
-    two-arithmetic : (whole : ℤ → ℤ → Result Value) (double : Ieee.Float → Ieee.Float → Ieee.Float) (s : Sort) → Arithmetic2 (Sorted columns l) (Sorted columns r) s
+  module _ (l r : Expression) (left : (k : Sort) → Sorted unfolded columns l k → Gives k (evaluate row l)) (right : (k : Sort) → Sorted unfolded columns r k → Gives k (evaluate row r)) where
+    two-arithmetic : (whole : ℤ → ℤ → Result Value) (double : Ieee.Float → Ieee.Float → Ieee.Float) (s : Sort) → Arithmetic2 (Sorted unfolded columns l) (Sorted unfolded columns r) s
         → Gives s (bind (evaluate row l) (λ v. bind (evaluate row r) (arithmetic whole double v)))
     two-arithmetic whole double s (null-first h k) =
         let g = left none h in
@@ -220,7 +221,7 @@ module _ (columns : List Sort) (row : Row) where
         bind2-gives s (evaluate row l) (evaluate row r) (arithmetic whole double) (n .value) (g .value) (n .is-value) (g .is-value)
         (at-sort (arithmetic whole double (n .value) (g .value)) e (Fits.float-right whole double (n .value) (g .value) (n .number) (g .fits)))
 
-    two-compared : (test : Comparison → Bool) (s : Sort) → s ≡ some Boolean → Compared (Sorted columns l) (Sorted columns r)
+    two-compared : (test : Comparison → Bool) (s : Sort) → s ≡ some Boolean → Compared (Sorted unfolded columns l) (Sorted unfolded columns r)
         → Gives s (bind (evaluate row l) (λ v. bind (evaluate row r) (compared test v)))
     two-compared test s e c =
         let g = left (c .sort) (c .left) in
@@ -228,7 +229,7 @@ module _ (columns : List Sort) (row : Row) where
         bind2-gives s (evaluate row l) (evaluate row r) (compared test) (g .value) (k .value) (g .is-value) (k .is-value)
         (at-sort (compared test (g .value) (k .value)) e (comparison-gives test (c .sort) (g .value) (k .value) (g .fits) (k .fits)))
 
-    open2-gives : (o : Binary) (s : Sort) → Open2 columns o l r (Sorted columns l) (Sorted columns r) s → Gives s (bind (evaluate row l) (λ v. bind (evaluate row r) (evaluate-binary o v)))
+    open2-gives : (o : Binary) (s : Sort) → Open2 columns o l r (Sorted unfolded columns l) (Sorted unfolded columns r) s → Gives s (bind (evaluate row l) (λ v. bind (evaluate row r) (evaluate-binary o v)))
     open2-gives (logical o) s h =
         let g = left (some Boolean) (h .0 .boolean) in
         let k = right (some Boolean) (h .1 .boolean) in
@@ -250,10 +251,10 @@ module _ (columns : List Sort) (row : Row) where
     column-gives c s (inl h) = null-any s (getD row c null) (subst (λ z. fits-value z (getD row c null) ≡ true) h (fit c))
     column-gives c s (inr h) = subst (λ z. fits-value z (getD row c null) ≡ true) h (fit c)
 
-    pub evaluates : (e : Expression) (s : Sort) → Sorted columns e s → Gives s (evaluate row e)
+    pub evaluates : (e : Expression) (s : Sort) → Sorted unfolded columns e s → Gives s (evaluate row e)
     evaluates (constant og v) s h = record { value = v; is-value = refl; fits = h }
     evaluates (column og c) s h = record { value = getD row c null; is-value = refl; fits = column-gives c s h }
-    evaluates (unary og o x) s (inl h) = closed-gives (unary og o x) s h
-    evaluates (unary og o x) s (inr h) = open1-gives columns row x (evaluates x) o s h
-    evaluates (binary og o l r) s (inl h) = closed-gives (binary og o l r) s h
+    evaluates (unary og o x) s (inl h) = closed-gives (unary og o x) s (h .1)
+    evaluates (unary og o x) s (inr h) = open1-gives unfolded columns row x (evaluates x) o s h
+    evaluates (binary og o l r) s (inl h) = closed-gives (binary og o l r) s (h .1)
     evaluates (binary og o l r) s (inr h) = open2-gives l r (evaluates l) (evaluates r) o s h
