@@ -3,3 +3,4 @@ pub mod Rules
 pub mod Closed
 pub mod Sorted
 pub mod Judged
+pub mod Normal
