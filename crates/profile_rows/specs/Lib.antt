@@ -4,3 +4,4 @@ pub mod Closed
 pub mod Sorted
 pub mod Judged
 pub mod Normal
+pub mod Predicates

@@ -101,7 +101,7 @@ module _ (columns : List Sort) where
   under-not og x s (inl h) = false≢true (h .0)
   under-not og x s (inr h) = h
 
-  sides-of : (og : ℕ) (o : Logical) (l r : Expression) (s : Sort) → Here (binary og (logical o) l r) s → Operand columns l (Here l) × Operand columns r (Here r) × (s ≡ some Boolean)
+  pub sides-of : (og : ℕ) (o : Logical) (l r : Expression) (s : Sort) → Here (binary og (logical o) l r) s → Operand columns l (Here l) × Operand columns r (Here r) × (s ≡ some Boolean)
   sides-of og o l r s (inl h) = false≢true (h .0)
   sides-of og o l r s (inr h) = h
 

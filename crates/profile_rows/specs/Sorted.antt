@@ -190,7 +190,7 @@ pub record A-number (r : Result Value) : Type 0 where
 bind2-is : (r q : Result Value) (f : Value → Value → Result Value) (v w : Value) → r ≡ ok v → q ≡ ok w → bind r (λ z. bind q (f z)) ≡ f v w
 bind2-is r q f v w h k = ap (λ z. bind z (λ y. bind q (f y))) h ∙ ap (λ z. bind z (f v)) k
 
-bind2-gives : (s : Sort) (r q : Result Value) (f : Value → Value → Result Value) (v w : Value) → r ≡ ok v → q ≡ ok w → Gives s (f v w) → Gives s (bind r (λ z. bind q (f z)))
+pub bind2-gives : (s : Sort) (r q : Result Value) (f : Value → Value → Result Value) (v w : Value) → r ≡ ok v → q ≡ ok w → Gives s (f v w) → Gives s (bind r (λ z. bind q (f z)))
 bind2-gives s r q f v w h k g = subst (λ z. Gives s z) (sym (bind2-is r q f v w h k)) g
 
 module _ (unfolded : Bool) (columns : List Sort) (row : Row) where
