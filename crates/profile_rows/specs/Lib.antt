@@ -5,3 +5,4 @@ pub mod Sorted
 pub mod Judged
 pub mod Normal
 pub mod Predicates
+pub mod Plans

@@ -1,0 +1,104 @@
+-- Plans whose expressions have sorts: the plan handed in, before it is folded, and each that a pass makes. The sorts of a node's columns are those of the plan handed in
+-- throughout: an emptied node keeps them, since it gives no row.
+use Prim.Native.Nat.{ℕ, zero, suc, _+_}
+use mathlib.Core.Bool.{Bool, true, false}
+use mathlib.Core.List.{List, [], _∷_, _++_, map}
+use mathlib.Core.Option.{Option, none, some}
+use mathlib.Core.Path.{_≡_, refl, sym, ap, ap₂, _∙_, subst}
+use lib.ListN.{length, getD, length-append, length-map}
+use Rattle.sql.specs.Schema.{Boolean, Column, Schema, table-of}
+use Rattle.sql.specs.Expression.{Marked, Expression, column, binary, Equal}
+use Rattle.sql.specs.Plan.{Label, Leaf, scan, lookup, nothing, values, Other, limit, offset, order, projection, remap, aggregate, Over, filter, other, Join, nested-loop, hash, Node, leaf, over, join, columns, values-columns, remap-columns, remap-source, up-to}
+use Rattle.rows.specs.Reading.{expressions}
+use Rattle.profile.specs.Profile.{Sort, table-sorts, source-sort}
+use Rattle.profile_rows.specs.Sorted.{Some-sort, Sorted}
+use Rattle.profile_rows.specs.Predicates.{Pred}
+
+-- a predicate: before folding it has one sort, Boolean; later it is an And of such
+abbrev pub Condition : (unfolded : Bool) → List Sort → Expression → Type 0
+Condition true sorts e = Sorted true sorts e (some Boolean)
+Condition false sorts e = Pred sorts e
+
+abbrev pub Optional-condition : (unfolded : Bool) → List Sort → Option Expression → Type 0
+Optional-condition unfolded sorts none = Unit {0}
+Optional-condition unfolded sorts (some e) = Condition unfolded sorts e
+
+-- some sorts of a source's columns, with what holds of them
+pub record From (S R : List Sort → Type 0) : Type 0 where
+  pub sorts : List Sort
+  pub source : S sorts
+  pub rule : R sorts
+
+pub record From-two (L R : List Sort → Type 0) (J : List Sort → List Sort → Type 0) : Type 0 where
+  pub lefts : List Sort
+  pub rights : List Sort
+  pub left : L lefts
+  pub right : R rights
+  pub rule : J lefts rights
+
+-- the sorts of a Remap's columns
+abbrev pub remapped : List Sort → List (Marked (Option ℕ)) → List Sort
+remapped sorts targets = map (λ to. source-sort sorts (remap-source 0 targets to)) (up-to 0 (remap-columns targets))
+
+pub length-up-to : (from n : ℕ) → length (up-to from n) ≡ n
+length-up-to from zero = refl
+length-up-to from (suc n) = ap suc (length-up-to (suc from) n)
+
+module _ (unfolded : Bool) (schema : Schema) where
+  -- expressions over a source, of the sorts of columns i, i + 1, ..
+  abbrev pub Items : (source sorts : List Sort) → ℕ → List Expression → Type 0
+  Items source sorts i [] = Unit {0}
+  Items source sorts i (e ∷ es) = Sorted unfolded source e (getD sorts i none) × Items source sorts (suc i) es
+
+  abbrev pub Rows : List Sort → List (Marked (List Expression)) → Type 0
+  Rows sorts [] = Unit {0}
+  Rows sorts (row ∷ rows) = Items [] sorts 0 (row .0) × Rows sorts rows
+
+  -- of any sort
+  abbrev pub Keys : List Sort → List (Expression × Bool × ℕ) → Type 0
+  Keys sorts [] = Unit {0}
+  Keys sorts (k ∷ ks) = Some-sort (Sorted unfolded sorts (k .0)) × Keys sorts ks
+
+  abbrev pub Leaf-sorted : List Sort → Leaf → Type 0
+  Leaf-sorted sorts (scan table alias predicate) = (sorts ≡ table-sorts schema table) × Optional-condition unfolded sorts predicate
+  Leaf-sorted sorts (lookup access table alias constants) = (sorts ≡ table-sorts schema table)
+  Leaf-sorted sorts (nothing labels) = (length sorts ≡ length labels)
+  Leaf-sorted sorts (values rows) = (length sorts ≡ values-columns rows) × Rows sorts rows
+
+  -- of a join whose left source has n columns
+  abbrev pub Join-sorted : List Sort → ℕ → Join → Type 0
+  Join-sorted sorts n (nested-loop predicate) = Optional-condition unfolded sorts predicate
+  Join-sorted sorts n (hash i j) = Sorted unfolded sorts (binary 0 Equal (column 0 i) (column 0 (n + j))) (some Boolean)
+
+  abbrev pub Plan : List Sort → Node → Type 0
+  Plan sorts (leaf og l) = Leaf-sorted sorts l
+  Plan sorts (over og (filter predicate) source) = Plan sorts source × Condition unfolded sorts predicate
+  Plan sorts (over og (other (limit amount)) source) = Plan sorts source
+  Plan sorts (over og (other (offset amount)) source) = Plan sorts source
+  Plan sorts (over og (other (order key)) source) = Plan sorts source × Keys sorts key
+  Plan sorts (over og (other (projection items)) source) =
+      From (λ those. Plan those source) (λ those. (length sorts ≡ length items) × Items those sorts 0 (expressions items))
+  Plan sorts (over og (other (remap targets)) source) = From (λ those. Plan those source) (λ those. sorts ≡ remapped those targets)
+  Plan sorts (over og (other (aggregate group-by aggregates)) source) = ⊥
+  Plan sorts (join og outer j left right) =
+      From-two (λ ls. Plan ls left) (λ rs. Plan rs right) (λ ls rs. (sorts ≡ ls ++ rs) × Join-sorted sorts (columns schema left) j)
+
+  -- There are as many sorts as columns.
+  leaf-wide : (sorts : List Sort) (l : Leaf) → Leaf-sorted sorts l → length sorts ≡ columns schema (leaf 0 l)
+  leaf-wide sorts (scan table alias p) h = ap length (h .0) ∙ length-map (table-of schema table .columns) (λ (c : Column). some (c .kind))
+  leaf-wide sorts (lookup access table alias constants) h = ap length h ∙ length-map (table-of schema table .columns) (λ (c : Column). some (c .kind))
+  leaf-wide sorts (nothing labels) h = h
+  leaf-wide sorts (values rows) h = h .0
+
+  pub plan-wide : (sorts : List Sort) (n : Node) → Plan sorts n → length sorts ≡ columns schema n
+  plan-wide sorts (leaf og l) h = leaf-wide sorts l h
+  plan-wide sorts (over og (filter p) source) h = plan-wide sorts source (h .0)
+  plan-wide sorts (over og (other (limit amount)) source) h = plan-wide sorts source h
+  plan-wide sorts (over og (other (offset amount)) source) h = plan-wide sorts source h
+  plan-wide sorts (over og (other (order key)) source) h = plan-wide sorts source (h .0)
+  plan-wide sorts (over og (other (projection items)) source) h = h .rule .0
+  plan-wide sorts (over og (other (remap targets)) source) h =
+      ap length (h .rule) ∙ (length-map (up-to 0 (remap-columns targets)) (λ to. source-sort (h .sorts) (remap-source 0 targets to)) ∙ length-up-to 0 (remap-columns targets))
+  plan-wide sorts (over og (other (aggregate group-by aggregates)) source) h = absurd h
+  plan-wide sorts (join og outer j left right) h =
+      ap length (h .rule .0) ∙ (length-append (h .lefts) (h .rights) ∙ ap₂ _+_ (plan-wide (h .lefts) left (h .left)) (plan-wide (h .rights) right (h .right)))
