@@ -6,3 +6,4 @@ pub mod Judged
 pub mod Normal
 pub mod Predicates
 pub mod Plans
+pub mod Pushed

@@ -12,16 +12,7 @@ use Rattle.sql.specs.Plan.{Label, Leaf, scan, lookup, nothing, values, Other, l
 use Rattle.rows.specs.Reading.{expressions}
 use Rattle.profile.specs.Profile.{Sort, table-sorts, source-sort}
 use Rattle.profile_rows.specs.Sorted.{Some-sort, Sorted}
-use Rattle.profile_rows.specs.Predicates.{Pred}
-
--- a predicate: before folding it has one sort, Boolean; later it is an And of such
-abbrev pub Condition : (unfolded : Bool) → List Sort → Expression → Type 0
-Condition true sorts e = Sorted true sorts e (some Boolean)
-Condition false sorts e = Pred sorts e
-
-abbrev pub Optional-condition : (unfolded : Bool) → List Sort → Option Expression → Type 0
-Optional-condition unfolded sorts none = Unit {0}
-Optional-condition unfolded sorts (some e) = Condition unfolded sorts e
+use Rattle.profile_rows.specs.Predicates.{Condition, Optional-condition}
 
 -- some sorts of a source's columns, with what holds of them
 pub record From (S R : List Sort → Type 0) : Type 0 where

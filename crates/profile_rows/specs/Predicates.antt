@@ -24,11 +24,16 @@ Pred columns e = (c : Expression) → In c (ands e) → Sorted false columns c (
 abbrev pub Preds : List Sort → List Expression → Type 0
 Preds columns es = (e : Expression) → In e es → Pred columns e
 
-abbrev pub Optional-pred : List Sort → Option Expression → Type 0
-Optional-pred columns none = Unit {0}
-Optional-pred columns (some e) = Pred columns e
+-- a predicate: before folding it has one sort, Boolean; later it is an And of such
+abbrev pub Condition : (unfolded : Bool) → List Sort → Expression → Type 0
+Condition true sorts e = Sorted true sorts e (some Boolean)
+Condition false sorts e = Pred sorts e
 
-in-one : {A : Type 0} {x y : A} → In x (y ∷ []) → x ≡ y
+abbrev pub Optional-condition : (unfolded : Bool) → List Sort → Option Expression → Type 0
+Optional-condition unfolded sorts none = Unit {0}
+Optional-condition unfolded sorts (some e) = Condition unfolded sorts e
+
+pub in-one : {A : Type 0} {x y : A} → In x (y ∷ []) → x ≡ y
 in-one {x} {y} i = by (first-or-later i)
   where
     by : (x ≡ y) ⊎ In x [] → x ≡ y
@@ -60,7 +65,7 @@ module _ (columns : List Sort) where
   boolean-pred (binary og (function2 f) l r) h = alone (binary og (function2 f) l r) h
 
   -- a predicate that is no And
-  own : (e : Expression) → ands e ≡ e ∷ [] → Pred columns e → Boolean-here e
+  pub own : (e : Expression) → ands e ≡ e ∷ [] → Pred columns e → Boolean-here e
   own e h p = p e (subst (λ es. In e es) (sym h) here)
 
   -- ---- the conjuncts of the normal form
@@ -99,7 +104,7 @@ module _ (columns : List Sort) where
   and-all-pred new e [] p ps = p
   and-all-pred new e (x ∷ xs) p ps = and-all-pred new (and new e x) xs (and-pred new e x p (ps x here)) (λ y i. ps y (there i))
 
-  pub and-vec-pred : (new : ℕ) (es : List Expression) → Preds columns es → Optional-pred columns (and-vec new es)
+  pub and-vec-pred : (new : ℕ) (es : List Expression) → Preds columns es → Optional-condition false columns (and-vec new es)
   and-vec-pred new [] ps = tt
   and-vec-pred new (x ∷ xs) ps = and-all-pred new x xs (ps x here) (λ y i. ps y (there i))
 
