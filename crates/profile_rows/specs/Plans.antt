@@ -10,8 +10,9 @@ use Rattle.sql.specs.Schema.{Boolean, Column, Schema, table-of}
 use Rattle.sql.specs.Expression.{Marked, Expression, column, binary, Equal}
 use Rattle.sql.specs.Plan.{Label, Leaf, scan, lookup, nothing, values, Other, limit, offset, order, projection, remap, aggregate, Over, filter, other, Join, nested-loop, hash, Node, leaf, over, join, columns, values-columns, remap-columns, remap-source, up-to}
 use Rattle.rows.specs.Reading.{expressions}
+use Rattle.same_rows.specs.TotalRows.{length-up-to}
 use Rattle.profile.specs.Profile.{Sort, table-sorts, source-sort}
-use Rattle.profile_rows.specs.Sorted.{Some-sort, Sorted}
+use Rattle.profile_rows.specs.Sorted.{is-null-column, Some-sort, Sorted}
 use Rattle.profile_rows.specs.Predicates.{Condition, Optional-condition}
 
 -- some sorts of a source's columns, with what holds of them
@@ -31,15 +32,16 @@ pub record From-two (L R : List Sort → Type 0) (J : List Sort → List Sort �
 abbrev pub remapped : List Sort → List (Marked (Option ℕ)) → List Sort
 remapped sorts targets = map (λ to. source-sort sorts (remap-source 0 targets to)) (up-to 0 (remap-columns targets))
 
-pub length-up-to : (from n : ℕ) → length (up-to from n) ≡ n
-length-up-to from zero = refl
-length-up-to from (suc n) = ap suc (length-up-to (suc from) n)
+-- an item of this sort; a Null column is of no other sort than Null
+pub record Item (unfolded : Bool) (source : List Sort) (e : Expression) (s : Sort) : Type 0 where
+  pub sorted : Sorted unfolded source e s
+  pub exact : is-null-column source e ≡ true → s ≡ none
 
 module _ (unfolded : Bool) (schema : Schema) where
   -- expressions over a source, of the sorts of columns i, i + 1, ..
   abbrev pub Items : (source sorts : List Sort) → ℕ → List Expression → Type 0
   Items source sorts i [] = Unit {0}
-  Items source sorts i (e ∷ es) = Sorted unfolded source e (getD sorts i none) × Items source sorts (suc i) es
+  Items source sorts i (e ∷ es) = Item unfolded source e (getD sorts i none) × Items source sorts (suc i) es
 
   abbrev pub Rows : List Sort → List (Marked (List Expression)) → Type 0
   Rows sorts [] = Unit {0}
@@ -93,3 +95,27 @@ module _ (unfolded : Bool) (schema : Schema) where
   plan-wide sorts (over og (other (aggregate group-by aggregates)) source) h = absurd h
   plan-wide sorts (join og outer j left right) h =
       ap length (h .rule .0) ∙ (length-append (h .lefts) (h .rights) ∙ ap₂ _+_ (plan-wide (h .lefts) left (h .left)) (plan-wide (h .rights) right (h .right)))
+
+  -- ---- a source that becomes another
+
+  pub over-sorted : (og : ℕ) (o : Over) (source became : Node) → ((sorts : List Sort) → Plan sorts source → Plan sorts became)
+      → (sorts : List Sort) → Plan sorts (over og o source) → Plan sorts (over og o became)
+  over-sorted og (filter p) source became f sorts h = (f sorts (h .0), h .1)
+  over-sorted og (other (limit amount)) source became f sorts h = f sorts h
+  over-sorted og (other (offset amount)) source became f sorts h = f sorts h
+  over-sorted og (other (order key)) source became f sorts h = (f sorts (h .0), h .1)
+  over-sorted og (other (projection items)) source became f sorts h = record { sorts = h .sorts; source = f (h .sorts) (h .source); rule = h .rule }
+  over-sorted og (other (remap targets)) source became f sorts h = record { sorts = h .sorts; source = f (h .sorts) (h .source); rule = h .rule }
+  over-sorted og (other (aggregate group-by aggregates)) source became f sorts h = h
+
+  -- it has as many columns as before
+  pub as-wide : (sorts : List Sort) (n m : Node) → Plan sorts n → Plan sorts m → columns schema n ≡ columns schema m
+  as-wide sorts n m h k = sym (plan-wide sorts n h) ∙ plan-wide sorts m k
+
+  pub sources-sorted : (og : ℕ) (outer : Bool) (j : Join) (left right l r : Node) → ((sorts : List Sort) → Plan sorts left → Plan sorts l) → ((sorts : List Sort) → Plan sorts right → Plan sorts r)
+      → (sorts : List Sort) → Plan sorts (join og outer j left right) → Plan sorts (join og outer j l r)
+  sources-sorted og outer j left right l r f g sorts h =
+      record {
+        lefts = h .lefts; rights = h .rights; left = f (h .lefts) (h .left); right = g (h .rights) (h .right);
+        rule = (h .rule .0, subst (λ z. Join-sorted sorts z j) (as-wide (h .lefts) left l (h .left) (f (h .lefts) (h .left))) (h .rule .1));
+      }

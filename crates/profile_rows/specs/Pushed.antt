@@ -27,7 +27,7 @@ use Rattle.profile_rows.specs.Rules.{same-is}
 use Rattle.profile_rows.specs.Sorted.{is-null-column, Compared, Equated, Sorted}
 use Rattle.profile_rows.specs.Normal.{Carried}
 use Rattle.profile_rows.specs.Predicates.{in-one, own, Pred, Preds, Condition, Optional-condition, and-pred, boolean-pred, cnf-booleans, and-vec-pred, renumbered}
-use Rattle.profile_rows.specs.Plans.{From, From-two, Join-sorted, Plan, plan-wide}
+use Rattle.profile_rows.specs.Plans.{From-two, Plan, plan-wide, over-sorted, sources-sorted}
 
 -- ---- columns of a joined row
 
@@ -394,21 +394,12 @@ module _ (mode : Mode) (schema : Schema) where
 
   -- ---- the pass
 
-  map-sources-sorted : (f : Node → Node) → ((sorts : List Sort) (n : Node) → Sound sorts n → Sound sorts (f n)) → ((n : Node) → columns schema (f n) ≡ columns schema n)
+  map-sources-sorted : (f : Node → Node) → ((sorts : List Sort) (n : Node) → Sound sorts n → Sound sorts (f n))
       → (sorts : List Sort) (n : Node) → Sound sorts n → Sound sorts (map-sources f n)
-  map-sources-sorted f h w sorts (leaf og l) s = s
-  map-sources-sorted f h w sorts (over og (filter p) source) s = (h sorts source (s .0), s .1)
-  map-sources-sorted f h w sorts (over og (other (limit amount)) source) s = h sorts source s
-  map-sources-sorted f h w sorts (over og (other (offset amount)) source) s = h sorts source s
-  map-sources-sorted f h w sorts (over og (other (order key)) source) s = (h sorts source (s .0), s .1)
-  map-sources-sorted f h w sorts (over og (other (projection items)) source) s = record { sorts = s .sorts; source = h (s .sorts) source (s .source); rule = s .rule }
-  map-sources-sorted f h w sorts (over og (other (remap targets)) source) s = record { sorts = s .sorts; source = h (s .sorts) source (s .source); rule = s .rule }
-  map-sources-sorted f h w sorts (over og (other (aggregate group-by aggregates)) source) s = s
-  map-sources-sorted f h w sorts (join og outer j left right) s =
-      record {
-        lefts = s .lefts; rights = s .rights; left = h (s .lefts) left (s .left); right = h (s .rights) right (s .right);
-        rule = (s .rule .0, subst (λ z. Join-sorted false schema sorts z j) (sym (w left)) (s .rule .1));
-      }
+  map-sources-sorted f h sorts (leaf og l) s = s
+  map-sources-sorted f h sorts (over og o source) s = over-sorted false schema og o source (f source) (λ t. h t source) sorts s
+  map-sources-sorted f h sorts (join og outer j left right) s =
+      sources-sorted false schema og outer j left right (f left) (f right) (λ t. h t left) (λ t. h t right) sorts s
 
   join-sorted : (sorts : List Sort) (n : Node) → Sound sorts n → Sound sorts (maybe-push-join mode schema n)
   unfolding maybe-push-join
@@ -435,3 +426,14 @@ module _ (mode : Mode) (schema : Schema) where
       go (some pushed) h ih = join-sorted sorts (maybe-push-filter mode schema k pushed) (ih sorts pushed (push-into-sorted sorts og p source pushed h (s .0) (s .1)))
   filter-sorted (suc k) sorts (over og (other o) source) s = s
   filter-sorted (suc k) sorts (join og outer j left right) s = s
+
+  from-sorted : (k : ℕ) (sorts : List Sort) (n : Node) → Sound sorts n → Sound sorts (push-filters-from mode schema k n)
+  unfolding push-filters-from-with
+  from-sorted zero sorts n s = s
+  from-sorted (suc k) sorts n s =
+      map-sources-sorted (push-filters-from mode schema k) (from-sorted k) sorts (push-filters mode schema (suc k) n)
+      (join-sorted sorts (maybe-push-filter mode schema (suc k) n) (filter-sorted (suc k) sorts n s))
+
+  pub pushdown-sorted : (sorts : List Sort) (n : Node) → Sound sorts n → Sound sorts (FilterPushdown mode schema n)
+  unfolding FilterPushdown-with
+  pushdown-sorted sorts n s = from-sorted (node-size n) sorts n s

@@ -135,7 +135,7 @@ length-fit zero row = refl
 length-fit (suc n) [] = ap suc (length-fit n [])
 length-fit (suc n) (v ∷ row) = ap suc (length-fit n row)
 
-length-up-to : (from n : ℕ) → length (up-to from n) ≡ n
+pub length-up-to : (from n : ℕ) → length (up-to from n) ≡ n
 length-up-to from zero = refl
 length-up-to from (suc n) = ap suc (length-up-to (suc from) n)
 
