@@ -7,3 +7,4 @@ pub mod Normal
 pub mod Predicates
 pub mod Plans
 pub mod Pushed
+pub mod Passes

@@ -56,7 +56,7 @@ module _ (sorts : List Sort) where
   null-too c (inl (inr h)) = h
   null-too c (inr h) = false≢true (sym h)
 
-  equal-sorts : (og p q a b : ℕ) (s : Sort) → Sorted false sorts (binary og Equal (column p a) (column q b)) s → getD sorts a none ≡ getD sorts b none
+  pub equal-sorts : (og p q a b : ℕ) (s : Sort) → Sorted false sorts (binary og Equal (column p a) (column q b)) s → getD sorts a none ≡ getD sorts b none
   equal-sorts og p q a b s (inl h) = false≢true (h .0)
   equal-sorts og p q a b s (inr h) = by (is-null-column sorts (column 0 a)) (is-null-column sorts (column 0 b)) refl refl
     where
