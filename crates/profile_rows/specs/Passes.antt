@@ -23,7 +23,7 @@ use Rattle.profile.specs.Profile.{Sort, is-null-sort}
 use Rattle.profile_rows.specs.Rules.{same-is}
 use Rattle.profile_rows.specs.Sorted.{is-null-column, Sorted}
 use Rattle.profile_rows.specs.Predicates.{own, Pred, Optional-condition, boolean-pred, cnf-booleans, and-vec-pred}
-use Rattle.profile_rows.specs.Plans.{Item, Items, From, Join-sorted, Plan, plan-wide, over-sorted, as-wide, sources-sorted}
+use Rattle.profile_rows.specs.Plans.{Item, Each, From, Join-sorted, Plan, plan-wide, over-sorted, as-wide, sources-sorted}
 use Rattle.profile_rows.specs.Pushed.{equal-sorts}
 
 module _ (schema : Schema) where
@@ -164,19 +164,18 @@ module _ (schema : Schema) where
   bare-column i (binary og o l r) h those s item = false≢true h
 
   -- The items of a Projection that passes its source's columns through have their sorts.
-  through : (those sorts : List Sort) (i : ℕ) (items : List (Expression × Label × ℕ)) → pass-through i items ≡ true → Items false schema those sorts i (expressions items)
-      → (k : ℕ) → k < length items → getD those (i + k) none ≡ getD sorts (i + k) none
-  through those sorts i [] h t k m = absurd (omega arith)
-  through those sorts i (item ∷ items) h t zero m =
+  through : (those sorts : List Sort) (i : ℕ) (items : List (Expression × Label × ℕ)) → pass-through i items ≡ true → Each (Item false those) sorts (expressions items)
+      → (k : ℕ) → k < length items → k < length sorts → getD those (i + k) none ≡ getD sorts k none
+  through those sorts i [] h t k m w = absurd (omega arith)
+  through those [] i (item ∷ items) h t k m w = absurd (omega arith)
+  through those (s ∷ sorts) i (item ∷ items) h t zero m w =
       let this = is-column-number i (item .0) && is-unlabelled (item .1) in
-      let e : i + 0 ≡ i = omega arith in
-      ap (λ z. getD those z none) e ∙ (bare-column i (item .0) (Booleans.and-left (is-column-number i (item .0)) (is-unlabelled (item .1)) (Booleans.and-left this (pass-through (suc i) items) h))
-      those (getD sorts i none) (t .0) ∙ ap (λ z. getD sorts z none) (sym e))
-  through those sorts i (item ∷ items) h t (suc k) m =
+      ap (λ z. getD those z none) (let e : i + 0 ≡ i = omega arith in e)
+      ∙ bare-column i (item .0) (Booleans.and-left (is-column-number i (item .0)) (is-unlabelled (item .1)) (Booleans.and-left this (pass-through (suc i) items) h)) those s (t .0)
+  through those (s ∷ sorts) i (item ∷ items) h t (suc k) m w =
       let this = is-column-number i (item .0) && is-unlabelled (item .1) in
-      let e : suc i + k ≡ i + suc k = omega arith in
-      ap (λ z. getD those z none) (sym e)
-      ∙ (through those sorts (suc i) items (Booleans.and-right this (pass-through (suc i) items) h) (t .1) k (omega arith) ∙ ap (λ z. getD sorts z none) e)
+      ap (λ z. getD those z none) (let e : i + suc k ≡ suc i + k = omega arith in e)
+      ∙ through those sorts (suc i) items (Booleans.and-right this (pass-through (suc i) items) h) (t .1) k (omega arith) (omega arith)
 
   beyond : (xs : List Sort) (i : ℕ) → length xs ≤ i → getD xs i none ≡ none
   beyond [] i h = refl
@@ -200,8 +199,8 @@ module _ (schema : Schema) where
       let wide-sorts : length sorts ≡ length items = s .rule .0 in
       subst (λ z. Sound z source)
       (same-sorts those sorts (wide-source ∙ (wide-items ∙ sym wide-sorts))
-      (λ i m. subst (λ z. getD those z none ≡ getD sorts z none) (let e : 0 + i ≡ i = omega arith in e)
-      (through those sorts 0 items (Booleans.and-right same-width (pass-through 0 items) h) (s .rule .1) i (omega (arith, wide-sorts, m)))))
+      (λ i m. ap (λ z. getD those z none) (let e : i ≡ 0 + i = omega arith in e)
+      ∙ through those sorts 0 items (Booleans.and-right same-width (pass-through 0 items) h) (s .rule .1) i (omega (arith, wide-sorts, m)) m))
       (s .source)
   noop-sorted sorts og items source false h s = s
 

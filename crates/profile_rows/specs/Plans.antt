@@ -37,20 +37,16 @@ pub record Item (unfolded : Bool) (source : List Sort) (e : Expression) (s : Sor
   pub sorted : Sorted unfolded source e s
   pub exact : is-null-column source e ≡ true → s ≡ none
 
-module _ (unfolded : Bool) (schema : Schema) where
-  -- expressions over a source, of the sorts of columns i, i + 1, ..
-  abbrev pub Items : (source sorts : List Sort) → ℕ → List Expression → Type 0
-  Items source sorts i [] = Unit {0}
-  Items source sorts i (e ∷ es) = Item unfolded source e (getD sorts i none) × Items source sorts (suc i) es
+-- expressions of these sorts, in order; those behind the last are of any
+abbrev pub Each : (Expression → Sort → Type 0) → List Sort → List Expression → Type 0
+Each P sorts [] = Unit {0}
+Each P [] (e ∷ es) = Some-sort (P e) × Each P [] es
+Each P (s ∷ sorts) (e ∷ es) = P e s × Each P sorts es
 
+module _ (unfolded : Bool) (schema : Schema) where
   abbrev pub Rows : List Sort → List (Marked (List Expression)) → Type 0
   Rows sorts [] = Unit {0}
-  Rows sorts (row ∷ rows) = Items [] sorts 0 (row .0) × Rows sorts rows
-
-  -- of any sort
-  abbrev pub Keys : List Sort → List (Expression × Bool × ℕ) → Type 0
-  Keys sorts [] = Unit {0}
-  Keys sorts (k ∷ ks) = Some-sort (Sorted unfolded sorts (k .0)) × Keys sorts ks
+  Rows sorts (row ∷ rows) = Each (Sorted unfolded []) sorts (row .0) × Rows sorts rows
 
   abbrev pub Leaf-sorted : List Sort → Leaf → Type 0
   Leaf-sorted sorts (scan table alias predicate) = (sorts ≡ table-sorts schema table) × Optional-condition unfolded sorts predicate
@@ -68,9 +64,9 @@ module _ (unfolded : Bool) (schema : Schema) where
   Plan sorts (over og (filter predicate) source) = Plan sorts source × Condition unfolded sorts predicate
   Plan sorts (over og (other (limit amount)) source) = Plan sorts source
   Plan sorts (over og (other (offset amount)) source) = Plan sorts source
-  Plan sorts (over og (other (order key)) source) = Plan sorts source × Keys sorts key
+  Plan sorts (over og (other (order key)) source) = Plan sorts source × Each (Sorted unfolded sorts) [] (expressions key)
   Plan sorts (over og (other (projection items)) source) =
-      From (λ those. Plan those source) (λ those. (length sorts ≡ length items) × Items those sorts 0 (expressions items))
+      From (λ those. Plan those source) (λ those. (length sorts ≡ length items) × Each (Item unfolded those) sorts (expressions items))
   Plan sorts (over og (other (remap targets)) source) = From (λ those. Plan those source) (λ those. sorts ≡ remapped those targets)
   Plan sorts (over og (other (aggregate group-by aggregates)) source) = ⊥
   Plan sorts (join og outer j left right) =
