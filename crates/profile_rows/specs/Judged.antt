@@ -158,7 +158,7 @@ module _ (columns : List Sort) where
 
   -- ---- with columns
 
-  own-bare : (at : ℕ) (x : Expression) (s : Sort) → expression-sort columns at x ≡ done s → Bare columns x x s
+  pub own-bare : (at : ℕ) (x : Expression) (s : Sort) → expression-sort columns at x ≡ done s → Bare columns x x s
   own-bare at (constant og v) s h n = false≢true n
   own-bare at (column og c) s h n = (refl, sym (done-same h) ∙ same-is (getD columns c none) none n)
   own-bare at (unary og o x) s h n = false≢true n

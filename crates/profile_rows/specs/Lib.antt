@@ -8,3 +8,4 @@ pub mod Predicates
 pub mod Plans
 pub mod Pushed
 pub mod Passes
+pub mod Folded

@@ -83,7 +83,7 @@ module _ (schema : Schema) where
   -- ---- pass 4
 
   -- an equality of two columns of one sort
-  columns-equal : (sorts : List Sort) (a b : ℕ) → getD sorts a none ≡ getD sorts b none → Sorted false sorts (binary 0 Equal (column 0 a) (column 0 b)) (some Boolean)
+  pub columns-equal : (sorts : List Sort) (a b : ℕ) → getD sorts a none ≡ getD sorts b none → Sorted false sorts (binary 0 Equal (column 0 a) (column 0 b)) (some Boolean)
   columns-equal sorts a b h =
       inr (record {
         compared = record { sort = getD sorts a none; left = inr refl; right = inr (sym h) };

@@ -191,7 +191,7 @@ module _ {A : Type 0} (f : ℕ → A → Answer A) (cells : A → ℕ) where
     pub rest : fold-each f cells (first + cells x) xs ≡ done more
     pub is : y ∷ more ≡ ys
 
-  folded : (first : ℕ) (x : A) (xs ys : List A) → fold-each f cells first (x ∷ xs) ≡ done ys → Folded first x xs ys
+  pub folded : (first : ℕ) (x : A) (xs ys : List A) → fold-each f cells first (x ∷ xs) ≡ done ys → Folded first x xs ys
   folded first x xs ys k =
       let a = after (f first x) (λ y. fold-each f cells (first + cells x) xs >>= λ zs. done (y ∷ zs)) ys k in
       let b = after (fold-each f cells (first + cells x) xs) (λ zs. done (a .of ∷ zs)) ys (a .second) in
@@ -221,7 +221,7 @@ module _ {A : Type 0} (f : ℕ → A → Answer A) (cells : A → ℕ) where
       let a = folded first x xs ys k in
       ap (map g) (sym (a .is)) ∙ ap₂ _∷_ (same first x (a .y) (a .part)) (map-folded g same (first + cells x) xs (a .more) (a .rest))
 
-row-of : (first : ℕ) (es ds : List Expression × ℕ) → fold-row first es ≡ done ds → fold-each fold-expression size first (es .0) ≡ done (ds .0)
+pub row-of : (first : ℕ) (es ds : List Expression × ℕ) → fold-row first es ≡ done ds → fold-each fold-expression size first (es .0) ≡ done (ds .0)
 row-of first es ds k =
     let a = after (fold-each fold-expression size first (es .0)) (λ ys. done (ys, es .1)) ds k in
     a .first ∙ ap (λ z. done (z .0)) (done-same (a .second))
@@ -281,7 +281,7 @@ values-keeps : (n first : ℕ) (es ds : List Expression × ℕ) (row : Row) → 
 values-keeps n first es ds row k h =
     let c = came (evaluate-all (es .0) []) (λ z. ok (fit n z)) row h in ap (λ z. bind z (λ w. ok (fit n w))) (row-keeps [] first es ds k (c .of) (c .first)) ∙ c .second
 
-values-columns-same : (first : ℕ) (rows folded-rows : List (List Expression × ℕ)) → fold-each fold-row row-size first rows ≡ done folded-rows → values-columns folded-rows ≡ values-columns rows
+pub values-columns-same : (first : ℕ) (rows folded-rows : List (List Expression × ℕ)) → fold-each fold-row row-size first rows ≡ done folded-rows → values-columns folded-rows ≡ values-columns rows
 values-columns-same first [] ys k = ap values-columns (sym (done-same k))
 values-columns-same first (x ∷ xs) ys k =
     let a = folded fold-row row-size first x xs ys k in
@@ -354,13 +354,13 @@ module _ (schema : Schema) where
 -- ---- the pass
 
 -- the parts of a folded node
-abbrev then-source : ℕ → ℕ → Node → Over → Answer Node
+abbrev pub then-source : ℕ → ℕ → Node → Over → Answer Node
 then-source og first source p = ConstantFolding first source >>= λ s. done (over og p s)
 
-abbrev then-right : ℕ → ℕ → Bool → Node → Node → Join → Node → Answer Node
+abbrev pub then-right : ℕ → ℕ → Bool → Node → Node → Join → Node → Answer Node
 then-right og first outer left right k l = ConstantFolding (first + node-size left) right >>= λ r. done (join og outer k l r)
 
-abbrev then-left : ℕ → ℕ → Bool → Node → Node → Join → Answer Node
+abbrev pub then-left : ℕ → ℕ → Bool → Node → Node → Join → Answer Node
 then-left og first outer left right k = ConstantFolding first left >>= λ l. then-right og first outer left right k l
 
 module _ (schema : Schema) where
