@@ -1,30 +1,34 @@
 -- A plan that keeps the profile has the sorts that the profile gives its columns, and so has what ConstantFolding makes of it.
-use Prim.Native.Nat.{ℕ, zero, suc, _+_, _<_, _≤_}
+use Prim.Native.Nat.{ℕ, zero, suc, _+_, _-_, _<_, _≤_}
 use mathlib.Core.Bool.{Bool, true, false, _&&_}
 use mathlib.Core.List.{List, [], _∷_, _++_, map}
 use mathlib.Core.Logic.{_⊎_, inl, inr}
 use mathlib.Core.Option.{Option, none, some}
 use mathlib.Core.Path.{_≡_, refl, sym, ap, ap₂, _∙_, subst}
 use native.Mathlib.Omega.{arith}
+use lib.Dec.{ltb}
 use lib.ListN.{length, getD, length-map, replicate, length-replicate}
 use Rattle.sql.specs.Schema.{Boolean, Column, Schema, table-of}
 use Rattle.sql.specs.Expression.{Marked, Expression, size}
 use Rattle.sql.specs.Plan.{Label, Leaf, scan, lookup, nothing, values, Other, limit, offset, order, projection, remap, aggregate, Over, filter, other, Join, nested-loop, hash, Node, leaf, over, join, columns, values-columns, up-to, sum, row-size, item-size, key-size, aggregate-size, node-size}
 use Rattle.sql.specs.Answer.{Answer, done, refused, _>>=_}
+use Rattle.sql.specs.Lists.{or-else}
 use Rattle.sql.specs.Among.{In, here, there, in-none}
 use Rattle.sql.specs.Optimizer.{fold-expression, fold-each, fold-optional, fold-row, fold-part, fold-leaf, fold-over, fold-join, ConstantFolding}
 use Rattle.room.specs.Done as Done
 use Rattle.room.specs.Done.{not-done, done-same, After, after}
 use Rattle.rows.specs.Reading.{expressions}
-use Rattle.same_rows.specs.Booleans.{false≢true, and-left, and-right}
+use Rattle.same_rows.specs.Booleans.{false≢true, and-left, and-right, lt-is}
 use Rattle.same_rows.specs.Folding.{Folded, folded, length-folded, row-of, values-columns-same, then-source, then-left, then-right}
 use Rattle.same_rows.specs.TotalRows.{length-up-to}
+use Rattle.sheet.specs.Scope.{unless, over-outside, join-outside, outside}
 use Rattle.profile.specs.Profile.{Sort, fits, same, expression-sort, each-sort, node-kept, predicate-kept, optional-kept, compared, either-sort, column-sort, holds-one, columns-hold-one, values-sorts, row-sorts, table-sorts, leaf-sorts, over-sorts, join-sorts, sorts}
 use Rattle.profile_rows.specs.Rules.{same-is, fits-boolean, Alike, null-left, null-right, alike, compared-is}
 use Rattle.profile_rows.specs.Sorted.{Some-sort, Sorted, none≢some, of-every-sort}
 use Rattle.profile_rows.specs.Judged.{Kept, keeps, own-bare}
 use Rattle.profile_rows.specs.Predicates.{Condition, Optional-condition, boolean-pred}
 use Rattle.profile_rows.specs.Plans.{From, From-two, Item, Each, Rows, Leaf-sorted, Join-sorted, Plan, plan-wide, as-wide}
+use Rattle.profile_rows.specs.Pushed.{left-of, right-of}
 use Rattle.profile_rows.specs.Passes.{columns-equal}
 
 -- ---- expressions one behind the other
@@ -302,3 +306,67 @@ module _ (schema : Schema) where
           (λ ss. each-sort (λ i g. expression-sort those i (g .1)) aggregate-size (at + sum size group-by) aggregates >>= λ more. refused 16 place) these h in
       let b = Done.after (each-sort (λ i g. expression-sort those i (g .1)) aggregate-size (at + sum size group-by) aggregates) (λ more. refused 16 place) these (a .second) in
       not-done (b .second)
+
+  -- a HashJoin's columns, in scope, by their numbers in the joined row
+  hash-both : (unfolded : Bool) (ls rs : List Sort) (n i j : ℕ) → length ls ≡ n → i < n → same (getD ls i none) (getD rs j none) ≡ true → Join-sorted unfolded schema (ls ++ rs) n (hash i j)
+  hash-both unfolded ls rs n i j wide below h =
+      columns-equal schema unfolded (ls ++ rs) i (n + j)
+      (left-of ls rs i (omega (arith, wide)) ∙ (same-is (getD ls i none) (getD rs j none) h
+      ∙ sym (right-of ls rs (n + j) (omega (arith, wide)) ∙ ap (λ z. getD rs z none) (let e : (n + j) - length ls ≡ j = omega (arith, wide) in e))))
+
+  unless-none : (b : Bool) (at : ℕ) → unless b at ≡ none → b ≡ true
+  unless-none true at h = refl
+  unless-none false at h = absurd (let y : _≡_ {A = ℕ} 0 1 = cc in omega arith)
+
+  -- a join's own part, given its sources
+  join-kept : (at at′ first : ℕ) (j k : Join) (ls rs these : List Sort) (n m : ℕ) → length ls ≡ n → join-outside schema n m at′ j ≡ none → join-sorts ls rs at j ≡ done these → fold-join first j ≡ done k
+      → Join-sorted true schema (ls ++ rs) n j × Join-sorted false schema (ls ++ rs) n k × (ls ++ rs ≡ these)
+  join-kept at at′ first (nested-loop o) k ls rs these n m wide scope h f =
+      let b = Done.after (fold-optional first o) (λ q. done (nested-loop q)) k f in
+      let c = optional-kept-both (ls ++ rs) these at first o (b .of) h (b .first) in
+      (c .0, subst (Join-sorted false schema (ls ++ rs) n) (done-same (b .second)) (c .1), c .2)
+  join-kept at at′ first (hash i j) k ls rs these n m wide scope h f =
+      let is = kept-is at (same (getD ls i none) (getD rs j none)) (ls ++ rs) these h in
+      let below : i < n = lt-is i n (and-left (ltb i n) (ltb j m) (unless-none (ltb i n && ltb j m) at′ scope)) in
+      (hash-both true ls rs n i j wide below (is .0),
+      subst (Join-sorted false schema (ls ++ rs) n) (done-same f) (hash-both false ls rs n i j wide below (is .0)), is .1)
+
+  nothing-first : (a b : Option ℕ) → or-else a b ≡ none → (a ≡ none) × (b ≡ none)
+  nothing-first none b h = (refl, h)
+  nothing-first (some x) b h = absurd (let y : _≡_ {A = ℕ} 0 1 = cc in omega arith)
+
+  -- The plan that keeps the profile, and what it folds to. Of scope only a HashJoin's columns are asked.
+  pub both : (at first : ℕ) (n m : Node) (these : List Sort) → outside schema at n ≡ none → sorts schema at n ≡ done these → ConstantFolding first n ≡ done m → Both schema these n m
+  both at first (leaf og l) m these scope h k =
+      let b = Done.after (fold-leaf first l) (λ z. done (leaf og z)) m k in
+      let c = leaf-both og at first l (b .of) these h (b .first) in
+      record { before = c .before; after = subst (Plan false schema these) (done-same (b .second)) (c .after) }
+  both at first (over og o source) m these scope h k =
+      let f = Done.after (fold-over (first + node-size source) o) (then-source og first source) m k in
+      let g = Done.after (ConstantFolding first source) (λ s. done (over og (f .of) s)) m (f .second) in
+      let a = Done.after (sorts schema at source) (λ those. over-sorts those (at + node-size source) o) these h in
+      let in-source = nothing-first (outside schema at source) (over-outside schema (columns schema source) (at + node-size source) o) scope .0 in
+      let c = over-both og (at + node-size source) (first + node-size source) o (f .of) source (g .of) (a .of) these (a .second) (f .first) (both at first source (g .of) (a .of) in-source (a .first) (g .first)) in
+      record { before = c .before; after = subst (Plan false schema these) (done-same (g .second)) (c .after) }
+  both at first (join og outer j left right) m these scope h k =
+      let f = Done.after (fold-join (first + (node-size left + node-size right)) j) (then-left og first outer left right) m k in
+      let g = Done.after (ConstantFolding first left) (then-right og first outer left right (f .of)) m (f .second) in
+      let i = Done.after (ConstantFolding (first + node-size left) right) (λ r. done (join og outer (f .of) (g .of) r)) m (g .second) in
+      let place = at + node-size left + node-size right in
+      let a = Done.after (sorts schema at left) (λ ls. sorts schema (at + node-size left) right >>= λ rs. join-sorts ls rs place j) these h in
+      let b = Done.after (sorts schema (at + node-size left) right) (λ rs. join-sorts (a .of) rs place j) these (a .second) in
+      let own-scope = join-outside schema (columns schema left) (columns schema right) place j in
+      let in-left = nothing-first (outside schema at left) (or-else (outside schema (at + node-size left) right) own-scope) scope in
+      let in-right = nothing-first (outside schema (at + node-size left) right) own-scope (in-left .1) in
+      let l = both at first left (g .of) (a .of) (in-left .0) (a .first) (g .first) in
+      let r = both (at + node-size left) (first + node-size left) right (i .of) (b .of) (in-right .0) (b .first) (i .first) in
+      let wide = plan-wide true schema (a .of) left (l .before) in
+      let own = join-kept place place (first + (node-size left + node-size right)) j (f .of) (a .of) (b .of) these (columns schema left) (columns schema right) wide (in-right .1) (b .second) (f .first) in
+      let same-wide : columns schema left ≡ columns schema (g .of) = sym wide ∙ plan-wide false schema (a .of) (g .of) (l .after) in
+      record {
+        before = subst (λ z. Plan true schema z (join og outer j left right)) (own .2)
+            (record { lefts = a .of; rights = b .of; left = l .before; right = r .before; rule = (refl, own .0) });
+        after = subst (Plan false schema these) (done-same (i .second))
+            (subst (λ z. Plan false schema z (join og outer (f .of) (g .of) (i .of))) (own .2)
+            (record { lefts = a .of; rights = b .of; left = l .after; right = r .after; rule = (refl, subst (λ z. Join-sorted false schema (a .of ++ b .of) z (f .of)) same-wide (own .1)) }));
+      }

@@ -83,8 +83,8 @@ module _ (schema : Schema) where
   -- ---- pass 4
 
   -- an equality of two columns of one sort
-  pub columns-equal : (sorts : List Sort) (a b : ℕ) → getD sorts a none ≡ getD sorts b none → Sorted false sorts (binary 0 Equal (column 0 a) (column 0 b)) (some Boolean)
-  columns-equal sorts a b h =
+  pub columns-equal : (unfolded : Bool) (sorts : List Sort) (a b : ℕ) → getD sorts a none ≡ getD sorts b none → Sorted unfolded sorts (binary 0 Equal (column 0 a) (column 0 b)) (some Boolean)
+  columns-equal unfolded sorts a b h =
       inr (record {
         compared = record { sort = getD sorts a none; left = inr refl; right = inr (sym h) };
         null-left = λ n. inl (inl (sym h ∙ same-is (getD sorts a none) none n));
@@ -109,7 +109,7 @@ module _ (schema : Schema) where
   hash-if sorts n e p q h true true k = h
   hash-if sorts n e p q h true false k =
       let x = ge-is (p .1) n k in
-      columns-equal sorts (p .0) (n + (p .1 - n)) (pair-sorted sorts e p q h ∙ ap (λ z. getD sorts z none) (let e : p .1 ≡ n + (p .1 - n) = omega arith in e))
+      columns-equal false sorts (p .0) (n + (p .1 - n)) (pair-sorted sorts e p q h ∙ ap (λ z. getD sorts z none) (let e : p .1 ≡ n + (p .1 - n) = omega arith in e))
 
   hash-pair-sorted : (sorts : List Sort) (n : ℕ) (e : Expression) (o : Option (ℕ × ℕ)) → equijoin e ≡ o → Pred sorts e → Join-sorted false schema sorts n (hash-pair n e o)
   hash-pair-sorted sorts n e none k h = h

@@ -31,12 +31,12 @@ use Rattle.profile_rows.specs.Plans.{From-two, Plan, plan-wide, over-sor
 
 -- ---- columns of a joined row
 
-left-of : (xs ys : List Sort) (c : ℕ) → c < length xs → getD (xs ++ ys) c none ≡ getD xs c none
+pub left-of : (xs ys : List Sort) (c : ℕ) → c < length xs → getD (xs ++ ys) c none ≡ getD xs c none
 left-of [] ys c h = absurd (omega arith)
 left-of (x ∷ xs) ys zero h = refl
 left-of (x ∷ xs) ys (suc c) h = left-of xs ys c (omega arith)
 
-right-of : (xs ys : List Sort) (k : ℕ) → length xs ≤ k → getD (xs ++ ys) k none ≡ getD ys (k - length xs) none
+pub right-of : (xs ys : List Sort) (k : ℕ) → length xs ≤ k → getD (xs ++ ys) k none ≡ getD ys (k - length xs) none
 right-of [] ys k h = ap (λ z. getD ys z none) (let e : k ≡ k - 0 = omega arith in e)
 right-of (x ∷ xs) ys zero h = absurd (omega arith)
 right-of (x ∷ xs) ys (suc k) h = right-of xs ys k (omega arith) ∙ ap (λ z. getD ys z none) (let e : k - length xs ≡ suc k - suc (length xs) = omega arith in e)
