@@ -9,3 +9,4 @@ pub mod Plans
 pub mod Pushed
 pub mod Passes
 pub mod Folded
+pub mod Reads
