@@ -24,7 +24,7 @@ use Rattle.same_rows.specs.TotalRows.{length-up-to}
 use Rattle.profile.specs.Profile.{Sort, table-sorts, source-sort}
 use Rattle.profile_rows.specs.Fits.{fits-value, Gives}
 use Rattle.profile_rows.specs.Sorted.{Some-sort, Sorted, Row-fits, evaluates}
-use Rattle.profile_rows.specs.Predicates.{Condition, Optional-condition, pred-gives}
+use Rattle.profile_rows.specs.Predicates.{in-one, Condition, Optional-condition, pred-gives}
 use Rattle.profile_rows.specs.Plans.{From, From-two, Item, Each, Rows, Join-sorted, remapped, Plan, plan-wide}
 use Rattle.profile_rows.specs.Folded.{get-up-to}
 
@@ -261,3 +261,181 @@ remap-row-of sorts targets row h =
     by : (o : Option ℕ) → fits-value (source-sort sorts o) (optional-value row o) ≡ true
     by none = refl
     by (some i) = h .fits i
+
+-- ---- joins
+
+get-left : {A : Type 0} (xs ys : List A) (d : A) (c : ℕ) → c < length xs → getD (xs ++ ys) c d ≡ getD xs c d
+get-left [] ys d c h = absurd (omega arith)
+get-left (x ∷ xs) ys d zero h = refl
+get-left (x ∷ xs) ys d (suc c) h = get-left xs ys d c (omega arith)
+
+get-right : {A : Type 0} (xs ys : List A) (d : A) (k : ℕ) → length xs ≤ k → getD (xs ++ ys) k d ≡ getD ys (k - length xs) d
+get-right [] ys d k h = ap (λ z. getD ys z d) (let e : k ≡ k - 0 = omega arith in e)
+get-right (x ∷ xs) ys d zero h = absurd (omega arith)
+get-right (x ∷ xs) ys d (suc k) h = get-right xs ys d k (omega arith) ∙ ap (λ z. getD ys z d) (let e : k - length xs ≡ suc k - suc (length xs) = omega arith in e)
+
+joined-row-of : (ls rs : List Sort) (l r : Row) → Row-of ls l → Row-of rs r → Row-of (ls ++ rs) (l ++ r)
+joined-row-of ls rs l r p q =
+    record { wide = length-append l r ∙ (ap₂ _+_ (p .wide) (q .wide) ∙ sym (length-append ls rs)); fits = λ c. by c (ltb c (length ls)) refl }
+  where
+    by : (c : ℕ) (b : Bool) → ltb c (length ls) ≡ b → fits-value (getD (ls ++ rs) c none) (getD (l ++ r) c null) ≡ true
+    by c true h =
+        let x = lt-is c (length ls) h in
+        ap₂ (λ a b. fits-value a b) (get-left ls rs none c x) (get-left l r null c (omega (arith, p .wide, x))) ∙ p .fits c
+    by c false h =
+        let x = ge-is c (length ls) h in
+        ap₂ (λ a b. fits-value a b) (get-right ls rs none c x) (get-right l r null c (omega (arith, p .wide, x)) ∙ ap (λ z. getD r (c - z) null) (p .wide)) ∙ q .fits (c - length ls)
+
+nulls-of : (rs : List Sort) (n : ℕ) → length rs ≡ n → Row-of rs (replicate n null)
+nulls-of rs n w = row-of rs (replicate n null) (length-replicate n null ∙ sym w) (λ k m. subst (λ z. fits-value (getD rs k none) z ≡ true) (sym (all-null n k)) refl)
+  where
+    all-null : (n k : ℕ) → getD (replicate n null) k null ≡ null
+    all-null zero k = refl
+    all-null (suc n) zero = refl
+    all-null (suc n) (suc k) = all-null n k
+
+module _ (ls rs : List Sort) (f : Row → Result Bool) (f-ok : (row : Row) → Row-of (ls ++ rs) row → Ok (f row) (λ b. Unit {0})) where
+  with-right : (l : Row) (right : List Row) → Row-of ls l → Rows-of rs right → Rows-of (ls ++ rs) (map (λ r. l ++ r) right)
+  with-right l right p q row i =
+      let m = from-map (λ r. l ++ r) right row i in subst (Row-of (ls ++ rs)) (m .is) (joined-row-of ls rs l (m .of) p (q (m .of) (m .among)))
+
+  joined-of : (left right : List Row) → Rows-of ls left → Rows-of rs right → Rows-of (ls ++ rs) (joined-rows left right)
+  joined-of left right p q row i =
+      let m = from-flat-map (λ l. map (λ r. l ++ r) right) left row i in with-right (m .of) right (p (m .of) (m .among)) q row (m .made)
+
+  kept-rows : (rows : List Row) → Rows-of (ls ++ rs) rows → Ok (keep-each f rows) (Rows-of (ls ++ rs))
+  kept-rows rows p =
+      let k = keep-ok f rows (λ row i. f-ok row (p row i)) in record { value = k .value; is-value = k .is-value; has = λ row i. p row (k .has row i) }
+
+  nulls-or : (n : ℕ) (l : Row) (rows : List Row) → length rs ≡ n → Row-of ls l → Rows-of (ls ++ rs) rows → Rows-of (ls ++ rs) (or-nulls n l rows)
+  nulls-or n l [] w p q row i = subst (Row-of (ls ++ rs)) (sym (in-one i)) (joined-row-of ls rs l (replicate n null) p (nulls-of rs n w))
+  nulls-or n l (r ∷ rows) w p q row i = q row i
+
+  outer-ok : (n : ℕ) (left right : List Row) → length rs ≡ n → Rows-of ls left → Rows-of rs right → Ok (outer-rows f n left right) (Rows-of (ls ++ rs))
+  outer-ok n [] right w p q = record { value = []; is-value = refl; has = λ row i. in-none i }
+  outer-ok n (l ∷ left) right w p q =
+      let a = kept-rows (map (λ r. l ++ r) right) (with-right l right (p l here) q) in
+      let b = outer-ok n left right w (λ row i. p row (there i)) q in
+      record {
+        value = or-nulls n l (a .value) ++ b .value;
+        is-value = ap (λ z. bind z (λ rows. bind (outer-rows f n left right) (λ more. ok (or-nulls n l rows ++ more)))) (a .is-value)
+            ∙ ap (λ z. bind z (λ more. ok (or-nulls n l (a .value) ++ more))) (b .is-value);
+        has = two (or-nulls n l (a .value)) (b .value) (nulls-or n l (a .value) w (p l here) (a .has)) (b .has);
+      }
+    where
+      two : (xs ys : List Row) → Rows-of (ls ++ rs) xs → Rows-of (ls ++ rs) ys → Rows-of (ls ++ rs) (xs ++ ys)
+      two xs ys h k row i = by (left-or-right xs ys i)
+        where
+          by : In row xs ⊎ In row ys → Row-of (ls ++ rs) row
+          by (inl j) = h row j
+          by (inr j) = k row j
+
+  join-ok : (outer : Bool) (n : ℕ) (left right : List Row) → length rs ≡ n → Rows-of ls left → Rows-of rs right → Ok (read-join outer f n left right) (Rows-of (ls ++ rs))
+  join-ok false n left right w p q = kept-rows (joined-rows left right) (joined-of left right p q)
+  join-ok true n left right w p q = outer-ok n left right w p q
+
+-- ---- the plan
+
+module _ (unfolded : Bool) (database : Database) (typed : Typed database) where
+  abbrev schema′ : Schema
+  schema′ = database .schema
+
+  then-ok : {A B : Type 0} {P : A → Type 0} {Q : B → Type 0} (r : Result A) (f : A → Result B) → Ok r P → ((a : A) → P a → Ok (f a) Q) → Ok (bind r f) Q
+  then-ok {Q = Q} r f a g = subst (λ z. Ok (bind z f) Q) (sym (a .is-value)) (g (a .value) (a .has))
+
+  item-gives : (those : List Sort) (row : Row) → Row-fits those row → (e : Expression) (s : Sort) → Item unfolded those e s → Gives s (evaluate row e)
+  item-gives those row f e s h = evaluates unfolded those row f e s (h .sorted)
+
+  values-ok : (sorts : List Sort) (n : ℕ) (rows : List (Marked (List Expression))) → length sorts ≡ n → Rows unfolded schema′ sorts rows → Ok (each (values-row n) rows) (Rows-of sorts)
+  values-ok sorts n [] w h = record { value = []; is-value = refl; has = λ row i. in-none i }
+  values-ok sorts n (es ∷ rows) w h =
+      let a = all-ok (Sorted unfolded []) [] (evaluates unfolded [] [] (nothing-fits [])) sorts (es .0) (h .0) in
+      let one : values-row n es ≡ ok (fit n (a .value)) = ap (λ z. bind z (λ row. ok (fit n row))) (a .is-value) in
+      let b = values-ok sorts n rows w (h .1) in
+      record {
+        value = fit n (a .value) ∷ b .value;
+        is-value = ap (λ z. bind z (λ y. bind (each (values-row n) rows) (λ ys. ok (y ∷ ys)))) one ∙ ap (λ z. bind z (λ ys. ok (fit n (a .value) ∷ ys))) (b .is-value);
+        has = λ row i. by (fitted sorts n (length (es .0)) (a .value) w (a .has)) (b .has row) (first-or-later i);
+      }
+    where
+      by : {r row : Row} {rs : List Row} → Row-of sorts r → (In row rs → Row-of sorts row) → (row ≡ r) ⊎ In row rs → Row-of sorts row
+      by p k (inl e) = subst (Row-of sorts) (sym e) p
+      by p k (inr i) = k i
+
+  leaf-ok : (sorts : List Sort) (og : ℕ) (l : Leaf) → Plan unfolded schema′ sorts (leaf og l) → Ok (read-leaf database l) (Rows-of sorts)
+  leaf-ok sorts og (scan table alias o) h =
+      let rows = database .table-rows table in
+      let fit-rows : Rows-of sorts rows = subst (λ z. Rows-of z rows) (sym (h .0)) (table-rows-of database typed table) in
+      let k = keep-ok (optional-holds o) rows (λ row i. optional-ok unfolded sorts o row (fit-rows row i .fits) (h .1)) in
+      record { value = k .value; is-value = k .is-value; has = λ row i. fit-rows row (k .has row i) }
+  leaf-ok sorts og (lookup access table alias constants) h =
+      let rows = database .table-rows table in
+      let test = looked-up (lookup-column schema′ table access) constants in
+      record {
+        value = keep test rows;
+        is-value = refl;
+        has = λ row i. subst (λ z. Row-of z row) (sym h) (table-rows-of database typed table row (from-keep test row rows i .0));
+      }
+  leaf-ok sorts og (nothing labels) h = record { value = []; is-value = refl; has = λ row i. in-none i }
+  leaf-ok sorts og (values rows) h = values-ok sorts (values-columns rows) rows (h .0) (h .1)
+
+  over-ok : (sorts : List Sort) (og : ℕ) (o : Over) (source : Node) → Plan unfolded schema′ sorts (over og o source) → ((those : List Sort) → Plan unfolded schema′ those source → Ok (read database source) (Rows-of those))
+      → Ok (bind (read database source) (read-over database o)) (Rows-of sorts)
+  over-ok sorts og (filter e) source h f =
+      then-ok (read database source) (read-over database (filter e)) (f sorts (h .0))
+      (λ rows p. let k = keep-ok (holds e) rows (λ row i. holds-ok e row (condition-gives unfolded sorts e row (p row i .fits) (h .1))) in
+      record { value = k .value; is-value = k .is-value; has = λ row i. p row (k .has row i) })
+  over-ok sorts og (other (limit amount)) source h f =
+      then-ok (read database source) (read-over database (other (limit amount))) (f sorts h)
+      (λ rows p. record { value = take amount rows; is-value = refl; has = λ row i. p row (in-take amount rows i) })
+  over-ok sorts og (other (offset amount)) source h f =
+      then-ok (read database source) (read-over database (other (offset amount))) (f sorts h)
+      (λ rows p. record { value = drop amount rows; is-value = refl; has = λ row i. p row (in-drop amount rows i) })
+  over-ok sorts og (other (order key)) source h f =
+      then-ok (read database source) (read-over database (other (order key))) (f sorts (h .0))
+      (λ rows p. let k = each-ok (evaluate-all (expressions key)) (λ vs. Unit {0}) rows
+          (λ row i. let a = all-ok (Sorted unfolded sorts) row (evaluates unfolded sorts row (p row i .fits)) [] (expressions key) (h .1) in
+          record { value = a .value; is-value = a .is-value; has = tt }) in
+      let numbers = database .arrangement (directions key) (k .value) in
+      record {
+        value = pick-all numbers rows;
+        is-value = ap (λ z. bind z (λ keys. ok (pick-all (database .arrangement (directions key) keys) rows))) (k .is-value);
+        has = λ row i. let m = from-flat-map (λ n. pick n rows) numbers row i in p row (in-pick (m .of) rows row (m .made));
+      })
+  over-ok sorts og (other (projection items)) source h f =
+      then-ok (read database source) (read-over database (other (projection items))) (f (h .sorts) (h .source))
+      (λ rows p. each-ok (evaluate-all (expressions items)) (Row-of sorts) rows
+      (λ row i. let a = all-ok (Item unfolded (h .sorts)) row (item-gives (h .sorts) row (p row i .fits)) sorts (expressions items) (h .rule .1) in
+      let wide : length (expressions items) ≡ length items = length-map items (λ x. x .0) in
+      record {
+        value = a .value;
+        is-value = a .is-value;
+        has = row-of sorts (a .value) (a .has .as-many ∙ (wide ∙ sym (h .rule .0))) (λ k m. a .has .fit-there k m (omega (arith, wide, h .rule .0, m)));
+      }))
+  over-ok sorts og (other (remap targets)) source h f =
+      then-ok (read database source) (read-over database (other (remap targets))) (f (h .sorts) (h .source))
+      (λ rows p. record {
+        value = map (remap-row targets) rows;
+        is-value = refl;
+        has = λ row i. let m = from-map (remap-row targets) rows row i in
+            subst (λ z. Row-of z row) (sym (h .rule)) (subst (Row-of (remapped (h .sorts) targets)) (m .is) (remap-row-of (h .sorts) targets (m .of) (p (m .of) (m .among))));
+      })
+  over-ok sorts og (other (aggregate group-by aggregates)) source h f = absurd h
+
+  joined-ok : (sorts : List Sort) (n : ℕ) (j : Join) (row : Row) → Row-fits sorts row → Join-sorted unfolded schema′ sorts n j → Ok (join-holds j n row) (λ b. Unit {0})
+  joined-ok sorts n (nested-loop o) row f h = optional-ok unfolded sorts o row f h
+  joined-ok sorts n (hash a b) row f h =
+      let e = binary 0 Equal (column 0 a) (column 0 (n + b)) in holds-ok e row (evaluates unfolded sorts row f e (some Boolean) h)
+
+  pub read-ok : (sorts : List Sort) (n : Node) → Plan unfolded schema′ sorts n → Ok (read database n) (Rows-of sorts)
+  read-ok sorts (leaf og l) h = leaf-ok sorts og l h
+  read-ok sorts (over og o source) h = over-ok sorts og o source h (λ those s. read-ok those source s)
+  read-ok sorts (join og outer j left right) h =
+      let n = columns schema′ left in
+      let m = columns schema′ right in
+      then-ok (read database left) (λ ls. bind (read database right) (λ rs. read-join outer (join-holds j n) m ls rs)) (read-ok (h .lefts) left (h .left))
+      (λ ls p. then-ok (read database right) (λ rs. read-join outer (join-holds j n) m ls rs) (read-ok (h .rights) right (h .right))
+      (λ rs q. subst (λ z. Ok (read-join outer (join-holds j n) m ls rs) (Rows-of z)) (sym (h .rule .0))
+      (join-ok (h .lefts) (h .rights) (join-holds j n)
+      (λ row w. joined-ok (h .lefts ++ h .rights) n j row (w .fits) (subst (λ z. Join-sorted unfolded schema′ z n j) (h .rule .0) (h .rule .1)))
+      outer m ls rs (plan-wide unfolded schema′ (h .rights) right (h .right)) p q)))
