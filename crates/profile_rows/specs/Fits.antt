@@ -125,7 +125,7 @@ bytes-comparable (x ∷ xs) [] = refl
 bytes-comparable (x ∷ xs) (y ∷ ys) = ordered-comparable (ltb x y) (ltb y x) (compare-bytes xs ys) (bytes-comparable xs ys)
 
 -- no sort has two numbers
-two-sorts : {A : Type 0} (s : Sort) (a b : ℕ) → eqb a b ≡ false → eqb a (sort-number s) ≡ true → eqb b (sort-number s) ≡ true → A
+pub two-sorts : {A : Type 0} (s : Sort) (a b : ℕ) → eqb a b ≡ false → eqb a (sort-number s) ≡ true → eqb b (sort-number s) ≡ true → A
 two-sorts s a b different h k =
     let e : a ≡ b = eqb-eq a (sort-number s) h ∙ sym (eqb-eq b (sort-number s) k) in
     false≢true (sym different ∙ (ap (λ z. eqb a z) (sym e) ∙ eqb-self a))

@@ -10,3 +10,4 @@ pub mod Pushed
 pub mod Passes
 pub mod Folded
 pub mod Reads
+pub mod OneKind

@@ -101,7 +101,7 @@ module _ (schema : Schema) where
       let equality = binary (q .own) Equal (column (q .of-a) (q .a)) (column (q .of-b) (q .b)) in
       let whole : Sorted false sorts equality (some Boolean) = own sorts equality refl (subst (Pred sorts) (q .is) h) in
       subst (λ (z : ℕ × ℕ). getD sorts (z .0) none ≡ getD sorts (z .1) none) (q .pair-is)
-      (ordered-sorted sorts (ltb (q .b) (q .a)) (q .a) (q .b) (equal-sorts sorts (q .own) (q .of-a) (q .of-b) (q .a) (q .b) (some Boolean) whole))
+      (ordered-sorted sorts (ltb (q .b) (q .a)) (q .a) (q .b) (equal-sorts sorts false (q .own) (q .of-a) (q .of-b) (q .a) (q .b) (some Boolean) whole))
 
   hash-if : (sorts : List Sort) (n : ℕ) (e : Expression) (p : ℕ × ℕ) → Equijoin e p → Pred sorts e → (a b : Bool) → ltb (p .1) n ≡ b
       → Join-sorted false schema sorts n (cond (a && not b) (hash (p .0) (p .1 - n)) (nested-loop (some e)))

@@ -51,14 +51,14 @@ module _ (sorts : List Sort) where
   column-is c s (inl h) n = false≢true (sym n ∙ ap is-null-sort h)
   column-is c s (inr h) n = h
 
-  null-too : (c : ℕ) → Sorted false sorts (column 0 c) none ⊎ (true ≡ false) → getD sorts c none ≡ none
+  null-too : (c : ℕ) → ((getD sorts c none ≡ none) ⊎ (getD sorts c none ≡ none)) ⊎ (true ≡ false) → getD sorts c none ≡ none
   null-too c (inl (inl h)) = h
   null-too c (inl (inr h)) = h
   null-too c (inr h) = false≢true (sym h)
 
-  pub equal-sorts : (og p q a b : ℕ) (s : Sort) → Sorted false sorts (binary og Equal (column p a) (column q b)) s → getD sorts a none ≡ getD sorts b none
-  equal-sorts og p q a b s (inl h) = false≢true (h .0)
-  equal-sorts og p q a b s (inr h) = by (is-null-column sorts (column 0 a)) (is-null-column sorts (column 0 b)) refl refl
+  pub equal-sorts : (unfolded : Bool) (og p q a b : ℕ) (s : Sort) → Sorted unfolded sorts (binary og Equal (column p a) (column q b)) s → getD sorts a none ≡ getD sorts b none
+  equal-sorts unfolded og p q a b s (inl h) = false≢true (sym (h .1 .no-column))
+  equal-sorts unfolded og p q a b s (inr h) = by (is-null-column sorts (column 0 a)) (is-null-column sorts (column 0 b)) refl refl
     where
       null-is : (c : ℕ) → is-null-column sorts (column 0 c) ≡ true → getD sorts c none ≡ none
       null-is c n = same-is (getD sorts c none) none n
@@ -109,7 +109,7 @@ module _ (sorts : List Sort) where
     pair-sorts : (e : Expression) (p : ℕ × ℕ) → In e cnf → Equijoin e p → getD sorts (p .0) none ≡ getD sorts (p .1) none
     pair-sorts e p i q =
         subst (λ (z : ℕ × ℕ). getD sorts (z .0) none ≡ getD sorts (z .1) none) (q .pair-is)
-        (either (ltb (q .b) (q .a)) (equal-sorts (q .own) (q .of-a) (q .of-b) (q .a) (q .b) (some Boolean) (subst (λ z. Sorted false sorts z (some Boolean)) (q .is) (booleans e i))))
+        (either (ltb (q .b) (q .a)) (equal-sorts false (q .own) (q .of-a) (q .of-b) (q .a) (q .b) (some Boolean) (subst (λ z. Sorted false sorts z (some Boolean)) (q .is) (booleans e i))))
       where
         either : (u : Bool) → getD sorts (q .a) none ≡ getD sorts (q .b) none
             → getD sorts (cond {A = ℕ × ℕ} u (q .b, q .a) (q .a, q .b) .0) none ≡ getD sorts (cond {A = ℕ × ℕ} u (q .b, q .a) (q .a, q .b) .1) none
@@ -153,7 +153,7 @@ module _ (sorts : List Sort) where
     -- ---- house mode's copies
 
     linked-sorts : {a b : ℕ} → Linked cnf a b → getD sorts a none ≡ getD sorts b none
-    linked-sorts (by-equality {og} {p} {q} {a} {b} i) = equal-sorts og p q a b (some Boolean) (booleans (binary og Equal (column p a) (column q b)) i)
+    linked-sorts (by-equality {og} {p} {q} {a} {b} i) = equal-sorts false og p q a b (some Boolean) (booleans (binary og Equal (column p a) (column q b)) i)
     linked-sorts itself = refl
     linked-sorts (back l) = sym (linked-sorts l)
     linked-sorts (onward l m) = linked-sorts l ∙ linked-sorts m

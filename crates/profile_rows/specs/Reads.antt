@@ -209,7 +209,7 @@ get-kind (x ∷ cs) zero h = refl
 get-kind (x ∷ cs) (suc c) h = get-kind cs c (omega arith)
 
 module _ (database : Database) (typed : Typed database) where
-  table-rows-of : (table : ℕ) → Rows-of (table-sorts (database .schema) table) (database .table-rows table)
+  pub table-rows-of : (table : ℕ) → Rows-of (table-sorts (database .schema) table) (database .table-rows table)
   table-rows-of table row i =
       let cs = table-of (database .schema) table .columns in
       let sorts-wide : length (table-sorts (database .schema) table) ≡ length cs = length-map cs (λ (x : Column). some (x .kind)) in
@@ -294,15 +294,16 @@ nulls-of rs n w = row-of rs (replicate n null) (length-replicate n null ∙ sym 
     all-null (suc n) zero = refl
     all-null (suc n) (suc k) = all-null n k
 
-module _ (ls rs : List Sort) (f : Row → Result Bool) (f-ok : (row : Row) → Row-of (ls ++ rs) row → Ok (f row) (λ b. Unit {0})) where
+module _ (ls rs : List Sort) where
   with-right : (l : Row) (right : List Row) → Row-of ls l → Rows-of rs right → Rows-of (ls ++ rs) (map (λ r. l ++ r) right)
   with-right l right p q row i =
       let m = from-map (λ r. l ++ r) right row i in subst (Row-of (ls ++ rs)) (m .is) (joined-row-of ls rs l (m .of) p (q (m .of) (m .among)))
 
-  joined-of : (left right : List Row) → Rows-of ls left → Rows-of rs right → Rows-of (ls ++ rs) (joined-rows left right)
+  pub joined-of : (left right : List Row) → Rows-of ls left → Rows-of rs right → Rows-of (ls ++ rs) (joined-rows left right)
   joined-of left right p q row i =
       let m = from-flat-map (λ l. map (λ r. l ++ r) right) left row i in with-right (m .of) right (p (m .of) (m .among)) q row (m .made)
 
+module _ (ls rs : List Sort) (f : Row → Result Bool) (f-ok : (row : Row) → Row-of (ls ++ rs) row → Ok (f row) (λ b. Unit {0})) where
   kept-rows : (rows : List Row) → Rows-of (ls ++ rs) rows → Ok (keep-each f rows) (Rows-of (ls ++ rs))
   kept-rows rows p =
       let k = keep-ok f rows (λ row i. f-ok row (p row i)) in record { value = k .value; is-value = k .is-value; has = λ row i. p row (k .has row i) }
@@ -314,7 +315,7 @@ module _ (ls rs : List Sort) (f : Row → Result Bool) (f-ok : (row : Row) → R
   outer-ok : (n : ℕ) (left right : List Row) → length rs ≡ n → Rows-of ls left → Rows-of rs right → Ok (outer-rows f n left right) (Rows-of (ls ++ rs))
   outer-ok n [] right w p q = record { value = []; is-value = refl; has = λ row i. in-none i }
   outer-ok n (l ∷ left) right w p q =
-      let a = kept-rows (map (λ r. l ++ r) right) (with-right l right (p l here) q) in
+      let a = kept-rows (map (λ r. l ++ r) right) (with-right ls rs l right (p l here) q) in
       let b = outer-ok n left right w (λ row i. p row (there i)) q in
       record {
         value = or-nulls n l (a .value) ++ b .value;
@@ -331,7 +332,7 @@ module _ (ls rs : List Sort) (f : Row → Result Bool) (f-ok : (row : Row) → R
           by (inr j) = k row j
 
   join-ok : (outer : Bool) (n : ℕ) (left right : List Row) → length rs ≡ n → Rows-of ls left → Rows-of rs right → Ok (read-join outer f n left right) (Rows-of (ls ++ rs))
-  join-ok false n left right w p q = kept-rows (joined-rows left right) (joined-of left right p q)
+  join-ok false n left right w p q = kept-rows (joined-rows left right) (joined-of ls rs left right p q)
   join-ok true n left right w p q = outer-ok n left right w p q
 
 -- ---- the plan
