@@ -331,7 +331,7 @@ module _ (schema : Schema) where
       (hash-both true ls rs n i j wide below (is .0),
       subst (Join-sorted false schema (ls ++ rs) n) (done-same f) (hash-both false ls rs n i j wide below (is .0)), is .1)
 
-  nothing-first : (a b : Option ℕ) → or-else a b ≡ none → (a ≡ none) × (b ≡ none)
+  pub nothing-first : (a b : Option ℕ) → or-else a b ≡ none → (a ≡ none) × (b ≡ none)
   nothing-first none b h = (refl, h)
   nothing-first (some x) b h = absurd (let y : _≡_ {A = ℕ} 0 1 = cc in omega arith)
 

@@ -11,3 +11,4 @@ pub mod Passes
 pub mod Folded
 pub mod Reads
 pub mod OneKind
+pub mod Suited

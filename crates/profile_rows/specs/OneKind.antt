@@ -31,7 +31,7 @@ use Rattle.profile_rows.specs.Reads.{Ok, Rows-of, joined-of, read-ok, ta
 
 -- ---- two values
 
-or-true : (a : Bool) → (a || true) ≡ true
+pub or-true : (a : Bool) → (a || true) ≡ true
 or-true true = refl
 or-true false = refl
 
@@ -198,6 +198,17 @@ list-fine P row g (s ∷ sorts) (e ∷ es) h = both-fine (of-expression row e) (
 
 -- ---- plans
 
+-- the sorts of a node's source
+module _ (unfolded : Bool) (schema : Schema) where
+  pub source-sorted-in : (sorts : List Sort) (og : ℕ) (o : Over) (source : Node) → Plan unfolded schema sorts (over og o source) → From (λ those. Plan unfolded schema those source) (λ those. Unit {0})
+  source-sorted-in sorts og (filter e) source h = record { sorts = sorts; source = h .0; rule = tt }
+  source-sorted-in sorts og (other (limit amount)) source h = record { sorts = sorts; source = h; rule = tt }
+  source-sorted-in sorts og (other (offset amount)) source h = record { sorts = sorts; source = h; rule = tt }
+  source-sorted-in sorts og (other (order key)) source h = record { sorts = sorts; source = h .0; rule = tt }
+  source-sorted-in sorts og (other (projection items)) source h = record { sorts = h .sorts; source = h .source; rule = tt }
+  source-sorted-in sorts og (other (remap targets)) source h = record { sorts = h .sorts; source = h .source; rule = tt }
+  source-sorted-in sorts og (other (aggregate group-by aggregates)) source h = absurd h
+
 module _ (unfolded : Bool) (database : Database) (typed : Typed database) where
   values-fine : (sorts : List Sort) (rows : List (Marked (List Expression))) → Rows unfolded (database .schema) sorts rows → Fine (flat-map (λ (es : Marked (List Expression)). of-list (es .0) []) rows)
   values-fine sorts [] h = refl
@@ -237,15 +248,6 @@ module _ (unfolded : Bool) (database : Database) (typed : Typed database) where
       let r = read-ok unfolded database typed (h .sorts) source (h .source) in subst (λ z. Fine (in-rows z (of-over (other (remap targets))))) (sym (r .is-value)) refl
   over-fine sorts og (other (aggregate group-by aggregates)) source h = absurd h
 
-  source-sorted : (sorts : List Sort) (og : ℕ) (o : Over) (source : Node) → Plan unfolded (database .schema) sorts (over og o source) → From (λ those. Plan unfolded (database .schema) those source) (λ those. Unit {0})
-  source-sorted sorts og (filter e) source h = record { sorts = sorts; source = h .0; rule = tt }
-  source-sorted sorts og (other (limit amount)) source h = record { sorts = sorts; source = h; rule = tt }
-  source-sorted sorts og (other (offset amount)) source h = record { sorts = sorts; source = h; rule = tt }
-  source-sorted sorts og (other (order key)) source h = record { sorts = sorts; source = h .0; rule = tt }
-  source-sorted sorts og (other (projection items)) source h = record { sorts = h .sorts; source = h .source; rule = tt }
-  source-sorted sorts og (other (remap targets)) source h = record { sorts = h .sorts; source = h .source; rule = tt }
-  source-sorted sorts og (other (aggregate group-by aggregates)) source h = absurd h
-
   join-fine : (sorts : List Sort) (n : ℕ) (j : Join) (row : Row) → Row-fits sorts row → Join-sorted unfolded (database .schema) sorts n j → Fine (of-join j n row)
   join-fine sorts n (nested-loop o) row f h = optional-fine unfolded sorts row f o h
   join-fine sorts n (hash a b) row f h = expression-fine unfolded sorts row f (binary 0 Equal (column 0 a) (column 0 (n + b))) (some Boolean) h
@@ -253,7 +255,7 @@ module _ (unfolded : Bool) (database : Database) (typed : Typed database) where
   pub plan-fine : (sorts : List Sort) (n : Node) → Plan unfolded (database .schema) sorts n → Fine (equalities database n)
   plan-fine sorts (leaf og l) h = leaf-fine sorts og l h
   plan-fine sorts (over og o source) h =
-      let s = source-sorted sorts og o source h in
+      let s = source-sorted-in unfolded (database .schema) sorts og o source h in
       both-fine (equalities database source) (in-rows (read database source) (of-over o)) (plan-fine (s .sorts) source (s .source)) (over-fine sorts og o source h)
   plan-fine sorts (join og outer j left right) h =
       let n = columns (database .schema) left in

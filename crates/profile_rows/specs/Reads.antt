@@ -203,7 +203,7 @@ in-wide : (n : ℕ) (rows : List Row) {row : Row} → In row rows → Wide n row
 in-wide n rows here (and-row h w) = h
 in-wide n rows (there i) (and-row h w) = in-wide n _ i w
 
-get-kind : (cs : List Column) (c : ℕ) → c < length cs → getD (map (λ (x : Column). some (x .kind)) cs) c none ≡ some (getD cs c no-column .kind)
+pub get-kind : (cs : List Column) (c : ℕ) → c < length cs → getD (map (λ (x : Column). some (x .kind)) cs) c none ≡ some (getD cs c no-column .kind)
 get-kind [] c h = absurd (omega arith)
 get-kind (x ∷ cs) zero h = refl
 get-kind (x ∷ cs) (suc c) h = get-kind cs c (omega arith)

@@ -26,10 +26,10 @@ use Rattle.same_rows.specs.TotalRows.{keep-table, total-join, total-over
 use Rattle.same_rows.specs.Split.{keep-and, keep-all}
 
 -- what is found is a lookup that the mode lets go by its column, which is of a kind, and one of the conjuncts
-record Finds (mode : Mode) (kind : ℕ → Kind) (cnf : List Expression) (f : Found) : Type 0 where
-  is : is-column-lookup (f .conjunct) ≡ some (f .column-number)
-  usable-so : usable mode (kind (f .column-number)) (f .conjunct) ≡ true
-  together : (g : Expression → Bool) → all g cnf ≡ (g (f .conjunct) && all g (f .remaining))
+pub record Finds (mode : Mode) (kind : ℕ → Kind) (cnf : List Expression) (f : Found) : Type 0 where
+  pub is : is-column-lookup (f .conjunct) ≡ some (f .column-number)
+  pub usable-so : usable mode (kind (f .column-number)) (f .conjunct) ≡ true
+  pub together : (g : Expression → Bool) → all g cnf ≡ (g (f .conjunct) && all g (f .remaining))
 
 no-number : {A : Type 0} (c : ℕ) → _≡_ {A = Option ℕ} none (some c) → A
 no-number c h = absurd (let y : _≡_ {A = ℕ} 0 1 = cc in omega arith)
@@ -42,7 +42,7 @@ swap-and true b c = refl
 swap-and false b c = sym (and-false b)
 
 module _ (schema : Schema) (table : ℕ) where
-  abbrev kind-of : ℕ → Kind
+  abbrev pub kind-of : ℕ → Kind
   kind-of c = column-of schema table c .kind
 
   access-column : (c : ℕ) → lookup-column schema table (access schema table c) ≡ c
@@ -62,10 +62,10 @@ module _ (mode : Mode) (schema : Schema) (table : ℕ) where
       go true false u k = no-number c k
       go false i u k = no-number c k
 
-  abbrev Finds-in : List Expression → Found → Type 0
+  abbrev pub Finds-in : List Expression → Found → Type 0
   Finds-in = Finds mode (kind-of schema table)
 
-  finds : (cnf : List Expression) (f : Found) → find-lookup mode schema table cnf ≡ some f → Finds-in cnf f
+  pub finds : (cnf : List Expression) (f : Found) → find-lookup mode schema table cnf ≡ some f → Finds-in cnf f
   finds [] f h = no-found f h
   finds (x ∷ cnf) f h = go (with-index mode schema table x (is-column-lookup x)) refl (find-lookup mode schema table cnf) (λ g k. finds cnf g k) refl h
     where
@@ -85,11 +85,11 @@ module _ (mode : Mode) (schema : Schema) (table : ℕ) where
 
 -- ---- the constants of the lookup that is made
 
-abbrev suit : Kind × Value → Bool
+abbrev pub suit : Kind × Value → Bool
 suit m = suits (m .0) (m .1)
 
 -- all constants of the lookup that is made suit its column
-abbrev Suited : Schema → ℕ → Found → Bool
+abbrev pub Suited : Schema → ℕ → Found → Bool
 Suited schema table f = all (λ (v : Marked Value). suits (kind-of schema table (f .column-number)) (v .0)) (into-column-values (f .conjunct))
 
 all-map : {A B : Type 0} (g : B → Bool) (h : A → B) (xs : List A) → all g (map h xs) ≡ all (λ x. g (h x)) xs
@@ -101,7 +101,7 @@ module _ (schema : Schema) where
   filtered-constants og none n = refl
   filtered-constants og (some p) n = refl
 
-  found-suits : (og table : ℕ) (alias : Option ℕ) (p : Expression) (f : Found)
+  pub found-suits : (og table : ℕ) (alias : Option ℕ) (p : Expression) (f : Found)
       → all suit (lookup-constants schema (lookup-or-scan schema table og alias p (some f))) ≡ Suited schema table f
   found-suits og table alias p f =
       let by = access schema table (f .column-number) in
