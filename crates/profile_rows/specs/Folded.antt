@@ -107,11 +107,12 @@ module _ (source : List Sort) where
       let b = folded fold-part cells first x xs ys k in
       let part = after (fold-expression first (x .0)) (λ e. done (e, x .1, x .2)) (b .y) (b .part) in
       let one = item-kept at first (x .0) (part .of) (a .s) (a .part) (part .first) in
-      let rest = parts-own cells (at + cells x) (first + cells x) xs (b .more) (a .more) (a .rest) (b .rest) in
-      (subst (λ zs. Own (Item true source) zs (expressions (x ∷ xs))) (a .is) (one .0, rest .0),
-      subst (λ zs. Own (Item false source) ss (expressions zs)) (b .is)
-      (subst (λ zs. Own (Item false source) zs (expressions (b .y ∷ b .more))) (a .is)
-      (subst (λ (y : Expression × _ × ℕ). Item false source (y .0) (a .s)) (done-same (part .second)) (one .1), rest .1)))
+      let rest = parts-own cells (at + cells x) (first + cells x) xs (b .more) (a .more) (a .rest) (b .rest) in (
+        subst (λ zs. Own (Item true source) zs (expressions (x ∷ xs))) (a .is) (one .0, rest .0),
+        subst (λ zs. Own (Item false source) ss (expressions zs)) (b .is)
+            (subst (λ zs. Own (Item false source) zs (expressions (b .y ∷ b .more))) (a .is)
+            (subst (λ (y : Expression × _ × ℕ). Item false source (y .0) (a .s)) (done-same (part .second)) (one .1), rest .1)),
+      )
 
 -- ---- Values
 
@@ -122,9 +123,10 @@ cells-own at first (e ∷ es) ds ss h k =
     let a = judged-list (expression-sort []) size at e es ss h in
     let b = folded fold-expression size first e es ds k in
     let one = keeps [] at first e (b .y) (a .s) (a .part) (b .part) in
-    let rest = cells-own (at + size e) (first + size e) es (b .more) (a .more) (a .rest) (b .rest) in
-    (subst (λ zs. Own (Sorted true []) zs (e ∷ es)) (a .is) (one .before, rest .0),
-    subst (Own (Sorted false []) ss) (b .is) (subst (λ zs. Own (Sorted false []) zs (b .y ∷ b .more)) (a .is) (one .after, rest .1)))
+    let rest = cells-own (at + size e) (first + size e) es (b .more) (a .more) (a .rest) (b .rest) in (
+      subst (λ zs. Own (Sorted true []) zs (e ∷ es)) (a .is) (one .before, rest .0),
+      subst (Own (Sorted false []) ss) (b .is) (subst (λ zs. Own (Sorted false []) zs (b .y ∷ b .more)) (a .is) (one .after, rest .1)),
+    )
 
 -- a row's sort in column k is Null or the column's
 abbrev Row-suits : List Sort → List Sort → Type 0
@@ -140,9 +142,10 @@ rows-kept schema sorts at first (row ∷ rows) folds sss f h k =
     let wide : length (a .s) ≡ length (row .0) = judged-length (expression-sort []) size at (row .0) (a .s) (a .part) in
     let wide-folded : length (a .s) ≡ length (b .y .0) = wide ∙ sym (length-folded fold-expression size first (row .0) (b .y .0) (row-of first row (b .y) (b .part))) in
     let suits = f (a .s) (subst (λ zs. In (a .s) zs) (a .is) here) in
-    let rest = rows-kept schema sorts (at + row-size row) (first + row-size row) rows (b .more) (a .more) (λ ss i. f ss (subst (λ zs. In ss zs) (a .is) (there i))) (a .rest) (b .rest) in
-    ((own-columns true sorts (a .s) (row .0) wide suits (cells .0), rest .0),
-    subst (Rows false schema sorts) (b .is) (own-columns false sorts (a .s) (b .y .0) wide-folded suits (cells .1), rest .1))
+    let rest = rows-kept schema sorts (at + row-size row) (first + row-size row) rows (b .more) (a .more) (λ ss i. f ss (subst (λ zs. In ss zs) (a .is) (there i))) (a .rest) (b .rest) in (
+      (own-columns true sorts (a .s) (row .0) wide suits (cells .0), rest .0),
+      subst (Rows false schema sorts) (b .is) (own-columns false sorts (a .s) (b .y .0) wide-folded suits (cells .1), rest .1),
+    )
 
 either-none : (s t : Sort) → either-sort s t ≡ none → (s ≡ none) × (t ≡ none)
 either-none none t h = (refl, h)
@@ -204,9 +207,11 @@ condition-kept sorts these at end first e d h k =
     by (fits-boolean (a .of) (is .0)) kept (is .1)
   where
     by : {s : Sort} → (s ≡ none) ⊎ (s ≡ some Boolean) → Kept sorts e d s → sorts ≡ these → Condition true sorts e × Condition false sorts d × (sorts ≡ these)
-    by {s} (inl x) kept is =
-        (of-every-sort true sorts e (some Boolean) (subst (λ z. Sorted true sorts e z) x (kept .before)),
-        boolean-pred sorts d (of-every-sort false sorts d (some Boolean) (subst (λ z. Sorted false sorts d z) x (kept .after))), is)
+    by {s} (inl x) kept is = (
+      of-every-sort true sorts e (some Boolean) (subst (λ z. Sorted true sorts e z) x (kept .before)),
+      boolean-pred sorts d (of-every-sort false sorts d (some Boolean) (subst (λ z. Sorted false sorts d z) x (kept .after))),
+      is,
+    )
     by {s} (inr x) kept is = (subst (λ z. Sorted true sorts e z) x (kept .before), boolean-pred sorts d (subst (λ z. Sorted false sorts d z) x (kept .after)), is)
 
 optional-kept-both : (sorts these : List Sort) (at first : ℕ) (o q : Option Expression) → optional-kept sorts at o ≡ done these → fold-optional first o ≡ done q
@@ -303,7 +308,7 @@ module _ (schema : Schema) where
   over-both og at first (other (aggregate group-by aggregates)) p source became those these h k s =
       let place = at + (sum size group-by + sum aggregate-size aggregates) in
       let a = Done.after (each-sort (expression-sort those) size at group-by)
-          (λ ss. each-sort (λ i g. expression-sort those i (g .1)) aggregate-size (at + sum size group-by) aggregates >>= λ more. refused 16 place) these h in
+      (λ ss. each-sort (λ i g. expression-sort those i (g .1)) aggregate-size (at + sum size group-by) aggregates >>= λ more. refused 16 place) these h in
       let b = Done.after (each-sort (λ i g. expression-sort those i (g .1)) aggregate-size (at + sum size group-by) aggregates) (λ more. refused 16 place) these (a .second) in
       not-done (b .second)
 
@@ -327,9 +332,11 @@ module _ (schema : Schema) where
       (c .0, subst (Join-sorted false schema (ls ++ rs) n) (done-same (b .second)) (c .1), c .2)
   join-kept at at′ first (hash i j) k ls rs these n m wide scope h f =
       let is = kept-is at (same (getD ls i none) (getD rs j none)) (ls ++ rs) these h in
-      let below : i < n = lt-is i n (and-left (ltb i n) (ltb j m) (unless-none (ltb i n && ltb j m) at′ scope)) in
-      (hash-both true ls rs n i j wide below (is .0),
-      subst (Join-sorted false schema (ls ++ rs) n) (done-same f) (hash-both false ls rs n i j wide below (is .0)), is .1)
+      let below : i < n = lt-is i n (and-left (ltb i n) (ltb j m) (unless-none (ltb i n && ltb j m) at′ scope)) in (
+        hash-both true ls rs n i j wide below (is .0),
+        subst (Join-sorted false schema (ls ++ rs) n) (done-same f) (hash-both false ls rs n i j wide below (is .0)),
+        is .1,
+      )
 
   pub nothing-first : (a b : Option ℕ) → or-else a b ≡ none → (a ≡ none) × (b ≡ none)
   nothing-first none b h = (refl, h)

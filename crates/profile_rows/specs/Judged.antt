@@ -221,8 +221,10 @@ module _ (columns : List Sort) where
     where
       before-is : Open2 columns o l r (Sorted true columns l) (Sorted true columns r) k
       before-is = open2-of true columns o l r l r s t k h c (l-kept .before) (r-kept .before) own-l own-r (λ m. m) (λ m. m)
+
       after-is : Open2 columns o x y (Sorted false columns x) (Sorted false columns y) k
       after-is = open2-of false columns o l r x y s t k h c (l-kept .after) (r-kept .after) (l-kept .bare) (r-kept .bare) (l-kept .closed) (r-kept .closed)
+
       by : (b : Bool) → (has-column x || has-column y) ≡ b → Kept columns (binary og o l r) d k
       by true m =
           let is = fold-open place (binary og o x y) d m f in

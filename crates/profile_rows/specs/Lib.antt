@@ -12,3 +12,5 @@ pub mod Folded
 pub mod Reads
 pub mod OneKind
 pub mod Suited
+pub mod Law
+pub mod Proof

@@ -153,10 +153,11 @@ module _ (columns : List Sort) where
         unary-same new Not (unary og (function1 f) x) (unary og (function1 f) (into-nnf x)) (unary-same og (function1 f) x (into-nnf x) (nnf-carried x))
     nnf-not-carried new (binary og (logical o) l r) =
         record {
-          sorts = λ s h. inr
-              (negated new l (into-nnf-not new l) (nnf-not-carried new l) (sides-under new og o l r s h .0),
-              negated new r (into-nnf-not new r) (nnf-not-carried new r) (sides-under new og o l r s h .1),
-              under-not new (binary og (logical o) l r) s h .1);
+          sorts = λ s h. inr (
+            negated new l (into-nnf-not new l) (nnf-not-carried new l) (sides-under new og o l r s h .0),
+            negated new r (into-nnf-not new r) (nnf-not-carried new r) (sides-under new og o l r s h .1),
+            under-not new (binary og (logical o) l r) s h .1,
+          );
           no-null = λ s h n. refl;
           closed = λ n. ap₂ _||_ (nnf-not-carried new l .closed (Booleans.or-left (has-column l) (has-column r) n)) (nnf-not-carried new r .closed (Booleans.or-right (has-column l) (has-column r) n));
         }

@@ -85,11 +85,14 @@ module _ (schema : Schema) where
   -- an equality of two columns of one sort
   pub columns-equal : (unfolded : Bool) (sorts : List Sort) (a b : ℕ) → getD sorts a none ≡ getD sorts b none → Sorted unfolded sorts (binary 0 Equal (column 0 a) (column 0 b)) (some Boolean)
   columns-equal unfolded sorts a b h =
-      inr (record {
-        compared = record { sort = getD sorts a none; left = inr refl; right = inr (sym h) };
-        null-left = λ n. inl (inl (sym h ∙ same-is (getD sorts a none) none n));
-        null-right = λ n. inl (inl (h ∙ same-is (getD sorts b none) none n));
-      }, refl)
+      inr (
+        record {
+          compared = record { sort = getD sorts a none; left = inr refl; right = inr (sym h) };
+          null-left = λ n. inl (inl (sym h ∙ same-is (getD sorts a none) none n));
+          null-right = λ n. inl (inl (h ∙ same-is (getD sorts b none) none n));
+        },
+        refl,
+      )
 
   ordered-sorted : (sorts : List Sort) (u : Bool) (a b : ℕ) → getD sorts a none ≡ getD sorts b none
       → getD sorts (cond {A = ℕ × ℕ} u (b, a) (a, b) .0) none ≡ getD sorts (cond {A = ℕ × ℕ} u (b, a) (a, b) .1) none

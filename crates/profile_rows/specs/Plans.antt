@@ -112,6 +112,9 @@ module _ (unfolded : Bool) (schema : Schema) where
       → (sorts : List Sort) → Plan sorts (join og outer j left right) → Plan sorts (join og outer j l r)
   sources-sorted og outer j left right l r f g sorts h =
       record {
-        lefts = h .lefts; rights = h .rights; left = f (h .lefts) (h .left); right = g (h .rights) (h .right);
+        lefts = h .lefts;
+        rights = h .rights;
+        left = f (h .lefts) (h .left);
+        right = g (h .rights) (h .right);
         rule = (h .rule .0, subst (λ z. Join-sorted sorts z j) (as-wide (h .lefts) left l (h .left) (f (h .lefts) (h .left))) (h .rule .1));
       }

@@ -388,7 +388,10 @@ module _ (mode : Mode) (schema : Schema) where
     split-sorted : Sound (ls ++ rs) (split mode og n outer cnf left right)
     split-sorted =
         record {
-          lefts = ls; rights = rs; left = took-left .sound; right = took-right .sound;
+          lefts = ls;
+          rights = rs;
+          left = took-left .sound;
+          right = took-right .sound;
           rule = (refl, and-vec-pred (ls ++ rs) og (staying mode outer n cnf ++ (given-left ++ map (shift-column-up n) given-right)) stays);
         }
 

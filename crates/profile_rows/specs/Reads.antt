@@ -395,8 +395,8 @@ module _ (unfolded : Bool) (database : Database) (typed : Typed database) where
   over-ok sorts og (other (order key)) source h f =
       then-ok (read database source) (read-over database (other (order key))) (f sorts (h .0))
       (λ rows p. let k = each-ok (evaluate-all (expressions key)) (λ vs. Unit {0}) rows
-          (λ row i. let a = all-ok (Sorted unfolded sorts) row (evaluates unfolded sorts row (p row i .fits)) [] (expressions key) (h .1) in
-          record { value = a .value; is-value = a .is-value; has = tt }) in
+      (λ row i. let a = all-ok (Sorted unfolded sorts) row (evaluates unfolded sorts row (p row i .fits)) [] (expressions key) (h .1) in
+      record { value = a .value; is-value = a .is-value; has = tt }) in
       let numbers = database .arrangement (directions key) (k .value) in
       record {
         value = pick-all numbers rows;

@@ -166,7 +166,7 @@ module _ (schema : Schema) where
       let among = found-in plain schema table cnf f k in
       let n = table-columns schema table in
       let within : f .column-number < n = only-lookup Any-value (λ c. c < n) (f .conjunct) (f .column-number) (finds plain schema table cnf f k .is)
-          (all-in (Made-of Any-value (λ c. c < n)) cnf among (cnf-of Any-value (λ c. c < n) p (below n p at scope))) .0 in
+      (all-in (Made-of Any-value (λ c. c < n)) cnf among (cnf-of Any-value (λ c. c < n) p (below n p at scope))) .0 in
       found-suits schema og table alias p f
       ∙ lookup-suits sorts (kind-of schema table (f .column-number)) (f .conjunct) (f .column-number)
       (ap (λ z. getD z (f .column-number) none) is ∙ get-kind (table-of schema table .columns) (f .column-number) within) (finds plain schema table cnf f k .is)
