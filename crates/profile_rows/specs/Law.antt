@@ -16,7 +16,7 @@ use Rattle.sql.specs.Expression.{Row}
 use Rattle.sql.specs.Plan.{Node, columns, max-cells, node-size}
 use Rattle.sql.specs.Answer.{done, refused}
 use Rattle.sql.specs.Schema.{Schema}
-use Rattle.sql.specs.Mode.{Mode, plain}
+use Rattle.sql.specs.Mode.{Mode, plain, house}
 use Rattle.sql.specs.Room.{pass}
 use Rattle.rows.specs.Database.{Database}
 use Rattle.rows.specs.Reading.{read}
