@@ -14,3 +14,4 @@ pub mod OneKind
 pub mod Suited
 pub mod Law
 pub mod Proof
+pub mod Instance
