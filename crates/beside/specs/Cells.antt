@@ -9,14 +9,15 @@ use mathlib.Core.Logic.{_⊎_, inl, inr}
 use lib.Dec.{eqb}
 use lib.ListN.{length}
 use Rattle.value.specs.Value.{False, Unknown, True, integer, float, string, Value, truth, datum}
-use Rattle.sql.specs.Expression.{Marked, IsNull, IsNaN, Identity, Negate, SquareRoot, GreaterThan, LessThan, Add, Divide, Subtract, Multiply, And, Or, Unary, Not, function, Binary, logical, Equal, Expression, constant, column, unary, binary}
+use Rattle.sql.specs.Expression.{Marked, IsNull, IsNaN, Identity, Negate, SquareRoot, GreaterThan, LessThan, Add, Divide, Subtract, Multiply, And, Or, Unary, Not, function1, Binary, logical, Equal, function2, Expression, constant, column, unary, binary}
 use Rattle.sql.specs.Schema.{Table}
 use Rattle.sql.specs.Plan.{Label, unlabelled, unqualified, qualified, Access, by-key, by-index, Leaf, scan, lookup, nothing, values, limit, offset, order, projection, remap, aggregate, Over, filter, other, Join, nested-loop, hash, Node, leaf, over, join, sum}
 use Rattle.sheet.specs.Parts.{table-count, first-column, key-of, bad-record}
 use Rattle.sheet.specs.Cell.{Cell, cell}
 use Rattle.sheet.specs.Tags
-use Rattle.sheet.specs.Check.{text, schema, table}
-use Rattle.sheet.specs.Content.{cell-of, marked, unary-cell, binary-cell, item-cell, scan-cell, key-lookup-cell, index-lookup-cell}
+use Rattle.sheet.specs.Check.{text, schema}
+use Rattle.sheet.specs.AsCell.{cell-of, marked}
+use Rattle.sheet.specs.Content.{unary-cell, binary-cell, item-cell, scan-cell, key-lookup-cell, index-lookup-cell}
 use Rattle.sheet.specs.Cells.{lookup-content, all-cells, expression-cells, optional-cells, present, constant-cells, label-cells, target-cells, item-cells, key-cells, agg-cells, row-cells, leaf-cells, other-cells, over-cells, join-cells, cells}
 use Rattle.sheet_laws.specs.Fits.{All, Exact-cell, Each-leaf, Exact}
 use Rattle.sheet_laws.specs.Complete.{all-append}
@@ -83,22 +84,22 @@ and-last ks k q l = all-append Quiet ks (k ∷ []) q (l, tt)
 
 unary-quiet : (og : ℕ) (o : Unary) → Quiet (marked og (cell-of (unary-cell o)))
 unary-quiet og Not = (refl, refl)
-unary-quiet og (function IsNull) = (refl, refl)
-unary-quiet og (function IsNaN) = (refl, refl)
-unary-quiet og (function Identity) = (refl, refl)
-unary-quiet og (function Negate) = (refl, refl)
-unary-quiet og (function SquareRoot) = (refl, refl)
+unary-quiet og (function1 IsNull) = (refl, refl)
+unary-quiet og (function1 IsNaN) = (refl, refl)
+unary-quiet og (function1 Identity) = (refl, refl)
+unary-quiet og (function1 Negate) = (refl, refl)
+unary-quiet og (function1 SquareRoot) = (refl, refl)
 
 binary-quiet : (og : ℕ) (o : Binary) → Quiet (marked og (cell-of (binary-cell o)))
 binary-quiet og (logical And) = (refl, refl)
 binary-quiet og (logical Or) = (refl, refl)
 binary-quiet og Equal = (refl, refl)
-binary-quiet og (function GreaterThan) = (refl, refl)
-binary-quiet og (function LessThan) = (refl, refl)
-binary-quiet og (function Add) = (refl, refl)
-binary-quiet og (function Divide) = (refl, refl)
-binary-quiet og (function Subtract) = (refl, refl)
-binary-quiet og (function Multiply) = (refl, refl)
+binary-quiet og (function2 GreaterThan) = (refl, refl)
+binary-quiet og (function2 LessThan) = (refl, refl)
+binary-quiet og (function2 Add) = (refl, refl)
+binary-quiet og (function2 Divide) = (refl, refl)
+binary-quiet og (function2 Subtract) = (refl, refl)
+binary-quiet og (function2 Multiply) = (refl, refl)
 
 label-quiet : (l : Marked Label) → All Quiet (label-cells l)
 label-quiet (unlabelled, og) = ((refl, refl), tt)

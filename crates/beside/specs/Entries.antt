@@ -11,7 +11,7 @@ use lib.ListN.{length, getD, length-map}
 use Rattle.sql.specs.Schema.{Schema, table-of, no-table}
 use Rattle.sql.specs.Plan.{up-to}
 use Rattle.sheet.specs.Parts.{table-count, column-count, columns-before, first-column, columns-of, table-ok, column-ok, record-ok, bad-record}
-use Rattle.sheet.specs.Check.{table, column, schema}
+use Rattle.sheet.specs.Check.{sheet-column, sheet-table, schema}
 use Rattle.sheet_laws.specs.Content.{and-left}
 use Rattle.sheet_laws.specs.Layout.{none-failing, length-up-to, table-facts}
 use Rattle.beside.specs.Summary.{first-entry, entries}
@@ -28,20 +28,20 @@ getD-up-to f d i (suc n) zero h = let e : i ≡ i + 0 = omega arith in ap f e
 getD-up-to f d i (suc n) (suc t) h = let e : suc i + t ≡ i + suc t = omega arith in getD-up-to f d (suc i) n t (omega arith) ∙ ap f e
 
 module _ (s : List ℕ) where
-  pub columns-length : (t : ℕ) → length (table s t .columns) ≡ columns-of s t
-  columns-length t = length-map (up-to (first-column s t) (columns-of s t)) (column s) ∙ length-up-to (first-column s t) (columns-of s t)
+  pub columns-length : (t : ℕ) → length (sheet-table s t .columns) ≡ columns-of s t
+  columns-length t = length-map (up-to (first-column s t) (columns-of s t)) (sheet-column s) ∙ length-up-to (first-column s t) (columns-of s t)
 
   pub schema-length : length (schema s) ≡ table-count s
   unfolding schema
-  schema-length = length-map (up-to 0 (table-count s)) (table s) ∙ length-up-to 0 (table-count s)
+  schema-length = length-map (up-to 0 (table-count s)) (sheet-table s) ∙ length-up-to 0 (table-count s)
 
-  pub table-is : (t : ℕ) → t < table-count s → table-of (schema s) t ≡ table s t
+  pub table-is : (t : ℕ) → t < table-count s → table-of (schema s) t ≡ sheet-table s t
   unfolding schema
-  table-is t h = getD-up-to (table s) no-table 0 (table-count s) t h ∙ ap (table s) (omega arith)
+  table-is t h = getD-up-to (sheet-table s) no-table 0 (table-count s) t h ∙ ap (sheet-table s) (omega arith)
 
   module _ (good : bad-record s ≡ none) where
     -- The tables from number i on start where those before end.
-    first-from : (i n t : ℕ) → t < n → i + n ≤ table-count s → first-column s i + first-entry (map (table s) (up-to i n)) t ≡ first-column s (i + t)
+    first-from : (i n t : ℕ) → t < n → i + n ≤ table-count s → first-column s i + first-entry (map (sheet-table s) (up-to i n)) t ≡ first-column s (i + t)
     first-from i zero t h k = absurd (omega arith)
     first-from i (suc n) zero h k = let e : i ≡ i + 0 = omega arith in omega (arith, ap (first-column s) e)
     first-from i (suc n) (suc t) h k =
@@ -55,7 +55,7 @@ module _ (s : List ℕ) where
         omega (arith, table-facts s good 0 (omega arith) .first, first-from 0 (table-count s) t h (omega arith), ap (first-column s) e)
 
     -- The columns of the tables from number i on.
-    columns-from : (i n : ℕ) → i + n ≤ table-count s → columns-before s i + entries (map (table s) (up-to i n)) ≡ columns-before s (i + n)
+    columns-from : (i n : ℕ) → i + n ≤ table-count s → columns-before s i + entries (map (sheet-table s) (up-to i n)) ≡ columns-before s (i + n)
     columns-from i zero k = let e : i ≡ i + 0 = omega arith in omega (arith, ap (columns-before s) e)
     columns-from i (suc n) k =
         let e : suc i + n ≡ i + suc n = omega arith in
@@ -81,10 +81,10 @@ module _ (s : List ℕ) where
     entries-are =
         let most = within-records (table-count s) refl in
         let e : 0 + table-count s ≡ table-count s = omega arith in
-        let all : entries (map (table s) (up-to 0 (table-count s))) ≡ columns-before s (table-count s) = omega (arith, columns-from 0 (table-count s) (omega arith), ap (columns-before s) e) in
+        let all : entries (map (sheet-table s) (up-to 0 (table-count s))) ≡ columns-before s (table-count s) = omega (arith, columns-from 0 (table-count s) (omega arith), ap (columns-before s) e) in
         go (column-count s) refl most all
       where
-        go : (n : ℕ) → column-count s ≡ n → columns-before s (table-count s) ≤ n → entries (map (table s) (up-to 0 (table-count s))) ≡ columns-before s (table-count s)
-            → entries (map (table s) (up-to 0 (table-count s))) ≡ n
+        go : (n : ℕ) → column-count s ≡ n → columns-before s (table-count s) ≤ n → entries (map (sheet-table s) (up-to 0 (table-count s))) ≡ columns-before s (table-count s)
+            → entries (map (sheet-table s) (up-to 0 (table-count s))) ≡ n
         go zero e most all = omega arith
         go (suc n) e most all = omega (arith, in-some-range n (omega arith))

@@ -6,7 +6,7 @@ use mathlib.Core.List.{[], _∷_}
 use mathlib.Core.Option.{none}
 use lib.IntN.{pos}
 use Rattle.value.specs.Value.{integer, Value, datum}
-use Rattle.value.specs.Meaning.{integer-bits}
+use Rattle.value.specs.Encoding.{integer-bits}
 use Rattle.sql.specs.Schema.{Integer, Column, Schema}
 use Rattle.sql.specs.Expression.{constant}
 use Rattle.sql.specs.Plan.{by-key, by-index, lookup, values, nested-loop, Node, leaf, join}

@@ -3,7 +3,7 @@ use Prim.Native.Nat.{ℕ}
 use mathlib.Core.List.{List, map}
 use Rattle.sql.specs.Plan.{Node}
 use Rattle.sheet.specs.Cell.{Cell}
-use Rattle.sheet.specs.Content.{marked}
+use Rattle.sheet.specs.AsCell.{marked}
 use Rattle.sheet.specs.Cells.{cells}
 use Rattle.sheet.specs.Write.{cells-bytes}
 use Rattle.fnv.specs.Fnv.{fnv-1a}

@@ -10,15 +10,16 @@ use lib.ListN.{length}
 use Rattle.sql.specs.Schema.{Table, Schema, table-of}
 use Rattle.sql.specs.Answer.{done}
 use Rattle.sql.specs.Plan.{Access, by-key, by-index, Leaf, scan, lookup, nothing, values, Node, leaf, over, join, sum, up-to, columns, node-size}
+use Rattle.sheet.specs.Bytes.{Bytes}
 use Rattle.sheet.specs.Parts.{table-count, bad-record}
 use Rattle.sheet.specs.Scope.{table-columns, leaf-outside, over-outside, outside}
 use Rattle.sheet.specs.Check.{text, schema, plan}
 use Rattle.sheet_laws.specs.Fits.{All, Content-fits, Each-leaf, Fits}
 use Rattle.sheet_laws.specs.Complete.{all-append}
-use Rattle.sheet_laws.specs.Counts.{first-of-none, unless-none}
+use Rattle.sheet_laws.specs.Counts.{or-else-none, unless-none}
 use Rattle.sheet_laws.specs.Accepted.{accepted}
 use Rattle.sheet_laws.specs.Layout.{table-facts}
-use Rattle.sheet_laws.specs.Plan.{Bytes, plan-fits}
+use Rattle.sheet_laws.specs.Plan.{plan-fits}
 use Rattle.beside.specs.Summary.{Lookup, leaf-lookups, lookups, lookup-constants, entries, column-by, entry-of, listed-for, figure, summary}
 use Rattle.beside.specs.Sums.{sum-map, sum-plus, sum-zero, once}
 use Rattle.beside.specs.Entries.{in-entries, columns-length, schema-length, table-is}
@@ -53,10 +54,10 @@ module _ (s : List ℕ) (good : bad-record s ≡ none) where
   pub each-entry : (n : Node) (at : ℕ) → Fits (text s) (table-count s) n → outside (schema s) at n ≡ none → All (Has-entry (schema s)) (lookups n)
   each-entry (leaf og l) at fits scope = leaf-entries l at fits scope
   each-entry (over og o n) at fits scope =
-      each-entry n at (fits .0) (first-of-none (outside (schema s) at n) (over-outside (schema s) (columns (schema s) n) (at + node-size n) o) scope .0)
+      each-entry n at (fits .0) (or-else-none (outside (schema s) at n) (over-outside (schema s) (columns (schema s) n) (at + node-size n) o) scope .0)
   each-entry (join og outer j l r) at fits scope =
-      let both = first-of-none (outside (schema s) at l) _ scope in
-      let right = first-of-none (outside (schema s) (at + node-size l) r) _ (both .1) in
+      let both = or-else-none (outside (schema s) at l) _ scope in
+      let right = or-else-none (outside (schema s) (at + node-size l) r) _ (both .1) in
       all-append (Has-entry (schema s)) (lookups l) (lookups r) (each-entry l at (fits .0) (both .0)) (each-entry r (at + node-size l) (fits .1 .0) (right .0))
 
 -- ---- a lookup's constants are counted at its entry, and at no other

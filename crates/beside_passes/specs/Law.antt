@@ -5,6 +5,7 @@ use mathlib.Core.Bool.{Bool, true, _||_, cond}
 use lib.Dec.{eqb}
 use Rattle.sql.specs.Schema.{Schema}
 use Rattle.sql.specs.Answer.{done}
+use Rattle.sql.specs.Mode.{Mode}
 use Rattle.sql.specs.Plan.{Node}
 use Rattle.sql.specs.Room
 use Rattle.room.specs.Six.{Six}
@@ -12,7 +13,7 @@ use Rattle.beside.specs.Mark.{mark}
 use Rattle.beside.specs.Summary.{lookups, figure, summary}
 use Rattle.beside.specs.Beside.{Beside, beside}
 
--- ---- each pass alone
+-- ---- each pass alone, in both modes
 
 -- Passes 1, 2 and 4 keep every lookup, in its place.
 abbrev pub keeps-lookups : ℕ → Bool
@@ -20,14 +21,14 @@ keeps-lookups pass = eqb pass 1 || (eqb pass 2 || eqb pass 4)
 
 abbrev pub Lookups-stay : Type 0
 Lookups-stay =
-    (room : ℕ) (schema : Schema) (pass : ℕ) → keeps-lookups pass ≡ true → (n m : Node) → Room.pass room schema pass n ≡ done m → lookups m ≡ lookups n
+    (mode : Mode) (room : ℕ) (schema : Schema) (pass : ℕ) → keeps-lookups pass ≡ true → (n m : Node) → Room.pass mode room schema pass n ≡ done m → lookups m ≡ lookups n
 
 -- Pass 3 only adds, pass 5 only takes away.
 abbrev pub Lookups-added : Type 0
-Lookups-added = (room : ℕ) (schema : Schema) (n m : Node) → Room.pass room schema 3 n ≡ done m → (entry : ℕ) → figure schema n entry ≤ figure schema m entry
+Lookups-added = (mode : Mode) (room : ℕ) (schema : Schema) (n m : Node) → Room.pass mode room schema 3 n ≡ done m → (entry : ℕ) → figure schema n entry ≤ figure schema m entry
 
 abbrev pub Lookups-removed : Type 0
-Lookups-removed = (room : ℕ) (schema : Schema) (n m : Node) → Room.pass room schema 5 n ≡ done m → (entry : ℕ) → figure schema m entry ≤ figure schema n entry
+Lookups-removed = (mode : Mode) (room : ℕ) (schema : Schema) (n m : Node) → Room.pass mode room schema 5 n ≡ done m → (entry : ℕ) → figure schema m entry ≤ figure schema n entry
 
 -- ---- all five: the pair is kept, and updated after each pass
 
@@ -43,4 +44,4 @@ kept schema plan (suc k) = updated schema (suc k) (kept schema plan k) (plan (su
 -- Of the six plans of all five passes: after each pass, the pair kept is what the plan itself gives. So it may be worked out once, at the end.
 abbrev pub Kept-is-own : Type 0
 Kept-is-own =
-    (room : ℕ) (schema : Schema) (given optimized : Node) (six : Six room schema given optimized) (k : ℕ) → k ≤ 5 → kept schema (six .plan) k ≡ beside schema (six .plan k)
+    (mode : Mode) (room : ℕ) (schema : Schema) (given optimized : Node) (six : Six mode room schema given optimized) (k : ℕ) → k ≤ 5 → kept schema (six .plan) k ≡ beside schema (six .plan k)

@@ -11,8 +11,10 @@ use Rattle.sql.specs.Schema.{Schema}
 use Rattle.sql.specs.Answer.{done, _>>=_}
 use Rattle.sql.specs.Expression.{Expression, into-cnf-vec, and-vec, shift-column-down}
 use Rattle.sql.specs.Plan.{Leaf, scan, lookup, nothing, values, limit, offset, order, projection, remap, aggregate, Over, filter, other, nested-loop, hash, Node, leaf, over, join, sum, up-to, columns, node-size, row-size}
-use Rattle.sql.specs.Optimizer.{map-sources, fold-each, fold-optional, fold-row, fold-leaf, fold-over, fold-join, ConstantFolding, push-into, pushed-or-back, push-part, push-left, push-right, map-optional, go-on, maybe-push-join, maybe-push-filter, push-filters, push-filters-from, FilterPushdown, index-lookup, IndexLookup, HashJoin, remove-useless, is-empty, verdict, is-always, is-noop, empty-or-node, short-circuit, ShortCircuit}
+use Rattle.sql.specs.Mode.{Mode}
+use Rattle.sql.specs.Optimizer.{fold-each, fold-optional, fold-row, fold-leaf, fold-over, fold-join, ConstantFolding, push-into, pushed-or-back, push-part, push-left, push-right, map-optional, maybe-push-join, maybe-push-filter-with, push-filters-from-with, FilterPushdown-with, FilterPushdown, index-lookup, IndexLookup-with, IndexLookup, HashJoin, remove-useless, is-empty, verdict, is-always, is-noop, empty-or-node, short-circuit, ShortCircuit}
 use Rattle.sql.specs.Room
+use Rattle.sql.specs.Without.{map-sources, go-on, maybe-push-filter, push-filters, push-filters-from}
 use Rattle.room.specs.Done.{done-same, after}
 use Rattle.room.specs.Same.{pushdown-same, lookup-same, circuit-same}
 use Rattle.beside.specs.Mark.{mark}
@@ -85,7 +87,7 @@ join-pushed schema (join og outer (nested-loop (some p)) left right) =
 join-pushed schema (join og outer (hash i k) left right) = refl
 
 filter-pushed : (schema : Schema) (k : ℕ) (n : Node) → lookups (maybe-push-filter schema k n) ≡ lookups n
-unfolding maybe-push-filter
+unfolding maybe-push-filter-with
 filter-pushed schema zero n = refl
 filter-pushed schema (suc k) (leaf og l) = refl
 filter-pushed schema (suc k) (over og (filter p) source) = go (push-into og p source) (pushed og p source) (filter-pushed schema k)
@@ -103,14 +105,14 @@ sources-mapped f h (over og o source) = h source
 sources-mapped f h (join og outer j left right) = ap₂ _++_ (h left) (h right)
 
 pushed-from : (schema : Schema) (k : ℕ) (n : Node) → lookups (push-filters-from schema k n) ≡ lookups n
-unfolding push-filters-from
+unfolding push-filters-from-with
 pushed-from schema zero n = refl
 pushed-from schema (suc k) n =
     sources-mapped (push-filters-from schema k) (pushed-from schema k) (push-filters schema (suc k) n)
     ∙ join-pushed schema (maybe-push-filter schema (suc k) n) ∙ filter-pushed schema (suc k) n
 
 pushed-down : (schema : Schema) (n : Node) → lookups (FilterPushdown schema n) ≡ lookups n
-unfolding FilterPushdown
+unfolding FilterPushdown-with
 pushed-down schema n = pushed-from schema (node-size n) n
 
 -- ---- pass 4
@@ -126,19 +128,19 @@ any-of false true c h first second third = second refl
 any-of false false c h first second third = third h
 
 pub lookups-stay : Lookups-stay
-lookups-stay room schema pass q n m h =
+lookups-stay mode room schema pass q n m h =
     any-of (eqb pass 1) (eqb pass 2) (eqb pass 4) q
     (λ e. folded 0 n m (numbered pass 1 (eqb-true pass 1 e) h))
     (λ e. ap lookups (sym (pushdown-same room schema 0 n m (numbered pass 2 (eqb-true pass 2 e) h))) ∙ pushed-down schema n)
     (λ e. ap lookups (sym (done-same (numbered pass 4 (eqb-true pass 4 e) h))) ∙ hashed schema n)
   where
-    numbered : (p q : ℕ) → p ≡ q → Room.pass room schema p n ≡ done m → Room.pass room schema q n ≡ done m
-    numbered p q e k = ap (λ (i : ℕ). Room.pass room schema i n) (sym e) ∙ k
+    numbered : (p q : ℕ) → p ≡ q → Room.pass mode room schema p n ≡ done m → Room.pass mode room schema q n ≡ done m
+    numbered p q e k = ap (λ (i : ℕ). Room.pass mode room schema i n) (sym e) ∙ k
 
 -- ---- pass 3: a Scan lists nothing, so whatever takes its place lists no less
 
-module _ (schema : Schema) (entry : ℕ) where
-  looked-up : (og : ℕ) (l : Leaf) → figure schema (leaf og l) entry ≤ figure schema (index-lookup schema og l) entry
+module _ (mode : Mode) (schema : Schema) (entry : ℕ) where
+  looked-up : (og : ℕ) (l : Leaf) → figure schema (leaf og l) entry ≤ figure schema (index-lookup mode schema og l) entry
   unfolding index-lookup
   looked-up og (scan t al none) = omega arith
   looked-up og (scan t al (some p)) = omega arith
@@ -146,8 +148,8 @@ module _ (schema : Schema) (entry : ℕ) where
   looked-up og (nothing ls) = omega arith
   looked-up og (values rs) = omega arith
 
-  added : (n : Node) → figure schema n entry ≤ figure schema (IndexLookup schema n) entry
-  unfolding IndexLookup
+  added : (n : Node) → figure schema n entry ≤ figure schema (IndexLookup mode schema n) entry
+  unfolding IndexLookup-with
   added (leaf og l) = looked-up og l
   added (over og o source) = added source
   added (join og outer j left right) =
@@ -156,11 +158,12 @@ module _ (schema : Schema) (entry : ℕ) where
         added left,
         added right,
         sum-append (listed-for schema entry) (lookups left) (lookups right),
-        sum-append (listed-for schema entry) (lookups (IndexLookup schema left)) (lookups (IndexLookup schema right)),
+        sum-append (listed-for schema entry) (lookups (IndexLookup mode schema left)) (lookups (IndexLookup mode schema right)),
       )
 
-  -- ---- pass 5: what is useless has no lookup of its own, and what is emptied has none at all
+-- ---- pass 5: what is useless has no lookup of its own, and what is emptied has none at all
 
+module _ (schema : Schema) (entry : ℕ) where
   by-test : (b : Bool) (og : ℕ) (o : Over) (source : Node) → lookups (cond b source (over og o source)) ≡ lookups source
   by-test true og o source = refl
   by-test false og o source = refl
@@ -202,11 +205,11 @@ module _ (schema : Schema) (entry : ℕ) where
       )
 
 pub lookups-added : Lookups-added
-lookups-added room schema n m h entry =
-    omega (arith, added schema entry n, ap (λ (k : Node). figure schema k entry) (lookup-same room schema 0 n m h))
+lookups-added mode room schema n m h entry =
+    omega (arith, added mode schema entry n, ap (λ (k : Node). figure schema k entry) (lookup-same mode room schema 0 n m h))
 
 pub lookups-removed : Lookups-removed
-lookups-removed room schema n m h entry =
+lookups-removed mode room schema n m h entry =
     omega (arith, removed schema entry n, ap (λ (k : Node). figure schema k entry) (circuit-same room schema 0 n m h))
 
 -- ---- all five
@@ -216,16 +219,16 @@ unfolding summary
 same-summary schema n m h = ap (λ (ls : List Lookup). map (λ (e : ℕ). sum (listed-for schema e) ls) (up-to 0 (entries schema))) (sym h)
 
 -- the pair that a pass leaves, of one that was the plan's own
-updated-is-own : (room : ℕ) (schema : Schema) (pass : ℕ) (pair : Beside) (n m : Node) → pair ≡ beside schema n → Room.pass room schema pass n ≡ done m
+updated-is-own : (mode : Mode) (room : ℕ) (schema : Schema) (pass : ℕ) (pair : Beside) (n m : Node) → pair ≡ beside schema n → Room.pass mode room schema pass n ≡ done m
     → updated schema pass pair m ≡ beside schema m
-updated-is-own room schema pass pair n m own h = ap (λ (ns : List ℕ). record { mark = mark m; summary = ns }) (go (keeps-lookups pass) refl)
+updated-is-own mode room schema pass pair n m own h = ap (λ (ns : List ℕ). record { mark = mark m; summary = ns }) (go (keeps-lookups pass) refl)
   where
     go : (b : Bool) → keeps-lookups pass ≡ b → cond b (pair .summary) (summary schema m) ≡ summary schema m
-    go true e = ap (λ (p : Beside). p .summary) own ∙ same-summary schema n m (lookups-stay room schema pass e n m h)
+    go true e = ap (λ (p : Beside). p .summary) own ∙ same-summary schema n m (lookups-stay mode room schema pass e n m h)
     go false e = refl
 
 pub kept-is-own : Kept-is-own
-kept-is-own room schema given optimized six zero h = refl
-kept-is-own room schema given optimized six (suc k) h =
-    updated-is-own room schema (suc k) (kept schema (six .plan) k) (six .plan k) (six .plan (suc k))
-    (kept-is-own room schema given optimized six k (omega arith)) (six .passed k (omega arith))
+kept-is-own mode room schema given optimized six zero h = refl
+kept-is-own mode room schema given optimized six (suc k) h =
+    updated-is-own mode room schema (suc k) (kept schema (six .plan) k) (six .plan k) (six .plan (suc k))
+    (kept-is-own mode room schema given optimized six k (omega arith)) (six .passed k (omega arith))
