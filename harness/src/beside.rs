@@ -75,15 +75,15 @@ pub fn check(bytes: &[u8], figures: &[u64]) -> Marked {
     beside(check::check(bytes), bytes, Vec::new(), figures)
 }
 
-/// One pass, on an output of this many bytes.
-pub fn one_pass(bytes: &[u8], pass: u32, capacity: usize, figures: &[u64]) -> Marked {
-    let (answer, output) = model::one_pass(bytes, pass, capacity);
+/// One pass in a mode by its number, on an output of this many bytes.
+pub fn one_pass(bytes: &[u8], mode: usize, pass: u32, capacity: usize, figures: &[u64]) -> Marked {
+    let (answer, output) = model::one_pass_in(bytes, mode, pass, capacity);
     beside(answer, &output.clone(), output, figures)
 }
 
-/// All five, on an output of this many bytes.
-pub fn all_five(bytes: &[u8], capacity: usize, figures: &[u64]) -> Marked {
-    let (answer, output) = model::all_five(bytes, capacity);
+/// All five in a mode by its number, on an output of this many bytes.
+pub fn all_five(bytes: &[u8], mode: usize, capacity: usize, figures: &[u64]) -> Marked {
+    let (answer, output) = model::all_five_in(bytes, mode, capacity);
     beside(answer, &output.clone(), output, figures)
 }
 
@@ -130,12 +130,12 @@ fn both_ways(bytes: &[u8]) -> Result<Vec<u64>, String> {
     Ok(figures)
 }
 
-/// The six plans of an accepted sheet: the pair both ways, and what each pass
-/// does to the summary. The number of plans reached, or what is wrong.
-pub fn agree(bytes: &[u8]) -> Result<u32, String> {
+/// The six plans of an accepted sheet in a mode: the pair both ways, and what
+/// each pass does to the summary. The number of plans reached, or what is wrong.
+pub fn agree(bytes: &[u8], mode: usize) -> Result<u32, String> {
     let (mut bytes, mut before) = (bytes.to_vec(), both_ways(bytes)?);
     for pass in 1..=5 {
-        let (answer, out) = model::one_pass(&bytes, pass, 45_332);
+        let (answer, out) = model::one_pass_in(&bytes, mode, pass, 45_332);
         if answer.number != 0 {
             return Ok(pass);
         }
@@ -147,7 +147,7 @@ pub fn agree(bytes: &[u8]) -> Result<u32, String> {
             _ => before == after,
         };
         if !as_said {
-            return Err(format!("pass {pass}: from {before:?} to {after:?}"));
+            return Err(format!("mode {mode}, pass {pass}: from {before:?} to {after:?}"));
         }
         (bytes, before) = (out, after);
     }
@@ -184,10 +184,11 @@ mod tests {
             figures: figures.to_vec(),
         };
         assert_eq!(check(&sheet, &[]), refused(15, 1, &[]));
-        assert_eq!(one_pass(&sheet, 6, 0, &[]), refused(1, 0, &[]));
-        assert_eq!(one_pass(&sheet, 4, 83, &[]), refused(15, 84, &[]));
-        assert_eq!(one_pass(&sheet, 4, 84, &[]), refused(15, 1, &[]));
-        let all = all_five(&sheet, 84, &[7, 9]);
+        assert_eq!(one_pass(&sheet, 2, 6, 0, &[]), refused(17, 0, &[]));
+        assert_eq!(one_pass(&sheet, 1, 6, 0, &[]), refused(1, 0, &[]));
+        assert_eq!(one_pass(&sheet, 1, 4, 83, &[]), refused(15, 84, &[]));
+        assert_eq!(one_pass(&sheet, 0, 4, 84, &[]), refused(15, 1, &[]));
+        let all = all_five(&sheet, 0, 84, &[7, 9]);
         assert_eq!((all.answer.number, all.mark, all.figures), (0, 0xFB7A_9181_6A31_3754, vec![1, 9]));
         assert_eq!(all.output, sheet);
     }

@@ -5,27 +5,28 @@ use borrow.Author.Tests.{eqb-true, eq-eqb, ltb-true, ltb-false, leb-true, le-leb
 use mathlib.Core.Path.{_≡_, refl, sym, ap, _∙_}
 use mathlib.Core.Bool.{Bool, true, false, _&&_, cond}
 use mathlib.Core.List.{List, [], _++_}
+use mathlib.Core.Option.{Option, none, some}
 use mathlib.Core.Logic.{_⊎_, inl, inr}
 use lib.Dec.{leb, ltb, eqb}
 use lib.ListN.{length, take, drop, length-append}
 use lib.Seq.{take-append-seam}
 use Rattle.sql.specs.Answer.{Answer, done, refused, _>>=_}
-use Rattle.sql.specs.Plan.{Node}
-use Rattle.sql.specs.Room.{max-cells}
+use Rattle.sql.specs.Mode.{Mode, mode-of}
+use Rattle.sql.specs.Plan.{Node, max-cells}
 use Rattle.sql.specs.Room
 use Rattle.room.specs.Done.{after}
 use Rattle.sheet.specs.Parts.{cells-at, column-count}
-use Rattle.sheet.specs.Bytes.{bytes}
+use Rattle.sheet.specs.Bytes.{Bytes, bytes}
 use Rattle.sheet.specs.Cells.{cells}
-use Rattle.sheet.specs.Check.{Numbers, refusal, schema, plan}
+use Rattle.sheet.specs.Check.{Numbers, refusal, refuse, schema, plan}
+use Rattle.sheet.specs.Check as Before
 use Rattle.sheet.specs.Write.{cells-bytes, trailer, sheet-with, write}
-use Rattle.sheet.specs.Operations.{refuse, written, hand-out}
-use Rattle.sheet.specs.Operations as Before
+use Rattle.sheet.specs.Operations.{written, hand-out, one-pass-in, all-five-in, in-mode}
+use Rattle.sheet.specs.Operations as Handed
 use Rattle.sheet_laws.specs.Content.{and-left, and-right}
-use Rattle.sheet_laws.specs.Plan.{Bytes}
 use Rattle.sound.specs.Refusals.{Refused-by, From-to, refused-then, refused-weaker, plan-refused, pass-refused, optimize-refused}
 use Rattle.sound.specs.HandedOut.{pass-handed-out, optimize-handed-out}
-use Rattle.beside_answers.specs.Operations.{Outcome, unmarked, marked, with-beside}
+use Rattle.beside_answers.specs.Operations.{Outcome, unmarked, marked, with-beside, answer-in, passed, optimized}
 
 -- ---- an operation that hands out a sheet
 
@@ -42,46 +43,72 @@ pub record Hands (s : List ℕ) (f : List ℕ → Before.Outcome) (answer : Answ
   pub refusals : Refused-by (From-to 2 14) answer
   pub handed : (m : Node) → answer ≡ done m → Written-again s m
 
--- Or it refuses by 1, whatever the output.
+-- Or it refuses by a mode or a pass that there isn't, whatever the output.
+pub record Refuses (f : List ℕ → Before.Outcome) : Type 0 where
+  pub number : ℕ
+  pub some-number : number ≡ 0 → ⊥
+  pub not-for-room : number ≡ 15 → ⊥
+  pub is : (out : List ℕ) → f out ≡ refuse out number 0
+
 abbrev pub Operation : (s : List ℕ) (f : List ℕ → Before.Outcome) (answer : Answer Node) → Type 0
-Operation s f answer = Hands s f answer ⊎ ((out : List ℕ) → f out ≡ refuse out 1 0)
+Operation s f answer = Hands s f answer ⊎ Refuses f
 
 refusals-of : (s : List ℕ) (g : Node → Answer Node) → ((n : Node) → Refused-by (From-to 11 14) (g n)) → Refused-by (From-to 2 14) (plan s >>= g)
 refusals-of s g h =
     refused-then (From-to 2 14) (plan s) g (refused-weaker (From-to 2 10) (From-to 2 14) (λ k x. let (p, q) = x in (p, omega arith)) (plan s) (plan-refused s))
     (λ n. refused-weaker (From-to 11 14) (From-to 2 14) (λ k x. let (p, q) = x in (omega arith, q)) (g n) (h n))
 
-pub pass-operation : (s : List ℕ) → Bytes s → (k : ℕ) → Operation s (Before.one-pass s k) (plan s >>= Room.pass max-cells (schema s) k)
-unfolding Before.one-pass
-pass-operation s b k = go (leb 1 k && leb k 5) refl
-  where
-    answer : Answer Node
-    answer = plan s >>= Room.pass max-cells (schema s) k
+-- in a mode by its number, from the same in each mode
+in-mode-operation : (s : List ℕ) (f : Mode → List ℕ → Before.Outcome) (g : Mode → Answer Node) → ((m : Mode) → Operation s (f m) (g m))
+    → (o : Option Mode) → Operation s (λ out. in-mode o (λ m. f m out) out) (answer-in o g)
+in-mode-operation s f g h none = inr (record { number = 17; some-number = λ z. omega arith; not-for-room = λ z. omega arith; is = λ out. refl })
+in-mode-operation s f g h (some m) = h m
 
-    go : (t : Bool) → (leb 1 k && leb k 5) ≡ t → Operation s (Before.one-pass s k) answer
-    go true h =
-        inl (record {
-          is = λ out. ap (λ (z : Bool). cond z (hand-out s out answer) (refuse out 1 0)) h;
-          refusals = refusals-of s (Room.pass max-cells (schema s) k)
-              (pass-refused max-cells (schema s) k (leb-true 1 k (and-left (leb 1 k) (leb k 5) h)) (leb-true k 5 (and-right (leb 1 k) (leb k 5) h)));
-          handed = λ m e.
-              let a = after (plan s) (Room.pass max-cells (schema s) k) m e in
-              let w = pass-handed-out s b (a .of) (a .first) k m (a .second) in
-              record { of = a .of; given = a .first; stands-for = w .stands-for; same-schema = w .same-schema };
-        })
-    go false h = inr (λ out. ap (λ (z : Bool). cond z (hand-out s out answer) (refuse out 1 0)) h)
+module _ (s : List ℕ) (b : Bytes s) where
+  pass-in : (k : ℕ) (mode : Mode) → Operation s (one-pass-in mode s k) (plan s >>= Room.pass mode max-cells (schema s) k)
+  unfolding one-pass-in
+  pass-in k mode = go (leb 1 k && leb k 5) refl
+    where
+      answer : Answer Node
+      answer = plan s >>= Room.pass mode max-cells (schema s) k
 
-pub five-operation : (s : List ℕ) → Bytes s → Operation s (Before.all-five s) (plan s >>= Room.optimize max-cells (schema s))
-unfolding Before.all-five
-five-operation s b =
-    inl (record {
-      is = λ out. refl;
-      refusals = refusals-of s (Room.optimize max-cells (schema s)) (optimize-refused max-cells (schema s));
-      handed = λ m e.
-          let a = after (plan s) (Room.optimize max-cells (schema s)) m e in
-          let w = optimize-handed-out s b (a .of) (a .first) m (a .second) in
-          record { of = a .of; given = a .first; stands-for = w .stands-for; same-schema = w .same-schema };
-    })
+      go : (t : Bool) → (leb 1 k && leb k 5) ≡ t → Operation s (one-pass-in mode s k) answer
+      go true h =
+          inl (record {
+            is = λ out. ap (λ (z : Bool). cond z (hand-out s out answer) (refuse out 1 0)) h;
+            refusals = refusals-of s (Room.pass mode max-cells (schema s) k)
+                (pass-refused mode max-cells (schema s) k (leb-true 1 k (and-left (leb 1 k) (leb k 5) h)) (leb-true k 5 (and-right (leb 1 k) (leb k 5) h)));
+            handed = λ m e.
+                let a = after (plan s) (Room.pass mode max-cells (schema s) k) m e in
+                let w = pass-handed-out s b (a .of) (a .first) mode k m (a .second) in
+                record { of = a .of; given = a .first; stands-for = w .stands-for; same-schema = w .same-schema };
+          })
+      go false h =
+          inr (record {
+            number = 1;
+            some-number = λ z. omega arith;
+            not-for-room = λ z. omega arith;
+            is = λ out. ap (λ (z : Bool). cond z (hand-out s out answer) (refuse out 1 0)) h;
+          })
+
+  five-in : (mode : Mode) → Operation s (all-five-in mode s) (plan s >>= Room.optimize mode max-cells (schema s))
+  unfolding all-five-in
+  five-in mode =
+      inl (record {
+        is = λ out. refl;
+        refusals = refusals-of s (Room.optimize mode max-cells (schema s)) (optimize-refused mode max-cells (schema s));
+        handed = λ m e.
+            let a = after (plan s) (Room.optimize mode max-cells (schema s)) m e in
+            let w = optimize-handed-out s b (a .of) (a .first) mode m (a .second) in
+            record { of = a .of; given = a .first; stands-for = w .stands-for; same-schema = w .same-schema };
+      })
+
+  pub pass-operation : (mode k : ℕ) → Operation s (Handed.one-pass s mode k) (passed s mode k)
+  pass-operation mode k =
+      in-mode-operation s (λ m. one-pass-in m s k) (λ m. plan s >>= Room.pass m max-cells (schema s) k) (pass-in k) (mode-of mode)
+
+  pub five-operation : (mode : ℕ) → Operation s (Handed.all-five s mode) (optimized s mode)
+  five-operation mode = in-mode-operation s (λ m. all-five-in m s) (λ m. plan s >>= Room.optimize m max-cells (schema s)) five-in (mode-of mode)
 
 -- ---- refusals as before
 
@@ -120,7 +147,7 @@ pub record Success (s out : List ℕ) (answer : Answer Node) (o : Before.Outcome
 
 pub succeeded : (s : List ℕ) (f : List ℕ → Before.Outcome) (answer : Answer Node) → Operation s f answer → (out : List ℕ) (o : Before.Outcome) → o ≡ f out → o .numbers .number ≡ 0
     → Success s out answer o
-succeeded s f answer (inr r) out o is z = absurd (let one = ap (λ (x : Before.Outcome). x .numbers .number) (is ∙ r out) in omega arith)
+succeeded s f answer (inr r) out o is z = absurd (r .some-number (sym (ap (λ (x : Before.Outcome). x .numbers .number) (is ∙ r .is out)) ∙ z))
 succeeded s f answer (inl h) out o is z = go answer refl (h .refusals) (is ∙ h .is out)
   where
     by-room : (m : Node) → answer ≡ done m → (b : Bool) → leb (length (write s m)) (length out) ≡ b → o ≡ written s out m (write s m) b → Success s out answer o
@@ -195,7 +222,7 @@ module _ (s : List ℕ) (f : List ℕ → Before.Outcome) (answer : Answer Node)
       ∙ short-stands s out figures (f out) answer m e (ap (λ (o : Before.Outcome). o .numbers .number) success-is) (omega arith)
 
   pub short-answer : Operation s f answer → answered (short-numbers (f [] .numbers) (length out) columns) ≡ with-beside s out figures (f out) answer
-  short-answer (inr r) = refused-so 1 0 (λ z. omega arith) (λ z. omega arith) (r []) (r out)
+  short-answer (inr r) = refused-so (r .number) 0 (r .some-number) (r .not-for-room) (r .is []) (r .is out)
   short-answer (inl h) = go answer refl (h .refusals)
     where
       go : (r : Answer Node) → answer ≡ r → Refused-by (From-to 2 14) r → answered (short-numbers (f [] .numbers) (length out) columns) ≡ with-beside s out figures (f out) answer

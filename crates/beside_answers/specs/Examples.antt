@@ -3,12 +3,12 @@ use mathlib.Core.Path.{_≡_, refl}
 use mathlib.Core.List.{List, [], _∷_, _++_}
 use Prim.Native.Nat.{ℕ}
 use lib.ListN.{replicate}
-use Rattle.value.specs.Meaning.{integer-bits, integer-of-bits}
-use Rattle.sql.specs.Room
+use Rattle.value.specs.Encoding.{integer-bits, integer-of-bits}
 use Rattle.sql.specs.Optimizer
 use Rattle.sheet.specs.Bytes.{half, word, bytes}
 use Rattle.sheet.specs.Parts.{length-ok, edition-ok, parts-ok, table-ok, column-ok, bad-record}
-use Rattle.sheet.specs.Cell.{cell, cell-ok, bad-cell}
+use Rattle.sheet.specs.Cell.{cell}
+use Rattle.sheet.specs.Content.{cell-ok, bad-cell}
 use Rattle.sheet.specs.Tree.{read}
 use Rattle.sheet.specs.Check.{refusal}
 use Rattle.sheet.specs.Check as Before
@@ -44,21 +44,25 @@ array-short : check looked-up [] ≡ refused-with 15 1 [] []
 unfolding check Before.check half word bytes cells-bytes length-ok edition-ok parts-ok table-ok column-ok bad-record bad-cell cell-ok cell read mark summary integer-of-bits integer-bits
 array-short = refl
 
--- a pass that there isn't comes first, then the output's own 15, then the array's
-no-such-pass : one-pass looked-up 6 (255 ∷ []) [] ≡ refused-with 1 0 (255 ∷ []) []
-unfolding one-pass Handed.one-pass half word bytes cells-bytes length-ok edition-ok parts-ok table-ok column-ok bad-record bad-cell cell-ok cell read mark summary integer-of-bits integer-bits
+-- A mode that there isn't comes first, then a pass that there isn't, then the output's own 15, then the array's
+no-such-mode : one-pass looked-up 2 6 (255 ∷ []) [] ≡ refused-with 17 0 (255 ∷ []) []
+unfolding one-pass
+no-such-mode = refl
+
+no-such-pass : one-pass looked-up 1 6 (255 ∷ []) [] ≡ refused-with 1 0 (255 ∷ []) []
+unfolding one-pass Handed.one-pass-in half word bytes cells-bytes length-ok edition-ok parts-ok table-ok column-ok bad-record bad-cell cell-ok cell read mark summary integer-of-bits integer-bits
 no-such-pass = refl
 
-both-short : one-pass looked-up 4 (255 ∷ []) [] ≡ refused-with 15 84 (255 ∷ []) []
-unfolding one-pass Handed.one-pass half word bytes cells-bytes length-ok edition-ok parts-ok table-ok column-ok bad-record bad-cell cell-ok cell read mark summary integer-of-bits integer-bits
+both-short : one-pass looked-up 1 4 (255 ∷ []) [] ≡ refused-with 15 84 (255 ∷ []) []
+unfolding one-pass Handed.one-pass-in half word bytes cells-bytes length-ok edition-ok parts-ok table-ok column-ok bad-record bad-cell cell-ok cell read mark summary integer-of-bits integer-bits
 both-short = refl
 
-output-left : one-pass looked-up 4 (replicate 84 255) [] ≡ refused-with 15 1 (replicate 84 255) []
-unfolding one-pass Handed.one-pass half word bytes cells-bytes length-ok edition-ok parts-ok table-ok column-ok bad-record bad-cell cell-ok cell read mark summary integer-of-bits integer-bits
+output-left : one-pass looked-up 0 4 (replicate 84 255) [] ≡ refused-with 15 1 (replicate 84 255) []
+unfolding one-pass Handed.one-pass-in half word bytes cells-bytes length-ok edition-ok parts-ok table-ok column-ok bad-record bad-cell cell-ok cell read mark summary integer-of-bits integer-bits
 output-left = refl
 
 -- All five leave the plan as it is: the same bytes, the same mark.
-handed-out : all-five looked-up (replicate 85 255) (7 ∷ 9 ∷ [])
+handed-out : all-five looked-up 0 (replicate 85 255) (7 ∷ 9 ∷ [])
     ≡ record { numbers = record { number = 0; place = 0; length = 84; cells = 2; columns = 1 }; mark = its-mark; output = looked-up ++ (255 ∷ []); figures = 1 ∷ 9 ∷ [] }
-unfolding all-five Handed.all-five half word bytes cells-bytes length-ok edition-ok parts-ok table-ok column-ok bad-record bad-cell cell-ok cell read mark summary Room.FilterPushdown Room.push-filters-from Room.maybe-push-filter Room.maybe-push-join Optimizer.maybe-push-join Room.IndexLookup Room.index-lookup Optimizer.index-lookup Room.ShortCircuit Room.short-circuit integer-of-bits integer-bits
+unfolding all-five Handed.all-five-in half word bytes cells-bytes length-ok edition-ok parts-ok table-ok column-ok bad-record bad-cell cell-ok cell read mark summary Optimizer.FilterPushdown-with Optimizer.push-filters-from-with Optimizer.maybe-push-filter-with Optimizer.maybe-push-join Optimizer.IndexLookup-with Optimizer.index-lookup integer-of-bits integer-bits
 handed-out = refl

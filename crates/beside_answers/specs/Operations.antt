@@ -4,17 +4,17 @@
 use Prim.Native.Nat.{ℕ}
 use mathlib.Core.Bool.{Bool, true, false, cond}
 use mathlib.Core.List.{List, [], _++_}
+use mathlib.Core.Option.{Option, none, some}
 use lib.Dec.{leb, eqb}
 use lib.ListN.{length, drop}
 use Rattle.sql.specs.Answer.{Answer, done, refused, _>>=_}
-use Rattle.sql.specs.Plan.{Node}
-use Rattle.sql.specs.Room.{max-cells}
+use Rattle.sql.specs.Mode.{Mode, mode-of}
+use Rattle.sql.specs.Plan.{Node, max-cells}
 use Rattle.sql.specs.Room
 use Rattle.sheet.specs.Parts.{column-count}
-use Rattle.sheet.specs.Check.{Numbers, schema, plan}
-use Rattle.sheet.specs.Check
-use Rattle.sheet.specs.Operations.{refuse}
-use Rattle.sheet.specs.Operations as Before
+use Rattle.sheet.specs.Check.{Numbers, refuse, schema, plan}
+use Rattle.sheet.specs.Check as Before
+use Rattle.sheet.specs.Operations as Handed
 use Rattle.beside.specs.Mark.{mark}
 use Rattle.beside.specs.Summary.{summary}
 
@@ -48,10 +48,21 @@ with-beside s out figures o (done node) =
 
 -- Check has no output.
 unfoldable pub check : (s figures : List ℕ) → Outcome
-check s figures = with-beside s [] figures (record { numbers = Check.check s; output = [] }) (plan s)
+check s figures = with-beside s [] figures (record { numbers = Before.check s; output = [] }) (plan s)
 
-unfoldable pub one-pass : (s : List ℕ) → ℕ → (out figures : List ℕ) → Outcome
-one-pass s k out figures = with-beside s out figures (Before.one-pass s k out) (plan s >>= Room.pass max-cells (schema s) k)
+-- In a mode that there isn't, there is no plan.
+abbrev pub answer-in : Option Mode → (Mode → Answer Node) → Answer Node
+answer-in none f = refused 17 0
+answer-in (some mode) f = f mode
 
-unfoldable pub all-five : (s out figures : List ℕ) → Outcome
-all-five s out figures = with-beside s out figures (Before.all-five s out) (plan s >>= Room.optimize max-cells (schema s))
+abbrev pub passed : (s : List ℕ) → (mode k : ℕ) → Answer Node
+passed s mode k = answer-in (mode-of mode) (λ m. plan s >>= Room.pass m max-cells (schema s) k)
+
+abbrev pub optimized : (s : List ℕ) → (mode : ℕ) → Answer Node
+optimized s mode = answer-in (mode-of mode) (λ m. plan s >>= Room.optimize m max-cells (schema s))
+
+unfoldable pub one-pass : (s : List ℕ) → (mode k : ℕ) → (out figures : List ℕ) → Outcome
+one-pass s mode k out figures = with-beside s out figures (Handed.one-pass s mode k out) (passed s mode k)
+
+unfoldable pub all-five : (s : List ℕ) → (mode : ℕ) → (out figures : List ℕ) → Outcome
+all-five s mode out figures = with-beside s out figures (Handed.all-five s mode out) (optimized s mode)

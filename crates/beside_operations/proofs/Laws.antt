@@ -7,18 +7,16 @@ use mathlib.Core.Bool.{Bool, true, false, cond}
 use mathlib.Core.List.{List, [], _++_}
 use lib.Dec.{eqb, ltb}
 use lib.ListN.{length, take, drop}
-use Rattle.sql.specs.Answer.{Answer, done, refused, _>>=_}
+use Rattle.sql.specs.Answer.{Answer, done}
 use Rattle.sql.specs.Schema.{Schema}
 use Rattle.sql.specs.Plan.{Node}
-use Rattle.sql.specs.Room
+use Rattle.sheet.specs.Bytes.{Bytes}
 use Rattle.sheet.specs.Parts.{length-ok, parts-ok, column-count}
-use Rattle.sheet.specs.Check.{Numbers, refusal, schema, plan, cells-of, checked}
-use Rattle.sheet.specs.Check
-use Rattle.sheet.specs.Operations as Before
+use Rattle.sheet.specs.Check.{Numbers, refusal, schema, plan, cells-of}
+use Rattle.sheet.specs.Check as Before
+use Rattle.sheet.specs.Operations as Handed
 use Rattle.sheet_laws.specs.Accepted.{accepted}
-use Rattle.sheet_laws.specs.Plan.{Bytes, plan-cells}
-use Rattle.sound.specs.Refusals.{Refused-by, From-to, plan-refused}
-use Rattle.layout.specs.Layout.{Whole}
+use Rattle.sheet_laws.specs.Plan.{plan-cells}
 use Rattle.checker.specs.Checker.{numbers}
 use Rattle.checker.specs.Checker
 use Rattle.checker.specs.declared.Answer as Code
@@ -26,16 +24,15 @@ use Rattle.beside.specs.Mark.{cells-mark, mark}
 use Rattle.beside.specs.Summary.{entries, summary}
 use Rattle.beside.specs.Entries.{entries-are}
 use Rattle.summary.specs.Summing.{Summable}
-use Rattle.beside_answers.specs.Operations.{Outcome, unmarked, with-beside}
+use Rattle.beside_answers.specs.Operations.{Outcome, unmarked, with-beside, passed, optimized}
 use Rattle.beside_answers.specs.Operations
+use Rattle.beside_answers.specs.Proof.{stands-for}
 use Rattle.beside_answers.specs.Answers.{Operation, refused-stays, marked-stands, short-stands, Success, succeeded, short-numbers, short-answer}
-use Rattle.beside_operations.specs.Code.{outcome, Says, Columns-in, Puts-beside}
+use Rattle.beside_operations.specs.Returned.{outcome}
+use Rattle.beside_operations.specs.Code.{Says, Columns-in, Puts-beside}
 use Rattle.beside_operations.specs.declared.Marked.{Marked}
 
 -- ---- what is known of a sheet
-
-pub whole : (s : List ℕ) (n : Node) → plan s ≡ done n → Whole s
-whole s n h = let a = accepted s n h in record { length-is = a .length-is; parts-are = a .parts-are }
 
 -- A sheet whose length or parts aren't right is not accepted.
 never : {A : Type 0} (b : Bool) → b ≡ true → b ≡ false → A
@@ -50,15 +47,6 @@ not-in-parts s n f node h = never (parts-ok s) (accepted s node h .parts-are) f
 pub sheet-mark : (s : List ℕ) → Bytes s → (n : Node) → plan s ≡ done n → cells-mark (cells-of s) ≡ mark n
 unfolding mark
 sheet-mark s b n h = ap cells-mark (plan-cells s b n h)
-
--- A sheet that check accepts stands for a plan.
-pub stands-for : (s : List ℕ) → Check.check s .number ≡ 0 → (n : Node) × (plan s ≡ done n)
-unfolding Check.check
-stands-for s = go (plan s) refl (plan-refused s)
-  where
-    go : (r : Answer Node) → plan s ≡ r → Refused-by (From-to 2 10) r → checked s r .number ≡ 0 → (n : Node) × (plan s ≡ done n)
-    go (done n) h x z = (n, h)
-    go (refused number place) h x z = absurd (let (p, q) = x in omega arith)
 
 -- Accepted sheets with the same tables have as many column records.
 same-columns : (s w : List ℕ) (n m : Node) → plan s ≡ done n → plan w ≡ done m → schema w ≡ schema s → column-count w ≡ column-count s
@@ -96,6 +84,10 @@ module _ (n : Numbers) (room columns : ℕ) where
 unmarked-is : (r : Marked) (out figures : List ℕ) (n : Numbers) → Says n 0 r → outcome r out figures ≡ unmarked figures (record { numbers = n; output = out })
 unmarked-is r out figures n h = ap₂ (λ (x : Numbers) (m : ℕ). record { numbers = x; mark = m; output = out; figures = figures }) (h .numbers-are) (h .mark-is)
 
+-- an operation that gives no mark and has no array
+pub stays-unmarked : (a : Code.Answer) (r : Marked) (out : List ℕ) (o : Before.Outcome) → Says (numbers a) 0 r → Checker.outcome a out ≡ o → outcome r out [] ≡ unmarked [] o
+stays-unmarked a r out o says is = unmarked-is r out [] (numbers a) says ∙ ap (unmarked []) is
+
 marked-is : (r : Marked) (out figures after : List ℕ) (n : Numbers) (m : ℕ) → Says n m r → figures ≡ after
     → outcome r out figures ≡ record { numbers = n; mark = m; output = out; figures = after }
 marked-is r out figures after n m h e =
@@ -104,7 +96,7 @@ marked-is r out figures after n m h e =
 
 -- ---- check
 
-module _ (s figures : List ℕ) (a : Code.Answer) (is : numbers a ≡ Check.check s) where
+module _ (s figures : List ℕ) (a : Code.Answer) (is : numbers a ≡ Before.check s) where
   abbrev o : Before.Outcome
   o = record { numbers = numbers a; output = [] }
 
@@ -194,10 +186,10 @@ module _ (s : List ℕ) (f : List ℕ → Before.Outcome) (answer : Answer Node)
 
 -- ---- one pass, and all five
 
-pub pass-is : (s : List ℕ) (k : ℕ) (out figures : List ℕ) → with-beside s out figures (Before.one-pass s k out) (plan s >>= Room.pass Room.max-cells (schema s) k) ≡ Operations.one-pass s k out figures
+pub pass-is : (s : List ℕ) (mode k : ℕ) (out figures : List ℕ) → with-beside s out figures (Handed.one-pass s mode k out) (passed s mode k) ≡ Operations.one-pass s mode k out figures
 unfolding Operations.one-pass
-pass-is s k out figures = refl
+pass-is s mode k out figures = refl
 
-pub five-is : (s out figures : List ℕ) → with-beside s out figures (Before.all-five s out) (plan s >>= Room.optimize Room.max-cells (schema s)) ≡ Operations.all-five s out figures
+pub five-is : (s : List ℕ) (mode : ℕ) (out figures : List ℕ) → with-beside s out figures (Handed.all-five s mode out) (optimized s mode) ≡ Operations.all-five s mode out figures
 unfolding Operations.all-five
-five-is s out figures = refl
+five-is s mode out figures = refl

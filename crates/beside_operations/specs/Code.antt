@@ -1,4 +1,4 @@
--- What the code returns, set beside the definitions.
+-- What the functions below the operations answer.
 use Prim.Native.Nat.{ℕ}
 use mathlib.Core.Path.{_≡_}
 use mathlib.Core.List.{List, _++_}
@@ -7,18 +7,10 @@ use Rattle.sql.specs.Answer.{done}
 use Rattle.sql.specs.Plan.{Node}
 use Rattle.sheet.specs.Parts.{column-count}
 use Rattle.sheet.specs.Check.{Numbers, schema, plan}
-use Rattle.checker.specs.declared.Answer.{Answer}
 use Rattle.beside.specs.Mark.{mark}
 use Rattle.beside.specs.Summary.{summary}
-use Rattle.beside_answers.specs.Operations.{Outcome}
+use Rattle.beside_operations.specs.Returned.{marked-numbers}
 use Rattle.beside_operations.specs.declared.Marked.{Marked}
-
-abbrev pub marked-numbers : Marked → Numbers
-marked-numbers r = record { number = r .number; place = r .place; length = r .length; cells = r .cells; columns = r .columns }
-
--- What the code returns, and what its output and its array hold then.
-abbrev pub outcome : Marked → (out figures : List ℕ) → Outcome
-outcome r out figures = record { numbers = marked-numbers r; mark = r .mark; output = out; figures = figures }
 
 -- r has these numbers and this mark.
 pub record Says (numbers : Numbers) (mark : ℕ) (r : Marked) : Type 0 where

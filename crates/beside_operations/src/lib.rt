@@ -7,9 +7,10 @@ ghost use Rattle.summary.specs.Summing.{Summable};
 ghost use Rattle.checker.specs.Checker.{numbers};
 ghost use Rattle.beside_answers.specs.Operations;
 ghost use Rattle.beside_answers.specs.Answers.{short-numbers};
-ghost use Rattle.beside_operations.specs.Code.{outcome, Says, Columns-in, Puts-beside};
+ghost use Rattle.beside_operations.specs.Returned.{outcome};
+ghost use Rattle.beside_operations.specs.Code.{Says, Columns-in, Puts-beside};
 
-// An answer as before, and the mark of the plan: 0 with a refusal.
+// An answer as before, and the mark of the plan: 0 with a refusal, and from the operations that give none.
 #[repr(C)]
 pub struct Marked {
     pub number: usize,
@@ -20,7 +21,7 @@ pub struct Marked {
     pub mark: u64,
 }
 
-fn with_mark(a: Answer, mark: u64) -> Marked
+pub fn with_mark(a: Answer, mark: u64) -> Marked
     ensures { λ r. ⌜ Says (numbers a) mark r ⌝ }
 {
     Marked {
@@ -82,17 +83,17 @@ pub fn check(s: &[u8], figures: &mut [u64]) -> Marked
     put_beside(s, a, figures)
 }
 
-// One pass by its number, 1 to 5.
-pub fn pass(s: &[u8], k: usize, out: &mut [u8], figures: &mut [u64]) -> Marked
-    ensures { λ r. ⌜ outcome r (now (out .exit)) (now (figures .exit)) ≡ Operations.one-pass (now (s .entry)) k (now (out .entry)) (now (figures .entry)) ⌝ }
+// One pass by its number, 1 to 5, in a mode by its number, 0 plain and 1 house.
+pub fn pass(s: &[u8], mode: usize, k: usize, out: &mut [u8], figures: &mut [u64]) -> Marked
+    ensures { λ r. ⌜ outcome r (now (out .exit)) (now (figures .exit)) ≡ Operations.one-pass (now (s .entry)) mode k (now (out .entry)) (now (figures .entry)) ⌝ }
 {
     let columns = columns_in(s);
     if figures.len() < columns {
         let mut nothing = [0u8; 0];
-        let a = operations::pass(s, k, &mut nothing);
+        let a = operations::pass(s, mode, k, &mut nothing);
         return without_figures(a, out.len(), columns);
     }
-    let a = operations::pass(s, k, out);
+    let a = operations::pass(s, mode, k, out);
     if a.number != 0 {
         return with_mark(a, 0);
     }
@@ -101,16 +102,16 @@ pub fn pass(s: &[u8], k: usize, out: &mut [u8], figures: &mut [u64]) -> Marked
 }
 
 // All five in turn.
-pub fn optimize(s: &[u8], out: &mut [u8], figures: &mut [u64]) -> Marked
-    ensures { λ r. ⌜ outcome r (now (out .exit)) (now (figures .exit)) ≡ Operations.all-five (now (s .entry)) (now (out .entry)) (now (figures .entry)) ⌝ }
+pub fn optimize(s: &[u8], mode: usize, out: &mut [u8], figures: &mut [u64]) -> Marked
+    ensures { λ r. ⌜ outcome r (now (out .exit)) (now (figures .exit)) ≡ Operations.all-five (now (s .entry)) mode (now (out .entry)) (now (figures .entry)) ⌝ }
 {
     let columns = columns_in(s);
     if figures.len() < columns {
         let mut nothing = [0u8; 0];
-        let a = operations::optimize(s, &mut nothing);
+        let a = operations::optimize(s, mode, &mut nothing);
         return without_figures(a, out.len(), columns);
     }
-    let a = operations::optimize(s, out);
+    let a = operations::optimize(s, mode, out);
     if a.number != 0 {
         return with_mark(a, 0);
     }

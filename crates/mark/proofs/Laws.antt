@@ -9,7 +9,7 @@ use Rattle.sql.specs.Plan.{up-to}
 use Rattle.sheet.specs.Bytes.{bytes}
 use Rattle.sheet.specs.Parts.{cell-count}
 use Rattle.sheet.specs.Cell.{Cell, cell}
-use Rattle.sheet.specs.Content.{marked}
+use Rattle.sheet.specs.AsCell.{marked}
 use Rattle.sheet.specs.Check.{cells-of}
 use Rattle.sheet.specs.Write.{cell-bytes, cells-bytes}
 use Rattle.fnv.specs.Fnv.{wrapping-mul, prime, offset-basis, put-in, put-all, fnv-1a}

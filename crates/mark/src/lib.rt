@@ -4,7 +4,7 @@ ghost use mathlib.Core.Path.{_≡_};
 ghost use mathlib.Core.List.{[], _∷_};
 ghost use Rattle.sheet.specs.Bytes.{bytes};
 ghost use Rattle.sheet.specs.Check.{cells-of};
-ghost use Rattle.sheet.specs.Content.{marked};
+ghost use Rattle.sheet.specs.AsCell.{marked};
 ghost use Rattle.sheet.specs.Write.{cell-bytes};
 ghost use Rattle.layout.specs.Layout.{Whole, as-cell};
 ghost use Rattle.fnv.specs.Fnv.{put-all};

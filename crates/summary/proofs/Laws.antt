@@ -11,6 +11,7 @@ use lib.ListN.{length, getD, set, drop, length-append, length-drop, length-map, 
 use lib.Seq.{getD-set-same, getD-set-other, getD-drop, getD-append-add, ext-getD}
 use Rattle.sql.specs.Answer.{done}
 use Rattle.sql.specs.Plan.{Leaf, scan, lookup, nothing, values, Node, leaf, over, join, sum, up-to, leaf-size, node-size}
+use Rattle.sheet.specs.Bytes.{Bytes}
 use Rattle.sheet.specs.Parts.{column-count, cell-count, first-column, key-of}
 use Rattle.sheet.specs.Cell.{Cell, cell}
 use Rattle.sheet.specs.Check.{schema, plan, cells-of}
@@ -18,7 +19,7 @@ use Rattle.sheet.specs.Cells.{cells}
 use Rattle.sheet_laws.specs.Fits.{All}
 use Rattle.sheet_laws.specs.Accepted.{accepted}
 use Rattle.sheet_laws.specs.Layout.{length-up-to}
-use Rattle.sheet_laws.specs.Plan.{Bytes, parts-of, plan-cells, plan-size, plan-exact}
+use Rattle.sheet_laws.specs.Plan.{parts-of, plan-cells, plan-size, plan-exact}
 use Rattle.layout.specs.Layout.{Whole, as-cell}
 use Rattle.layout.specs.declared.Cell as Code
 use Rattle.beside.specs.Summary.{Lookup, leaf-lookups, lookups, lookup-constants, entries, entry-of, listed-for, figure, summary}

@@ -10,7 +10,7 @@ use harness::original;
 use harness::house::Mode;
 use harness::promise::{self, Case, Lacking};
 use harness::rng::Rng;
-use harness::{beside, check, conditions, damage, extremes, generate, model, origins, sheet, tree, vectors, worked};
+use harness::{beside, check, conditions, damage, extremes, generate, house, model, origins, sheet, tree, vectors, worked};
 
 fn main() {
     original::silence_panics();
@@ -242,16 +242,16 @@ fn origins_many(n: u64, seed: u64) -> bool {
     different == 0
 }
 
-/// `beside N SEED`: mark and summary of the six plans, each two ways, and in
-/// edition 2 the same mark and summary whatever the origins.
+/// `beside N SEED`: mark and summary of the six plans in both modes, each two
+/// ways, and in edition 2 the same mark and summary whatever the origins.
 fn beside_many(n: u64, seed: u64) -> bool {
     let (mut plans, mut wrong) = (0, 0);
     for i in 0..n {
         let mut rng = Rng::case(seed ^ 0x0213, i);
-        let plain = generate::bytes(&mut rng);
+        let plain = if i % 2 == 0 { generate::bytes(&mut rng) } else { tree::encode(&house::sheet(&mut rng)) };
         let bytes = origins::any_up(&mut rng, &plain);
         let pair = |bytes: &[u8]| (beside::mark(bytes), beside::summary(&tree::decode(bytes)));
-        let said = match (beside::agree(&plain), pair(&plain) == pair(&bytes)) {
+        let said = match (beside::agree(&plain, (i / 2 % 2) as usize), pair(&plain) == pair(&bytes)) {
             (Ok(k), true) => Ok(k),
             (Ok(_), false) => Err("edition 2 has another pair".into()),
             (Err(e), _) => Err(e),

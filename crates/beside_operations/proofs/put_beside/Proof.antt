@@ -1,4 +1,5 @@
-use Rattle.beside_operations.proofs.Laws.{whole, put-beside}
+use Rattle.summary.proofs.Laws.{whole}
+use Rattle.beside_operations.proofs.Laws.{put-beside}
 use native.Mathlib.Omega.{arith}
 use borrow.Author.Needs.{needs}
 use Rattle.beside_operations.proofs.put_beside.Statement.{statement}
