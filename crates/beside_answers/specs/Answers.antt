@@ -196,11 +196,11 @@ module _ (s : List ℕ) (f : List ℕ → Before.Outcome) (answer : Answer Node)
 
   refused-so : (number place : ℕ) → (number ≡ 0 → ⊥) → (number ≡ 15 → ⊥) → f [] ≡ refuse [] number place → f out ≡ refuse out number place
       → answered (short-numbers (f [] .numbers) (length out) columns) ≡ with-beside s out figures (f out) answer
-  refused-so number place some other empty full =
+  refused-so number place not-0 other empty full =
       ap (λ (o : Before.Outcome). answered (short-numbers (o .numbers) (length out) columns)) empty
       ∙ ap answered (other-refusal number place other)
       ∙ ap (unmarked figures) (sym full)
-      ∙ refused-stays s out figures (f out) answer (λ z. some (sym (ap (λ (o : Before.Outcome). o .numbers .number) full) ∙ z))
+      ∙ refused-stays s out figures (f out) answer (λ z. not-0 (sym (ap (λ (o : Before.Outcome). o .numbers .number) full) ∙ z))
 
   handed-so : (m : Node) → answer ≡ done m → Written-again s m → f [] ≡ refuse [] 15 (length (write s m)) → (b : Bool) → ltb (length out) (length (write s m)) ≡ b
       → f out ≡ written s out m (write s m) (leb (length (write s m)) (length out))
