@@ -20,7 +20,13 @@ pub extern "C" fn plan_check(sheet: &[u8], summary: &mut [u64]) -> Marked
 
 // One pass of the optimizer, 1 to 5, on a sheet, in plain mode, 0, or in house mode, 1.
 #[no_mangle]
-pub extern "C" fn plan_pass(sheet: &[u8], mode: usize, pass: usize, output: &mut [u8], summary: &mut [u64]) -> Marked
+pub extern "C" fn plan_pass(
+    sheet: &[u8],
+    mode: usize,
+    pass: usize,
+    output: &mut [u8],
+    summary: &mut [u64],
+) -> Marked
     ensures { λ r. ⌜ outcome r (now (output .exit)) (now (summary .exit)) ≡ one-pass (now (sheet .entry)) mode pass (now (output .entry)) (now (summary .entry)) ⌝ }
 {
     beside_operations::pass(sheet, mode, pass, output, summary)
@@ -28,7 +34,12 @@ pub extern "C" fn plan_pass(sheet: &[u8], mode: usize, pass: usize, output: &mut
 
 // All five passes in turn.
 #[no_mangle]
-pub extern "C" fn plan_optimize(sheet: &[u8], mode: usize, output: &mut [u8], summary: &mut [u64]) -> Marked
+pub extern "C" fn plan_optimize(
+    sheet: &[u8],
+    mode: usize,
+    output: &mut [u8],
+    summary: &mut [u64],
+) -> Marked
     ensures { λ r. ⌜ outcome r (now (output .exit)) (now (summary .exit)) ≡ all-five (now (sheet .entry)) mode (now (output .entry)) (now (summary .entry)) ⌝ }
 {
     beside_operations::optimize(sheet, mode, output, summary)
