@@ -10,10 +10,10 @@ with-mark-requires : tie.Need-with-mark-requires
 with-mark-requires c κs = search needs
 
 same-length : tie.Need-same-length
-same-length c = c .before .before .convert .kept .1 .0
+same-length c = c .before .before .before .convert .kept .1 .1 .0
 
 returns : tie.Need-returns
-returns c = stays-unmarked _ _ _ _ (c .before .with-mark .ensures) (c .before .before .convert .ensures)
+returns c = stays-unmarked _ _ _ _ (c .with-mark .ensures) (c .before .before .before .convert .ensures)
 
 pub plan-convert-spec : {M : Type 1} → statement M
 plan-convert-spec = tie.close (tie.spec convert-requires with-mark-requires same-length returns)
