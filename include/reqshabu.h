@@ -14,12 +14,12 @@ extern "C" {
 #endif
 
 /* The version, said here and taken from here for the archive, the command, its manual page and the pkg-config file. The first number rises when a caller has
- * to change, the second when something is added. (What was before 1.0.0: "Interface 2" below.) */
+ * to change, the second when something is added. (What was before 1.0.0: "Interface 3" below.) */
 #define REQSHABU_VERSION "1.0.0"
 
-/* Rises by one whenever the prototypes or the answer below change, and with nothing else: `#if REQSHABU_INTERFACE >= 2`. An operation that is added beside the
+/* Rises by one whenever the prototypes or the answer below change, and with nothing else: `#if REQSHABU_INTERFACE >= 3`. An operation that is added beside the
  * others doesn't raise it, the version says that: plan_convert is there from 0.3.0 on, plan_compact from 0.4.0, plan_condition from 0.5.0. */
-#define REQSHABU_INTERFACE 2
+#define REQSHABU_INTERFACE 3
 
 /* The version of the archive that is linked, to be compared with the header's. Archives made by `make` have it; the bare one of `rt staticlib` hasn't. */
 extern const char reqshabu_version[];
@@ -89,11 +89,12 @@ reqshabu_answer plan_condition(const uint8_t *text, size_t length, uint8_t *outp
 
 /* The six keep no state and allocate nothing, so they may be called from several threads at once. 1 MiB of stack is enough for every sheet and every text. */
 
-/* Interface 2
+/* Interface 3
  *
- * Interface 1, that of the versions 0.x, has no mode, no mark and no summary: `plan_check(sheet, length)`, `plan_pass(sheet, length, pass, output, capacity)`,
- * `plan_optimize(sheet, length, output, capacity)`, and no mark in the answer. A caller may have both calls, the second behind `#if REQSHABU_INTERFACE >= 2`. With mode 0
- * and a summary of 256 entries the answers and the sheets are those of interface 1, but for the mark.
+ * Interface 1, that of the versions up to 0.5.0, has no mode, no mark and no summary: `plan_check(sheet, length)`, `plan_pass(sheet, length, pass, output, capacity)`,
+ * `plan_optimize(sheet, length, output, capacity)`, and no mark in the answer. Interface 2 had the mode alone and was in no release, so that a caller changes once, with version
+ * 1.0.0, and may have both calls, the second behind `#if REQSHABU_INTERFACE >= 3` (`>= 2`, as former headers said, is the same for every release). With mode 0 and a summary of
+ * 256 entries the answers and the sheets are those of interface 1, but for the mark.
  *
  * Still to come, beside what is above:
  *

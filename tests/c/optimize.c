@@ -4,6 +4,7 @@
  *     optimize pass N     one pass, by its number: the listing, or the refusal
  *     optimize passes     each of the five on the sheet handed in, under a line with its number
  *     optimize all        all five: what sheet_list prints
+ *     optimize house      each of the five, then all five, in house mode
  *     optimize convert E  the sheet in edition E, its bytes, or the refusal
  *     optimize editions   what comes of the sheet in editions 0 to 3: counts and origins, or the refusal
  *     optimize compact    the sheet without the text that nobody refers to, its bytes, or the refusal
@@ -438,6 +439,14 @@ static void put_summary(reqshabu_answer a) {
     printf("\n");
 }
 
+/* Each pass on the sheet handed in. */
+static void passes(void) {
+    for (size_t pass = 1; pass <= 5; pass++) {
+        printf("pass %zu\n", pass);
+        list(run((long)pass, sheet, length, output, sizeof output), output);
+    }
+}
+
 int main(int count, char **words) {
     const char *operation = count > 1 ? words[1] : "";
     length = fread(sheet, 1, sizeof sheet, stdin);
@@ -450,10 +459,12 @@ int main(int count, char **words) {
     } else if (strcmp(operation, "pass") == 0 && count > 2) {
         list(plan_pass(sheet, length, mode, strtoul(words[2], NULL, 10), output, sizeof output, summary, ENTRIES), output);
     } else if (strcmp(operation, "passes") == 0) {
-        for (size_t pass = 1; pass <= 5; pass++) {
-            printf("pass %zu\n", pass);
-            list(run((long)pass, sheet, length, output, sizeof output), output);
-        }
+        passes();
+    } else if (strcmp(operation, "house") == 0) {
+        mode = 1;
+        passes();
+        puts("all five");
+        list(run(ALL, sheet, length, output, sizeof output), output);
     } else if (strcmp(operation, "all") == 0) {
         list(run(ALL, sheet, length, output, sizeof output), output);
     } else if (strcmp(operation, "convert") == 0 && count > 2) {

@@ -11,7 +11,7 @@ use lib.ListN.{length, take, drop, take-append-drop}
 use lib.Seq.{length-take-le}
 use Rattle.sql.specs.Expression.{Expression}
 use Rattle.sheet.specs.Cells.{expression-cells}
-use Rattle.sheet.specs.Operations.{Outcome, refuse}
+use Rattle.sheet.specs.Check.{Outcome, refuse}
 use Rattle.grammar.specs.Machine.{State, start, step, finish, Reading, taken, refused, run, reading}
 use Rattle.grammar.specs.Operation.{tree-bytes, written, answered, condition}
 use Rattle.condition_laws.specs.Bytes.{pick-b}

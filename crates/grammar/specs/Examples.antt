@@ -174,7 +174,7 @@ null-is-null : reading (ascii "NULL IS NULL") ≡ taken (unary 0 (Unary.function
 unfolding reading
 null-is-null = refl
 
-two-spaces : reading (ascii "1 IS  NULL") ≡ taken (unary 0 (Unary.function IsNull) (int 1))
+two-spaces : reading (ascii "1 IS  NULL") ≡ taken (unary 0 (Unary.function1 IsNull) (int 1))
 unfolding reading
 two-spaces = refl
 

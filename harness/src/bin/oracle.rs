@@ -7,10 +7,10 @@ use std::process::exit;
 use harness::compare::{self, Settled};
 use harness::conditions_compare::Comparison;
 use harness::original;
-use harness::house::Mode;
+use harness::house::{self, Mode};
 use harness::promise::{self, Case, Lacking};
 use harness::rng::Rng;
-use harness::{beside, check, conditions, damage, extremes, generate, house, model, origins, sheet, tree, vectors, worked};
+use harness::{beside, check, conditions, damage, extremes, generate, model, origins, sheet, tree, vectors, worked};
 
 fn main() {
     original::silence_panics();
@@ -26,8 +26,9 @@ fn main() {
         Some("answer") => answer(),
         Some("listing") => listing(),
         Some("explain") => explain(),
-        Some("sheets") => sheets(number(1), number(2), false),
-        Some("damaged") => sheets(number(1), number(2), true),
+        Some("sheets") => sheets(number(1), |n| generate::bytes(&mut Rng::case(number(2), n))),
+        Some("damaged") => sheets(number(1), |n| damaged(number(2), n)),
+        Some("lookups") => sheets(number(1), |n| tree::encode(&house::sheet(&mut Rng::case(number(2), n)))),
         Some("extremes") if args.len() == 1 => write_extremes(),
         Some("extremes") => show_extremes(),
         Some("counts") => counts(number(1), number(2)),
@@ -41,7 +42,7 @@ fn main() {
 fn usage() -> ! {
     eprintln!(
         "usage: oracle worked | self N SEED | origins N SEED | beside N SEED | conditions N SEED | answer | listing | explain | sheets N SEED | damaged N SEED | \
-         extremes | extremes show | counts N SEED | values SEED N | rows N SEED [house]"
+         lookups N SEED | extremes | extremes show | counts N SEED | values SEED N | rows N SEED [house]"
     );
     exit(2);
 }
@@ -49,8 +50,8 @@ fn usage() -> ! {
 /// `answer`: the model's answers to a batch of questions.
 ///
 /// Each question: operation (0 check, 1 to 5 a pass, 6 all five, from 100 the
-/// one-pass operation asked for pass n - 100), output capacity, sheet length,
-/// each a u32, then the sheet. Each answer: number, place, length, cells and
+/// one-pass operation asked for pass n - 100; 1000 k more for mode k), output
+/// capacity, sheet length, each a u32, then the sheet. Each answer: number, place, length, cells and
 /// columns, each a u64, the output's length as a u32, then the output.
 /// Everything is little-endian.
 fn answer() -> bool {
@@ -72,11 +73,12 @@ fn answer() -> bool {
         if input.read_exact(&mut bytes).is_err() {
             return false;
         }
+        let (mode, op) = ((op / 1_000) as usize, op % 1_000);
         let (answer, output) = match op {
             0 => (model::check(&bytes), Vec::new()),
-            model::ALL => model::all_five(&bytes, capacity),
-            100.. => model::one_pass(&bytes, op - 100, capacity),
-            _ => model::one_pass(&bytes, op, capacity),
+            model::ALL => model::all_five_in(&bytes, mode, capacity),
+            100.. => model::one_pass_in(&bytes, mode, op - 100, capacity),
+            _ => model::one_pass_in(&bytes, mode, op, capacity),
         };
         let check::Answer { number, place, length, cells, columns } = answer;
         for word in [number, place, length, cells, columns] {
@@ -134,14 +136,11 @@ fn damaged(seed: u64, n: u64) -> Vec<u8> {
     damage::damage(&mut rng, &bytes)
 }
 
-/// `sheets N SEED`, `damaged N SEED`: length (u32) and bytes of each sheet.
-fn sheets(count: u64, seed: u64, broken: bool) -> bool {
+/// `sheets N SEED`, `damaged N SEED`, `lookups N SEED`: length (u32) and bytes of each sheet.
+fn sheets(count: u64, sheet: impl Fn(u64) -> Vec<u8>) -> bool {
     let mut out = std::io::BufWriter::new(std::io::stdout().lock());
     for n in 0..count {
-        let bytes = match broken {
-            true => damaged(seed, n),
-            false => generate::bytes(&mut Rng::case(seed, n)),
-        };
+        let bytes = sheet(n);
         out.write_all(&(bytes.len() as u32).to_le_bytes()).expect("output");
         out.write_all(&bytes).expect("output");
     }

@@ -475,25 +475,31 @@ pub fn bench_compact() -> bool {
     true
 }
 
-/// `limits`: sheets at the limits, the library on a thread with so many KiB of stack.
+/// `limits`: sheets at the limits, in both modes, the library on a thread with so many KiB of stack.
 pub fn at_limits(kib: u64) -> bool {
-    let mut tally = Tally::default();
     let list = extremes::list();
-    let expected: Vec<Vec<_>> = original::on_deep_stack(|| {
-        list.iter().map(|(_, bytes)| (0..=model::ALL).map(|operation| modelled(bytes, operation, 45_332)).collect()).collect()
-    });
-    let ours: Vec<Vec<_>> = std::thread::scope(|scope| {
-        let work = || list.iter().map(|(_, bytes)| (0..=model::ALL).map(|operation| proved(bytes, operation, 45_332)).collect()).collect();
-        std::thread::Builder::new().stack_size(kib as usize * 1024).spawn_scoped(scope, work).expect("a thread").join().expect("the library")
+    let modes = [("plain", reqshabu::PLAIN), ("house", reqshabu::HOUSE)];
+    modes.map(|(name, mode)| at_limits_in(&list, mode, kib).print(&format!("{} sheets at the limits in {name} mode, on {kib} KiB of stack", list.len()))) == [true; 2]
+}
+
+fn at_limits_in(list: &[(String, Vec<u8>)], mode: usize, kib: u64) -> Tally {
+    let mut tally = Tally::default();
+    let each = |answer: fn(&[u8], usize, Operation, usize) -> (Answer, Vec<u8>)| -> Vec<Vec<_>> {
+        list.iter().map(|(_, bytes)| (0..=model::ALL).map(|operation| answer(bytes, mode, operation, 45_332)).collect()).collect()
+    };
+    let expected = original::on_deep_stack(|| each(modelled_in));
+    let ours = std::thread::scope(|scope| {
+        let thread = std::thread::Builder::new().stack_size(kib as usize * 1024);
+        thread.spawn_scoped(scope, || each(proved_in)).expect("a thread").join().expect("the library")
     });
     for (i, (name, _)) in list.iter().enumerate() {
         for operation in 0..=model::ALL {
             let (a, b) = (&ours[i][operation as usize], &expected[i][operation as usize]);
-            let result = if a == b { Ok(b.0.number) } else { Err(format!("operation {operation}: {:?}, expected {:?}", a.0, b.0)) };
+            let result = if a == b { Ok(b.0.number) } else { Err(format!("mode {mode}, operation {operation}: {:?}, expected {:?}", a.0, b.0)) };
             tally.add(name, operation, result);
         }
     }
-    tally.print(&format!("{} sheets at the limits, on {kib} KiB of stack", list.len()))
+    tally
 }
 
 /// `rows`: the six plans that the library hands out in a mode, one pass after the other, read over random tables. Those of all five at once are the sixth.

@@ -1,9 +1,10 @@
 //! House mode beside plain mode, through the wrapper: document 02's W-204, over a table of one Integer column, its key.
 mod common;
 
-use common::{cell, example, examples, output, sheet_with, untouched};
+use common::{cell, example, examples, listing, output, sheet_with, untouched};
 use reqshabu::{optimize, optimize_in, pass, pass_in, Refusal, HOUSE, PLAIN};
 use std::fs;
+use std::path::Path;
 
 /// A sheet without text: one table, one Integer column, its key, and these cells.
 fn sheet(cells: &[[u8; 16]]) -> Vec<u8> {
@@ -96,6 +97,30 @@ fn another_mode_is_refusal_17_before_all_others() {
     assert!(untouched(&output));
     assert_eq!(pass_in(b"", HOUSE, 6, &mut output), Err(Refusal { number: 1, place: 0 }));
     assert_eq!(pass_in(b"", HOUSE, 1, &mut output), Err(Refusal { number: 2, place: 0 }));
+}
+
+/// What house mode answers to an example: stored beside it, where it is otherwise than in plain mode.
+fn stored(path: &Path) -> String {
+    let text = |kind| fs::read_to_string(path.with_extension(kind));
+    text("house").unwrap_or_else(|_| format!("{}all five\n{}", text("passes").unwrap(), text("list").unwrap()))
+}
+
+#[test]
+fn examples_in_house_mode() {
+    let mut others = 0;
+    for path in examples() {
+        let (sheet, mut output) = (fs::read(&path).unwrap(), output());
+        let mut text = String::new();
+        for number in 1..=5 {
+            let answer = pass_in(&sheet, HOUSE, number, &mut output);
+            text += &format!("pass {number}\n{}", listing(answer, &output));
+        }
+        let answer = optimize_in(&sheet, HOUSE, &mut output);
+        text += &format!("all five\n{}", listing(answer, &output));
+        assert_eq!(text, stored(&path), "{}", path.display());
+        others += usize::from(path.with_extension("house").exists());
+    }
+    assert!(others >= 3, "only {others} examples that the mode matters for");
 }
 
 #[test]
