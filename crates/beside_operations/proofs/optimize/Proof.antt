@@ -29,22 +29,22 @@ with-mark-requires : tie.Need-with-mark-requires
 with-mark-requires c κs = search needs
 
 same-length : tie.Need-same-length
-same-length c = c .before .before .before .before .before .optimize2 .kept .1 .0
+same-length c = c .before .before .before .before .before .optimize2 .kept .1 .1 .0
 
 returns-2 : tie.Need-returns-2
 returns-2 c = at-refused (c .before .before .before .before .before .before .before .before .before .before .before .before .args .s .now) _ _ (five-operation (c .before .before .before .before .before .before .before .before .before .before .before .before .args .s .now) (λ i. omega (arith, c .before .before .before .before .before .before .before .before .before .before .before .shared-slice-known .given i)) (c .before .before .before .before .before .before .before .before .before .before .before .before .args .mode)) (c .before .before .before .before .before .before .before .before .before .before .before .before .args .out .now) (c .before .before .before .before .before .before .before .before .before .before .before .before .args .figures .now) (c .before .before .before .before .before .before .before .before .columns-in .result) (c .before .before .before .before .before .before .before .before .columns-in .ensures) (c .before .before .before .before .before .optimize2 .result) _ (c .before .before .before .before .before .optimize2 .ensures) (c .with-mark .result) (λ e. omega (arith, e)) (c .with-mark .ensures) ∙ five-is (c .before .before .before .before .before .before .before .before .before .before .before .before .args .s .now) (c .before .before .before .before .before .before .before .before .before .before .before .before .args .mode) (c .before .before .before .before .before .before .before .before .before .before .before .before .args .out .now) (c .before .before .before .before .before .before .before .before .before .before .before .before .args .figures .now)
 
 slice-reshare-prefix-put-beside : tie.Need-slice-reshare-prefix-put-beside
-slice-reshare-prefix-put-beside c = sheet-within (c .before .before .before .before .before .before .before .before .before .before .before .args .s .now) _ _ (five-operation (c .before .before .before .before .before .before .before .before .before .before .before .args .s .now) (λ i. omega (arith, c .before .before .before .before .before .before .before .before .before .before .shared-slice-known .given i)) (c .before .before .before .before .before .before .before .before .before .before .before .args .mode)) (c .before .before .before .before .before .before .before .before .before .before .before .args .out .now) (c .before .before .before .before .before .before .before .before .before .before .before .args .figures .now) (c .before .before .before .before .before .before .before .columns-in .result) (c .before .before .before .before .before .before .before .columns-in .ensures) (c .before .before .before .before .optimize2 .result) _ (c .before .before .before .before .optimize2 .ensures) (omega arith) (c .before .before .before .before .optimize2 .kept .1 .0)
+slice-reshare-prefix-put-beside c = sheet-within (c .before .before .before .before .before .before .before .before .before .before .before .args .s .now) _ _ (five-operation (c .before .before .before .before .before .before .before .before .before .before .before .args .s .now) (λ i. omega (arith, c .before .before .before .before .before .before .before .before .before .before .shared-slice-known .given i)) (c .before .before .before .before .before .before .before .before .before .before .before .args .mode)) (c .before .before .before .before .before .before .before .before .before .before .before .args .out .now) (c .before .before .before .before .before .before .before .before .before .before .before .args .figures .now) (c .before .before .before .before .before .before .before .columns-in .result) (c .before .before .before .before .before .before .before .columns-in .ensures) (c .before .before .before .before .optimize2 .result) _ (c .before .before .before .before .optimize2 .ensures) (omega arith) (c .before .before .before .before .optimize2 .kept .1 .1 .0)
 
 slice-aggregate-put-beside : tie.Need-slice-aggregate-put-beside
-slice-aggregate-put-beside c = sym (length-take-le _ _ (sheet-within (c .before .before .before .before .before .before .before .before .before .before .before .before .args .s .now) _ _ (five-operation (c .before .before .before .before .before .before .before .before .before .before .before .before .args .s .now) (λ i. omega (arith, c .before .before .before .before .before .before .before .before .before .before .before .shared-slice-known .given i)) (c .before .before .before .before .before .before .before .before .before .before .before .before .args .mode)) (c .before .before .before .before .before .before .before .before .before .before .before .before .args .out .now) (c .before .before .before .before .before .before .before .before .before .before .before .before .args .figures .now) (c .before .before .before .before .before .before .before .before .columns-in .result) (c .before .before .before .before .before .before .before .before .columns-in .ensures) (c .before .before .before .before .before .optimize2 .result) _ (c .before .before .before .before .before .optimize2 .ensures) (omega arith) (c .before .before .before .before .before .optimize2 .kept .1 .0)))
+slice-aggregate-put-beside c = sym (length-take-le _ _ (sheet-within (c .before .before .before .before .before .before .before .before .before .before .before .before .args .s .now) _ _ (five-operation (c .before .before .before .before .before .before .before .before .before .before .before .before .args .s .now) (λ i. omega (arith, c .before .before .before .before .before .before .before .before .before .before .before .shared-slice-known .given i)) (c .before .before .before .before .before .before .before .before .before .before .before .before .args .mode)) (c .before .before .before .before .before .before .before .before .before .before .before .before .args .out .now) (c .before .before .before .before .before .before .before .before .before .before .before .before .args .figures .now) (c .before .before .before .before .before .before .before .before .columns-in .result) (c .before .before .before .before .before .before .before .before .columns-in .ensures) (c .before .before .before .before .before .optimize2 .result) _ (c .before .before .before .before .before .optimize2 .ensures) (omega arith) (c .before .before .before .before .before .optimize2 .kept .1 .1 .0)))
 
 put-beside-requires : tie.Need-put-beside-requires
 put-beside-requires c κs = at-lent (c .before .before .before .before .before .before .before .before .before .before .before .before .before .args .s .now) _ _ (five-operation (c .before .before .before .before .before .before .before .before .before .before .before .before .before .args .s .now) (λ i. omega (arith, c .before .before .before .before .before .before .before .before .before .before .before .before .shared-slice-known .given i)) (c .before .before .before .before .before .before .before .before .before .before .before .before .before .args .mode)) (c .before .before .before .before .before .before .before .before .before .before .before .before .before .args .out .now) (c .before .before .before .before .before .before .before .before .before .before .before .before .before .args .figures .now) (c .before .before .before .before .before .before .before .before .before .columns-in .result) (c .before .before .before .before .before .before .before .before .before .columns-in .ensures) (c .before .before .before .before .before .before .optimize2 .result) _ (c .before .before .before .before .before .before .optimize2 .ensures) (omega arith) (omega arith) _ refl
 
 same-length-2 : tie.Need-same-length-2
-same-length-2 c = c .before .before .before .before .before .before .before .before .before .optimize2 .kept .1 .0
+same-length-2 c = c .before .before .before .before .before .before .before .before .before .optimize2 .kept .1 .1 .0
 
 same-length-3 : tie.Need-same-length-3
 same-length-3 c = c .before .before .put-beside .kept .1 .1 .0
