@@ -47,12 +47,13 @@ impl Refusal {
         }
     }
 
-    /// What was wrong with a condition typed as text: its refusals 2 and 14 are about the text, and 22's place is shown in it.
+    /// What was wrong with a condition typed as text: its refusals 2 and 14 are about the text, 15 is about the output alone, and 22's place is shown in the text.
     pub fn describe_condition(&self, text: &[u8]) -> String {
         let Refusal { number, place } = self;
         let said = match number {
             2 => "the text has over 8,192 bytes".into(),
             14 => "the condition has over 2,048 cells".into(),
+            15 => format!("the output is shorter than the result: {place} bytes are needed"),
             22 => format!("{}: {}", self.cause(), unread(text, usize::try_from(*place).unwrap_or(usize::MAX))),
             _ => return self.to_string(),
         };
