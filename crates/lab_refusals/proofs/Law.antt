@@ -13,8 +13,7 @@ use Rattle.sql.specs.Expression.{Row}
 use Rattle.sql.specs.Plan.{Node, columns}
 use Rattle.sheet.specs.Parts.{tables-at, cell-count}
 use Rattle.sheet.specs.Tree.{Stack, Read, lacking, stack, pop}
-use Rattle.sheet.specs.Check.{Numbers, refusal, test, text, schema, cells-of, plan, checked, check, unfound}
-use Rattle.sheet.specs.Operations.{Outcome}
+use Rattle.sheet.specs.Check.{Numbers, refusal, test, text, schema, cells-of, plan, checked, check, unfound, Outcome}
 use Rattle.sound.specs.Refusals.{Refused-by, From-to, plan-refused}
 use Rattle.table_sheet.specs.TableSheet.{frame-fits, read, a-table, nothing-else, all-tables, widths-of, tables-in, tables-of}
 use Rattle.table_sheet.specs.Misfit.{place, misfit}

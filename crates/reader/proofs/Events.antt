@@ -12,7 +12,7 @@ use Rattle.value.specs.Value.{Value, Result, ok, err}
 use Rattle.sql.specs.Answer.{Answer, done, refused, _>>=_}
 use Rattle.sql.specs.Expression.{Marked, Expression, constant, column, unary, binary, size, Row, bind, evaluate-unary, evaluate-binary, evaluate}
 use Rattle.sql.specs.Plan.{Join, nested-loop, hash, row-size}
-use Rattle.sql.specs.Optimizer.{cons-if, flat-map}
+use Rattle.sql.specs.Lists.{cons-if, flat-map}
 use Rattle.rows.specs.Reading.{each, keep-each, kept, holds, optional-holds, join-holds, joined-rows, or-nulls, outer-rows, read-join, evaluate-all, fit, values-row}
 use Rattle.reader.specs.Reader.{or-stop, top, evaluate-at, evaluate-each, holds-at, optional-holds-at, join-holds-at, Event, gives, stops, given-if, made, given, values-events, unmatched, pair-events, left-row-events, few, counted, collect}
 use Rattle.reader.specs.Law.{figures}

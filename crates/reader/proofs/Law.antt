@@ -13,18 +13,19 @@ use Rattle.value.specs.Value.{Result, ok, err}
 use Rattle.sql.specs.Answer.{Answer, done, refused, _>>=_}
 use Rattle.sql.specs.Schema.{Schema}
 use Rattle.sql.specs.Expression.{Row}
+use Rattle.sql.specs.Mode.{plain, house}
 use Rattle.sql.specs.Plan.{limit, offset, order, projection, remap, aggregate, Over, filter, other, Node, leaf, over, join, columns, up-to}
 use Rattle.sheet.specs.Parts.{cell-count}
 use Rattle.sheet.specs.Cell.{Cell, cell}
 use Rattle.sheet.specs.Cells.{all-cells, expression-cells, key-cells, agg-cells, other-cells, over-cells, join-cells, cells}
-use Rattle.sheet.specs.Check.{text, schema, unfound, cells-of}
-use Rattle.sheet.specs.Operations.{Outcome, one-pass, all-five}
+use Rattle.sheet.specs.Check.{text, schema, unfound, cells-of, Outcome, sheet-of}
+use Rattle.sheet.specs.Operations.{one-pass, all-five}
 use Rattle.sheet_laws.specs.Fits.{All}
 use Rattle.sheet_laws.specs.Layout.{none-failing}
 use Rattle.sheet_laws.specs.Plan.{plan-cells}
 use Rattle.rows.specs.Database.{Database}
 use Rattle.rows.specs.Reading.{read}
-use Rattle.sound.specs.Operations.{sheet-of, one-pass-sound, all-five-sound}
+use Rattle.sound.specs.Operations.{one-pass-sound, all-five-sound}
 use Rattle.table_sheet.specs.TableSheet.{tables-in, tables-of}
 use Rattle.table_sheet.proofs.Tables.{rows-wide}
 use Rattle.reader.specs.Reader.{run}
@@ -183,9 +184,13 @@ unfolding tables-of
 same-tables s u t e f = ap (λ (x : List ℕ). tables-in x (schema u) t) e ∙ ap (λ (x : Schema). tables-in (text s) x t) f
 
 pub fits-after : Fits-after
-fits-after s b t out = (
-  λ k z. let h = one-pass-sound s b k out z in same-tables s (sheet-of (one-pass s k out)) t (h .same-text) (h .same-schema),
-  λ z. let h = all-five-sound s b out z in same-tables s (sheet-of (all-five s out)) t (h .same-text) (h .same-schema),
+fits-after s b plain t out = (
+  λ k z. let h = one-pass-sound plain s b k out z in same-tables s (sheet-of (one-pass s 0 k out)) t (h .same-text) (h .same-schema),
+  λ z. let h = all-five-sound plain s b out z in same-tables s (sheet-of (all-five s 0 out)) t (h .same-text) (h .same-schema),
+)
+fits-after s b house t out = (
+  λ k z. let h = one-pass-sound house s b k out z in same-tables s (sheet-of (one-pass s 1 k out)) t (h .same-text) (h .same-schema),
+  λ z. let h = all-five-sound house s b out z in same-tables s (sheet-of (all-five s 1 out)) t (h .same-text) (h .same-schema),
 )
 
 pub same-bytes : Same-bytes

@@ -10,7 +10,7 @@ use Rattle.value.specs.Value.{Result, ok, err}
 use Rattle.sql.specs.Answer.{Answer, done, refused, _>>=_}
 use Rattle.sql.specs.Expression.{Row, bind}
 use Rattle.sql.specs.Plan.{Leaf, scan, lookup, nothing, values, limit, offset, order, projection, remap, aggregate, Over, filter, other, Join, Node, leaf, over, join, columns, values-columns, item-size, node-size}
-use Rattle.sql.specs.Optimizer.{keep, flat-map}
+use Rattle.sql.specs.Lists.{keep, flat-map}
 use Rattle.rows.specs.Database.{Database}
 use Rattle.rows.specs.Reading.{holds, optional-holds, join-holds, looked-up, lookup-column, read-join, evaluate-all, remap-row, expressions, read-leaf, read-over, read}
 use Rattle.reader.specs.Reader.{evaluate-each, holds-at, optional-holds-at, join-holds-at, Event, left-row-events, leaf-events, over-events, few, collect, own, run}

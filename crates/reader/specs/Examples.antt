@@ -11,7 +11,7 @@ use Rattle.value.specs.Arithmetic.{checked, add-integers, divide-integers}
 use Rattle.value.specs.Comparison.{compare-integers, compare-bytes}
 use Rattle.sql.specs.Answer.{Answer, done, refused}
 use Rattle.sql.specs.Schema.{Integer, Schema}
-use Rattle.sql.specs.Expression.{Marked, Expression, column, binary, function, Divide, Row}
+use Rattle.sql.specs.Expression.{Marked, Expression, column, binary, function2, Divide, Row}
 use Rattle.sql.specs.Plan.{unlabelled, by-key, scan, lookup, nothing, values, limit, offset, projection, remap, filter, other, nested-loop, hash, Node, leaf, over, join}
 use Rattle.sql.specs.Samples.{number, equals, plus, A, B}
 use Rattle.reader.specs.Reader.{run}
@@ -50,7 +50,7 @@ one-row es = leaf 0 (values (row-of es ∷ []))
 
 -- 1 / 0, which fails at its third cell
 abbrev broken : Expression
-broken = binary 0 (function Divide) (number 1) (number 0)
+broken = binary 0 (function2 Divide) (number 1) (number 0)
 
 abbrev inner : Node → Node → Node
 inner left right = join 0 false (nested-loop none) left right

@@ -14,9 +14,8 @@ use Rattle.sheet.specs.Parts.{cell-count, first-failing}
 use Rattle.sheet.specs.Cell.{Cell, cell}
 use Rattle.sheet.specs.Cells.{all-cells, expression-cells, row-cells}
 use Rattle.sheet.specs.Tags
-use Rattle.sheet.specs.Check.{schema, plan, unfound}
+use Rattle.sheet.specs.Check.{schema, plan, unfound, Outcome, refuse}
 use Rattle.sheet.specs.Write.{cells-bytes}
-use Rattle.sheet.specs.Operations.{Outcome, refuse}
 use Rattle.table_sheet.specs.TableSheet.{tables-of}
 use Rattle.reader.specs.Reader.{run}
 

@@ -3,14 +3,15 @@ use Prim.Native.Nat.{ℕ, _+_, _*_}
 use mathlib.Core.Path.{_≡_, refl}
 use mathlib.Core.List.{List, [], _∷_, _++_, map}
 use lib.ListN.{length, replicate}
-use Rattle.value.specs.Meaning.{integer-bits, integer-of-bits}
+use Rattle.value.specs.Encoding.{integer-bits, integer-of-bits}
 use Rattle.sheet.specs.Bytes.{half, word, bytes}
 use Rattle.sheet.specs.Parts.{length-ok, edition-ok, parts-ok, table-ok, column-ok, bad-record}
-use Rattle.sheet.specs.Cell.{Cell, cell, cell-ok, bad-cell}
+use Rattle.sheet.specs.Cell.{Cell, cell}
 use Rattle.sheet.specs.Tags
 use Rattle.sheet.specs.Tree.{read}
 use Rattle.sheet.specs.Write.{cells-bytes}
-use Rattle.sheet.specs.Operations.{Outcome, refuse}
+use Rattle.sheet.specs.Content.{cell-ok, bad-cell}
+use Rattle.sheet.specs.Check.{Outcome, refuse}
 use Rattle.reader.specs.Lab.{lab}
 
 -- ---- sheets

@@ -9,13 +9,13 @@ use lib.ListN.{length}
 use Rattle.value.specs.Value.{Error, ok, err}
 use Rattle.sql.specs.Answer.{done}
 use Rattle.sql.specs.Expression.{Expression, Row}
+use Rattle.sql.specs.Mode.{Mode, mode-number}
 use Rattle.sql.specs.Plan.{Over, Join, Node, over, join, columns, sum}
-use Rattle.sheet.specs.Check.{schema, plan}
-use Rattle.sheet.specs.Operations.{Outcome, one-pass, all-five}
-use Rattle.sheet_laws.specs.Plan.{Bytes}
+use Rattle.sheet.specs.Check.{schema, plan, Outcome, sheet-of}
+use Rattle.sheet.specs.Operations.{one-pass, all-five}
+use Rattle.sheet.specs.Bytes.{Bytes}
 use Rattle.rows.specs.Database.{Wide, Database}
 use Rattle.rows.specs.Reading.{read}
-use Rattle.sound.specs.Operations.{sheet-of}
 use Rattle.table_sheet.specs.TableSheet.{tables-of}
 use Rattle.reader.specs.Reader.{few}
 use Rattle.reader.specs.Lab.{unreadable, cells-of-rows, in-tables, put-out, lab}
@@ -88,12 +88,12 @@ Has-database =
 
 -- ---- before and after optimizing
 
--- What a pass or all five hand out keeps text and tables, so the same table sheet fits it, for the same tables.
+-- What a pass or all five hand out, in either mode, keeps text and tables, so the same table sheet fits it, for the same tables.
 abbrev pub Fits-after : Type 0
 Fits-after =
-    (s : List ℕ) → Bytes s → (t out : List ℕ)
-    → ((k : ℕ) → one-pass s k out .numbers .number ≡ 0 → tables-of (sheet-of (one-pass s k out)) t ≡ tables-of s t)
-    × (all-five s out .numbers .number ≡ 0 → tables-of (sheet-of (all-five s out)) t ≡ tables-of s t)
+    (s : List ℕ) → Bytes s → (mode : Mode) (t out : List ℕ)
+    → ((k : ℕ) → one-pass s (mode-number mode) k out .numbers .number ≡ 0 → tables-of (sheet-of (one-pass s (mode-number mode) k out)) t ≡ tables-of s t)
+    × (all-five s (mode-number mode) out .numbers .number ≡ 0 → tables-of (sheet-of (all-five s (mode-number mode) out)) t ≡ tables-of s t)
 
 -- Two sheets of equally many columns that read the same, beside the same tables, get the same outcome where both get 0: numbers and every byte.
 abbrev pub Same-bytes : Type 0

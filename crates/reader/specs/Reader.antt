@@ -13,7 +13,7 @@ use Rattle.sql.specs.Answer.{Answer, done, refused, _>>=_}
 use Rattle.sql.specs.Schema.{Schema}
 use Rattle.sql.specs.Expression.{Marked, Expression, constant, column, unary, binary, size, Row, evaluate-unary, evaluate-binary}
 use Rattle.sql.specs.Plan.{Leaf, scan, lookup, nothing, values, limit, offset, order, projection, remap, aggregate, Over, filter, other, Join, nested-loop, hash, Node, leaf, over, join, columns, values-columns, row-size, item-size, node-size}
-use Rattle.sql.specs.Optimizer.{keep, flat-map}
+use Rattle.sql.specs.Lists.{keep, flat-map}
 use Rattle.rows.specs.Reading.{kept, join-holds, or-nulls, looked-up, lookup-column, fit, remap-row}
 
 -- ---- expressions

@@ -8,12 +8,11 @@ use lib.Ieee as Ieee
 use Rattle.value.specs.Value.{True, False, truth, null}
 use Rattle.value.specs.Comparison.{compare-integers, compare-floats}
 use Rattle.sql.specs.Expression.{Expression, constant, column, binary, Equal, function2, GreaterThan, and, or, into-cnf, into-cnf-vec}
-use Rattle.sql.specs.Plan.{qualified, scan, nothing, limit, filter, other, nested-loop, hash, Node, leaf, over, join}
+use Rattle.sql.specs.Plan.{qualified, scan, nothing, limit, filter, other, nested-loop, hash, Node, leaf, over, join, max-cells}
 use Rattle.sql.specs.Answer.{Answer, done, refused}
 use Rattle.sql.specs.Mode.{Mode, plain, house}
 use Rattle.sql.specs.Optimizer
 use Rattle.sql.specs.Room
-use Rattle.sql.specs.Room.{max-cells}
 use Rattle.sql.specs.Samples.{keyed, scanned, one-row, number, equals, A, B, C}
 
 -- ---- short names

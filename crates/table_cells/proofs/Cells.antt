@@ -12,19 +12,20 @@ use Rattle.sql.specs.Answer.{done}
 use Rattle.sql.specs.Expression.{Marked, Expression, constant, Row}
 use Rattle.sql.specs.Plan.{Node, values, leaf, up-to}
 use Rattle.sheet.specs.Parts.{tables-at, cell-count}
-use Rattle.sheet.specs.Cell.{Cell, cell-ok, cell}
+use Rattle.sheet.specs.Cell.{Cell, cell}
 use Rattle.sheet.specs.Cells.{all-cells, cells}
-use Rattle.sheet.specs.Content.{Content, content-of}
+use Rattle.sheet.specs.Content.{Content, content-of, cell-ok}
 use Rattle.sheet.specs.Tags
 use Rattle.sheet.specs.Tree.{Tree, expression-tree, label-tree, item-tree, key-tree, target-tree, agg-tree, row-tree, node-tree, Stack, bind, an-expression, a-row, pop, reduce, after, Read, lacking, stack}
 use Rattle.sheet.specs.Check.{test, text, cells-of}
 use Rattle.sheet_laws.specs.Fits.{All}
 use Rattle.sheet_laws.specs.Content.{Words, ok-marked, origin-below}
 use Rattle.sheet_laws.specs.Reading.{stack-cells, Runs, at-end, on, Good, sound}
-use Rattle.sheet_laws.specs.Plan.{Bytes, word-bound}
+use Rattle.sheet_laws.specs.Plan.{word-bound}
 use Rattle.layout.proofs.Laws.{and-left, and-right}
 use Rattle.table_sheet.specs.TableSheet.{frame-fits, in-table, fits, unfinished, read, figure, figures, a-table, nothing-else, all-tables, widths-of, tables-in}
 use Rattle.table_sheet.proofs.Walk.{IsFigure, constant-tag, row-content, values-content, figure-content}
+use Rattle.sheet.specs.Bytes.{Bytes}
 use Rattle.table_cells.specs.Cells.{as-row, table-cells, Are-tables}
 
 -- ---- trees of figures alone, without origins

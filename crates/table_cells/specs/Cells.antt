@@ -9,7 +9,7 @@ use Rattle.sql.specs.Plan.{values}
 use Rattle.sheet.specs.Cell.{Cell}
 use Rattle.sheet.specs.Cells.{all-cells, leaf-cells}
 use Rattle.sheet.specs.Check.{cells-of}
-use Rattle.sheet_laws.specs.Plan.{Bytes}
+use Rattle.sheet.specs.Bytes.{Bytes}
 use Rattle.table_sheet.specs.TableSheet.{tables-in}
 
 -- a row of figures as a Row of constants, without origins

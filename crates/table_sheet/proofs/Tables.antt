@@ -13,8 +13,8 @@ use Rattle.sql.specs.Schema.{Table, Schema, table-of}
 use Rattle.sql.specs.Expression.{Marked, Expression, constant, Row}
 use Rattle.sql.specs.Plan.{values, leaf}
 use Rattle.sheet.specs.Parts.{tables-at, cell-count}
-use Rattle.sheet.specs.Cell.{Cell, cell-ok}
-use Rattle.sheet.specs.Content.{Content, content-of}
+use Rattle.sheet.specs.Cell.{Cell}
+use Rattle.sheet.specs.Content.{Content, content-of, cell-ok}
 use Rattle.sheet.specs.Tags
 use Rattle.sheet.specs.Tree.{expression-tree, row-tree, node-tree, Stack, bind, an-expression, a-row, pop, reduce, after, Read, lacking, stack}
 use Rattle.sheet.specs.Check.{test, text, cells-of}

@@ -7,10 +7,11 @@ use mathlib.Core.List.{List}
 use lib.Dec.{leb, ltb, eqb}
 use lib.ListN.{length}
 use borrow.Author.Tests.{lt-ltb, le-ltb, le-leb, lt-leb, eq-eqb, ne-eqb, not-true, not-false}
-use Rattle.sheet.specs.Cell.{Cell, cell-ok}
+use Rattle.sheet.specs.Cell.{Cell}
 use Rattle.sheet.specs.Parts.{tables-at, columns-at, cells-at, records-ok}
 use Rattle.sheet.specs.Tags
 use Rattle.layout.proofs.Laws.{fails, goes-on}
+use Rattle.sheet.specs.Content.{cell-ok}
 use Rattle.table_sheet.specs.TableSheet.{parts-fit, in-table, fits}
 use Rattle.table_sheet.specs.declared.Counters.{Counters}
 use Rattle.table_sheet.specs.Counters.{has-children, leaves, counted, complete}

@@ -226,7 +226,7 @@ unfinished-are widths c k h =
 module _ (s : List ℕ) where
   pub table-total : length (schema s) ≡ table-count s
   unfolding schema
-  table-total = length-map (up-to 0 (table-count s)) (Check.table s) ∙ length-up-to 0 (table-count s)
+  table-total = length-map (up-to 0 (table-count s)) (Check.sheet-table s) ∙ length-up-to 0 (table-count s)
 
   pub widths-total : length (widths-of (schema s)) ≡ table-count s
   widths-total = length-map (schema s) (λ (table : Table). length (table .columns)) ∙ table-total
@@ -235,10 +235,10 @@ module _ (s : List ℕ) where
   unfolding schema
   width-is i h = go (table-count s) 0 i h ∙ ap (columns-of s) (omega arith)
     where
-      go : (n from j : ℕ) → j < n → getD (widths-of (map (Check.table s) (up-to from n))) j 0 ≡ columns-of s (from + j)
+      go : (n from j : ℕ) → j < n → getD (widths-of (map (Check.sheet-table s) (up-to from n))) j 0 ≡ columns-of s (from + j)
       go zero from j h = absurd (omega arith)
       go (suc n) from zero h =
-          length-map (up-to (first-column s from) (columns-of s from)) (Check.column s) ∙ length-up-to (first-column s from) (columns-of s from) ∙ ap (columns-of s) (omega arith)
+          length-map (up-to (first-column s from) (columns-of s from)) (Check.sheet-column s) ∙ length-up-to (first-column s from) (columns-of s from) ∙ ap (columns-of s) (omega arith)
       go (suc n) from (suc j) h = go n (suc from) j (omega arith) ∙ ap (columns-of s) (omega arith)
 
 -- ---- the walk

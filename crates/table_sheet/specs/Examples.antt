@@ -6,15 +6,16 @@ use mathlib.Core.List.{List, [], _∷_, _++_, map}
 use lib.IntN.{pos}
 use lib.ListN.{length, take, replicate}
 use Rattle.value.specs.Value.{Value, datum, integer, string, null}
-use Rattle.value.specs.Meaning.{integer-of-bits}
+use Rattle.value.specs.Encoding.{integer-of-bits}
 use Rattle.sql.specs.Answer.{Answer, done, refused}
 use Rattle.sql.specs.Schema.{Integer, Table, Schema}
 use Rattle.sql.specs.Expression.{Row}
 use Rattle.sheet.specs.Bytes.{half, word, bytes}
 use Rattle.sheet.specs.Parts.{length-ok}
-use Rattle.sheet.specs.Cell.{Cell, cell, cell-ok}
+use Rattle.sheet.specs.Cell.{Cell, cell}
 use Rattle.sheet.specs.Tags
 use Rattle.sheet.specs.Write.{cells-bytes}
+use Rattle.sheet.specs.Content.{cell-ok}
 use Rattle.table_sheet.specs.TableSheet.{tables-in}
 
 -- a table with so many columns

@@ -15,9 +15,9 @@ use Rattle.sql.specs.Schema.{Table, Schema}
 use Rattle.sql.specs.Expression.{Marked, Expression, constant, column, unary, binary, Row}
 use Rattle.sql.specs.Plan.{Leaf, scan, lookup, nothing, values, Node, leaf, over, join}
 use Rattle.sheet.specs.Parts.{tables-at, columns-at, cells-at, edition, cell-count, length-ok, records-ok}
-use Rattle.sheet.specs.Cell.{Cell, cell-ok}
+use Rattle.sheet.specs.Cell.{Cell}
 use Rattle.sheet.specs.Tags
-use Rattle.sheet.specs.Content.{content-of}
+use Rattle.sheet.specs.Content.{content-of, cell-ok}
 use Rattle.sheet.specs.Tree.{Tree, Stack, bind, a-node, pop, reduce, after, Read, lacking, stack}
 use Rattle.sheet.specs.Check.{test, text, schema, cells-of}
 
