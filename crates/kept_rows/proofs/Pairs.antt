@@ -31,7 +31,7 @@ placed pair q = record { first = pair .first; columns = pair .columns; rest = q 
 
 -- ---- where rows stand
 
-part-stays : {d d′ : List ℕ} {lo hi at : ℕ} {w : List ℕ} → take at d′ ≡ take at d → hi ≤ at → Part d lo hi w → Part d′ lo hi w
+pub part-stays : {d d′ : List ℕ} {lo hi at : ℕ} {w : List ℕ} → take at d′ ≡ take at d → hi ≤ at → Part d lo hi w → Part d′ lo hi w
 part-stays {d} {d′} {lo} {hi} {at} e h p = part-kept p (sym (take-take hi at d′ h) ∙ ap (take hi) e ∙ take-take hi at d h)
 
 sources-stay : {text d d′ : List ℕ} {pair : RowPlace} {right rows at : ℕ} {l : Row} {rs : List Row} → take at d′ ≡ take at d
@@ -48,10 +48,10 @@ sources-stay e s =
       count = s .count;
     }
 
-wide-first : {n : ℕ} {row : Row} {rows : List Row} → Wide n (row ∷ rows) → length row ≡ n
+pub wide-first : {n : ℕ} {row : Row} {rows : List Row} → Wide n (row ∷ rows) → length row ≡ n
 wide-first (and-row e w) = e
 
-wide-others : {n : ℕ} {row : Row} {rows : List Row} → Wide n (row ∷ rows) → Wide n rows
+pub wide-others : {n : ℕ} {row : Row} {rows : List Row} → Wide n (row ∷ rows) → Wide n rows
 wide-others (and-row e w) = w
 
 -- the next right row, and those behind it
@@ -140,7 +140,7 @@ going-first {d = d} {at = at} {n} {given} {cell} = record {
       };
 }
 
-none-left : (rest : List Row) → length rest ≡ 0 → rest ≡ []
+pub none-left : (rest : List Row) → length rest ≡ 0 → rest ≡ []
 none-left [] e = refl
 none-left (r ∷ rest) e = absurd (omega arith)
 

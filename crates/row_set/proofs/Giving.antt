@@ -44,17 +44,17 @@ pair-words kept l r =
 
 -- ---- counts
 
-few-enough : (rows f : ℕ) → rows ≤ 1024 → f ≤ 16384 → few rows f ≡ true
+pub few-enough : (rows f : ℕ) → rows ≤ 1024 → f ≤ 16384 → few rows f ≡ true
 few-enough rows f h k = ap₂ _&&_ (le-leb rows 1024 h) (le-leb f 16384 k)
 
-rows-too-many : (rows f : ℕ) → 1024 < rows → few rows f ≡ false
+pub rows-too-many : (rows f : ℕ) → 1024 < rows → few rows f ≡ false
 rows-too-many rows f h = ap (λ (b : Bool). b && leb f 16384) (lt-leb rows 1024 h)
 
 and-false : (b : Bool) → (b && false) ≡ false
 and-false true = refl
 and-false false = refl
 
-figures-too-many : (rows f : ℕ) → 16384 < f → few rows f ≡ false
+pub figures-too-many : (rows f : ℕ) → 16384 < f → few rows f ≡ false
 figures-too-many rows f h = ap (λ (b : Bool). leb rows 1024 && b) (lt-leb f 16384 h) ∙ and-false (leb rows 1024)
 
 -- the parts' lengths
@@ -66,10 +66,34 @@ pair-long {l = l} {r} h = omega (arith, h .left .high, h .right .high, row-long 
 kept-first : {d₀ d : List ℕ} {at n given : ℕ} {kept : List Row} → Collecting d₀ d at n given kept → take at d ≡ take at d₀
 kept-first c = before-stays (c .appended) (c .inside)
 
-stops : {d₀ d : List ℕ} {at n given : ℕ} {kept : List Row} (cell : ℕ) (row : Row) (b : Bool) → Collecting d₀ d at n given kept → b ≡ false
+pub stops : {d₀ d : List ℕ} {at n given : ℕ} {kept : List Row} (cell : ℕ) (row : Row) (b : Bool) → Collecting d₀ d at n given kept → b ≡ false
     → Adds d₀ at kept (counted b cell row (done [])) (Given.Stopped cell) d
 stops {d₀} {d} {at} {kept = kept} cell row b c e =
     subst (λ (x : Bool). Adds d₀ at kept (counted x cell row (done [])) (Given.Stopped cell) d) (sym e) (record { added = (refl, refl, kept-first c) })
+
+-- A row's two parts are appended, and it is one of few.
+pub pair-given : {d₀ d : List ℕ} {at n given : ℕ} {kept : List Row} (cell : ℕ) (l r : Row) → Collecting d₀ d at n given kept → given < 1024 → 3 * length (l ++ r) ≤ 49152 - (n - at)
+    → {m : ℕ} {d₁ : List ℕ} → Appended d n (row-words l) m d₁ → {e : ℕ} {d₂ : List ℕ} → Appended d₁ m (row-words r) e d₂ → length d₂ ≡ length d
+    → Adds d₀ at kept (counted (few (suc (length kept)) (figures kept + length (l ++ r))) cell (l ++ r) (done [])) (Given.Rows (given + 1) e) d₂
+pair-given {d₀} {d} {at} {n} {given} {kept} cell l r c few-rows few-words {m} {d₁} a {e} {d₂} b long =
+    let f = few-enough (suc (length kept)) (figures kept + length (l ++ r)) (omega (arith, c .count)) (omega (arith, c .appended .ends, c .few-words, set-long kept)) in
+    subst (λ (x : Bool). Adds d₀ at kept (counted x cell (l ++ r) (done [])) (Given.Rows (given + 1) e) d₂) (sym f)
+    (record {
+      added = record {
+        appended = record {
+          ends = omega (arith, a .ends, b .ends, c .appended .ends, ap length (pair-words kept l r), length-append (set-words kept ++ row-words l) (row-words r), length-append (set-words kept) (row-words l));
+          kept = b .kept ∙ ap (λ (x : List ℕ). x ++ row-words r) (a .kept ∙ ap (λ (x : List ℕ). x ++ row-words l) (c .appended .kept))
+              ∙ ap (λ (x : List ℕ). x ++ row-words r) (append-assoc (take at d₀) (set-words kept) (row-words l))
+              ∙ append-assoc (take at d₀) (set-words kept ++ row-words l) (row-words r)
+              ∙ ap (λ (x : List ℕ). take at d₀ ++ x) (pair-words kept l r);
+        };
+        count = omega (arith, c .count, length-append kept ((l ++ r) ∷ []));
+        few-rows = omega arith;
+        few-words = omega (arith, a .ends, b .ends, c .appended .ends, c .few-words, row-long l, row-long r, length-append l r);
+        long = long ∙ c .long;
+        inside = c .inside;
+      };
+    })
 
 module _ {d : List ℕ} {p words q more at n given : ℕ} (cell : ℕ) where
   pub rows-stop : 1024 ≤ given → GivesRow d p words q more at n given cell (Given.Stopped cell) d
@@ -103,24 +127,5 @@ module _ {d : List ℕ} {p words q more at n given : ℕ} (cell : ℕ) where
       is = λ d₀ kept l r c here.
           let i : at ≤ n = omega (arith, c .appended .ends) in
           let j : n ≤ length d = omega (arith, c .few-words) in
-          let a = first .is (row-words l) (here .left) in
-          let b = second .is (row-words r) (right-stays l r here i j) in
-          let f = few-enough (suc (length kept)) (figures kept + length (l ++ r)) (omega (arith, c .count)) (omega (arith, c .appended .ends, set-long kept, pair-long here)) in
-          subst (λ (x : Bool). Adds d₀ at kept (counted x cell (l ++ r) (done [])) (Given.Rows (given + 1) e) d₂) (sym f)
-          (record {
-            added = record {
-              appended = record {
-                ends = omega (arith, a .ends, b .ends, c .appended .ends, ap length (pair-words kept l r), length-append (set-words kept ++ row-words l) (row-words r), length-append (set-words kept) (row-words l));
-                kept = b .kept ∙ ap (λ (x : List ℕ). x ++ row-words r) (a .kept ∙ ap (λ (x : List ℕ). x ++ row-words l) (c .appended .kept))
-                    ∙ ap (λ (x : List ℕ). x ++ row-words r) (append-assoc (take at d₀) (set-words kept) (row-words l))
-                    ∙ append-assoc (take at d₀) (set-words kept ++ row-words l) (row-words r)
-                    ∙ ap (λ (x : List ℕ). take at d₀ ++ x) (pair-words kept l r);
-              };
-              count = omega (arith, c .count, length-append kept ((l ++ r) ∷ []));
-              few-rows = omega arith;
-              few-words = omega (arith, a .ends, b .ends, here .left .high, here .right .high);
-              long = long₂ ∙ c .long;
-              inside = c .inside;
-            };
-          });
+          pair-given cell l r c few-rows (omega (arith, pair-long here)) (first .is (row-words l) (here .left)) (second .is (row-words r) (right-stays l r here i j)) long₂;
     }

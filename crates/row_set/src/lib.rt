@@ -7,9 +7,9 @@ ghost use lib.ListN.{length};
 ghost use Rattle.row_set.specs.Sets.{CopiesTo, GiveAt, GivesRow};
 
 // The most rows that a node gives, and the most words of them: 16,384 figures.
-const MOST_ROWS: usize = 1024;
+pub const MOST_ROWS: usize = 1024;
 
-const MOST_WORDS: usize = 49152;
+pub const MOST_WORDS: usize = 49152;
 
 // What a node has given: so many rows, whose words end there; or the cell where the reader stops.
 pub enum Given {
@@ -18,7 +18,7 @@ pub enum Given {
 }
 
 // n words of d from `from` on, copied to `to`, which is behind them.
-fn copy_words(d: &mut [u32], from: usize, n: usize, to: usize) -> usize
+pub fn copy_words(d: &mut [u32], from: usize, n: usize, to: usize) -> usize
     requires { ⌜ (from + n ≤ to) × ((to + n ≤ length (now d)) × (length (now d) < 4294967296)) ⌝ }
     ensures { λ r. ⌜ CopiesTo (now (d .entry)) from n to r (now (d .exit)) ⌝ }
 {
