@@ -408,14 +408,17 @@ impl Reader<'_> {
         }
     }
 
-    /// Whether a lookup takes a figure.
+    /// Whether a lookup takes a figure: both of one kind and equal, both Null, or
+    /// both NaN.
     fn takes(&self, listed: &[Range], figure: Val) -> bool {
         let nan = |v: Val| matches!(v, Val::Float(bits) if f64::from_bits(bits).is_nan());
         listed.iter().any(|&(at, _)| {
             let v = tree::constant(&self.cells[at]);
+            let one_kind = std::mem::discriminant(&v) == std::mem::discriminant(&figure);
             (v == Val::Null && figure == Val::Null)
                 || (nan(v) && nan(figure))
-                || value::two(tag::EQUAL, v, figure, self.text) == Ok(Val::Bool(true))
+                || (one_kind
+                    && value::two(tag::EQUAL, v, figure, self.text) == Ok(Val::Bool(true)))
         })
     }
 }

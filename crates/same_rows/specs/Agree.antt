@@ -18,7 +18,7 @@ use Rattle.sql.specs.Mode.{Mode, keeps-left}
 use Rattle.sql.specs.Lists.{cons-if, keep, flat-map}
 use Rattle.rows.specs.Database.{Database}
 use Rattle.rows.specs.Reading.{each, keep-each, is-true, kept, holds, optional-holds, join-holds, joined-rows, or-nulls, outer-rows, read-join, evaluate-all, fit, values-row, pick-all, expressions, directions, read-leaf, read-over, read}
-use Rattle.rows.specs.Equalities.{Compared, is-true-result, of-columns, of-binary, of-expression, of-optional, of-join, of-list, of-over, in-rows, of-leaf, equalities, of-one-kind, all}
+use Rattle.rows.specs.Equalities.{Compared, of-columns, of-binary, of-expression, of-optional, of-join, of-list, of-over, in-rows, of-leaf, equalities, of-one-kind, all}
 use Rattle.same_rows.specs.Booleans.{false≢true, and-left, and-right}
 use Rattle.same_rows.specs.Total.{at, Total, known, figure, Shape, even-nots, odd-nots, no-column, valued, total-of, from-value, or-null, plain, turn, as-truth, mixed, truth-of, equal-totals, is-even, total-unary, total-binary, total, true-at, optional-true-at, to-value, value-at}
 use Rattle.same_rows.specs.Normal.{all-append}
