@@ -19,8 +19,8 @@ Applies lhs rhs r =
     → applied whole double r ≡ arithmetic whole double lhs rhs
 
 -- The largest magnitude of a 64-bit product of two Integers with these signs: the smallest Integer's is one larger than the largest one's.
-abbrev pub largest-magnitude : ℤ → ℤ → ℕ
-largest-magnitude (pos a) (pos b) = 0x7FFFFFFFFFFFFFFF
-largest-magnitude (pos a) (negsuc b) = 0x8000000000000000
-largest-magnitude (negsuc a) (pos b) = 0x8000000000000000
-largest-magnitude (negsuc a) (negsuc b) = 0x7FFFFFFFFFFFFFFF
+abbrev pub largest_magnitude : ℤ → ℤ → ℕ
+largest_magnitude (pos a) (pos b) = 0x7FFFFFFFFFFFFFFF
+largest_magnitude (pos a) (negsuc b) = 0x8000000000000000
+largest_magnitude (negsuc a) (pos b) = 0x8000000000000000
+largest_magnitude (negsuc a) (negsuc b) = 0x7FFFFFFFFFFFFFFF

@@ -2,11 +2,11 @@
 ghost use Rattle.std.specs.Prelude.{ℕ, ◌≡◌, List, neg_ℤ};
 ghost use Rattle.std.specs.Float.Ieee as Ieee;
 ghost use Rattle.std.specs.Float.{binary64};
-ghost use Rattle.value.specs.Meaning.{meaning, result};
-ghost use Rattle.ieee754.specs.Ieee754.{square-root-bits};
-ghost use Rattle.arithmetic.specs.Operands.{Applies, largest-magnitude};
+ghost use Rattle.value.specs.Meaning.{meaning, outcome_of};
+ghost use Rattle.ieee754.specs.Ieee754.{square_root_bits};
+ghost use Rattle.arithmetic.specs.Operands.{Applies, largest_magnitude};
 ghost use Rattle.value.specs.Value.{null, datum, integer, float};
-ghost use Rattle.value.specs.Arithmetic.{checked, add-integers, subtract-integers, multiply-integers, divide-integers, checked-add, checked-sub, checked-mul, checked-div, identity, negate, root-of-integer, square-root};
+ghost use Rattle.value.specs.Arithmetic.{checked, add_integers, subtract_integers, multiply_integers, divide_integers, checked_add, checked_sub, checked_mul, checked_div, identity, negate, root_of_integer, square_root};
 
 use value::{Error, Result, Value};
 
@@ -16,7 +16,7 @@ const MAX: i64 = 9223372036854775807;
 
 // Adds two values.
 pub fn checked_add(lhs: Value, rhs: Value) -> Result
-    ensures* { λ r. ⌜ ((text : List ℕ) → result text r ≡ checked-add (meaning text lhs) (meaning text rhs)) ⌝ }
+    ensures { (text : List ℕ) → outcome_of text result ≡ checked_add (meaning text lhs) (meaning text rhs) }
 {
     match operands_of(lhs, rhs) {
         Operands::Integers(a, b) => add_integers(a, b),
@@ -28,7 +28,7 @@ pub fn checked_add(lhs: Value, rhs: Value) -> Result
 
 // Subtracts two values.
 pub fn checked_sub(lhs: Value, rhs: Value) -> Result
-    ensures* { λ r. ⌜ ((text : List ℕ) → result text r ≡ checked-sub (meaning text lhs) (meaning text rhs)) ⌝ }
+    ensures { (text : List ℕ) → outcome_of text result ≡ checked_sub (meaning text lhs) (meaning text rhs) }
 {
     match operands_of(lhs, rhs) {
         Operands::Integers(a, b) => subtract_integers(a, b),
@@ -40,7 +40,7 @@ pub fn checked_sub(lhs: Value, rhs: Value) -> Result
 
 // Multiplies two values.
 pub fn checked_mul(lhs: Value, rhs: Value) -> Result
-    ensures* { λ r. ⌜ ((text : List ℕ) → result text r ≡ checked-mul (meaning text lhs) (meaning text rhs)) ⌝ }
+    ensures { (text : List ℕ) → outcome_of text result ≡ checked_mul (meaning text lhs) (meaning text rhs) }
 {
     match operands_of(lhs, rhs) {
         Operands::Integers(a, b) => multiply_integers(a, b),
@@ -52,7 +52,7 @@ pub fn checked_mul(lhs: Value, rhs: Value) -> Result
 
 // Divides two values.
 pub fn checked_div(lhs: Value, rhs: Value) -> Result
-    ensures* { λ r. ⌜ ((text : List ℕ) → result text r ≡ checked-div (meaning text lhs) (meaning text rhs)) ⌝ }
+    ensures { (text : List ℕ) → outcome_of text result ≡ checked_div (meaning text lhs) (meaning text rhs) }
 {
     match operands_of(lhs, rhs) {
         Operands::Integers(a, b) => divide_integers(a, b),
@@ -63,7 +63,7 @@ pub fn checked_div(lhs: Value, rhs: Value) -> Result
 }
 
 pub fn identity(v: Value) -> Result
-    ensures* { λ r. ⌜ ((text : List ℕ) → result text r ≡ identity (meaning text v)) ⌝ }
+    ensures { (text : List ℕ) → outcome_of text result ≡ identity (meaning text v) }
 {
     match v {
         Value::Integer(i) => Result::Ok(Value::Integer(i)),
@@ -75,7 +75,7 @@ pub fn identity(v: Value) -> Result
 }
 
 pub fn negate(v: Value) -> Result
-    ensures* { λ r. ⌜ ((text : List ℕ) → result text r ≡ negate (meaning text v)) ⌝ }
+    ensures { (text : List ℕ) → outcome_of text result ≡ negate (meaning text v) }
 {
     match v {
         Value::Integer(i) => negate_integer(i),
@@ -88,7 +88,7 @@ pub fn negate(v: Value) -> Result
 
 // The square root.
 pub fn square_root(v: Value) -> Result
-    ensures* { λ r. ⌜ ((text : List ℕ) → result text r ≡ square-root (meaning text v)) ⌝ }
+    ensures { (text : List ℕ) → outcome_of text result ≡ square_root (meaning text v) }
 {
     match v {
         Value::Integer(i) => root_of_integer(i),
@@ -109,7 +109,7 @@ pub enum Operands {
 }
 
 fn operands_of(lhs: Value, rhs: Value) -> Operands
-    ensures* { λ r. ⌜ ((text : List ℕ) → Applies (meaning text lhs) (meaning text rhs) r) ⌝ }
+    ensures { (text : List ℕ) → Applies (meaning text lhs) (meaning text rhs) result }
 {
     match lhs {
         Value::Integer(a) => integer_and_value(a, rhs),
@@ -121,7 +121,7 @@ fn operands_of(lhs: Value, rhs: Value) -> Operands
 }
 
 fn integer_and_value(a: i64, rhs: Value) -> Operands
-    ensures* { λ r. ⌜ ((text : List ℕ) → Applies (datum (integer a)) (meaning text rhs) r) ⌝ }
+    ensures { (text : List ℕ) → Applies (datum (integer a)) (meaning text rhs) result }
 {
     match rhs {
         Value::Integer(b) => Operands::Integers(a, b),
@@ -133,7 +133,7 @@ fn integer_and_value(a: i64, rhs: Value) -> Operands
 }
 
 fn float_and_value(x: f64, rhs: Value) -> Operands
-    ensures* { λ r. ⌜ ((text : List ℕ) → Applies (datum (float (Ieee.to_bits binary64 x))) (meaning text rhs) r) ⌝ }
+    ensures { (text : List ℕ) → Applies (datum (float (Ieee.to_bits binary64 x))) (meaning text rhs) result }
 {
     match rhs {
         Value::Integer(b) => Operands::Floats(x, ieee754::nearest_f64(b)),
@@ -145,7 +145,7 @@ fn float_and_value(x: f64, rhs: Value) -> Operands
 }
 
 fn null_and_value(rhs: Value) -> Operands
-    ensures* { λ r. ⌜ ((text : List ℕ) → Applies null (meaning text rhs) r) ⌝ }
+    ensures { (text : List ℕ) → Applies null (meaning text rhs) result }
 {
     match rhs {
         Value::Integer(_) => Operands::Null,
@@ -157,7 +157,7 @@ fn null_and_value(rhs: Value) -> Operands
 }
 
 fn add_integers(a: i64, b: i64) -> Result
-    ensures* { λ r. ⌜ ((text : List ℕ) → result text r ≡ add-integers a b) ⌝ }
+    ensures { (text : List ℕ) → outcome_of text result ≡ add_integers a b }
 {
     if 0 <= b {
         if MAX - b < a {
@@ -173,7 +173,7 @@ fn add_integers(a: i64, b: i64) -> Result
 
 // The smallest Integer has no opposite, and is subtracted only from an Integer below zero.
 fn subtract_integers(a: i64, b: i64) -> Result
-    ensures* { λ r. ⌜ ((text : List ℕ) → result text r ≡ subtract-integers a b) ⌝ }
+    ensures { (text : List ℕ) → outcome_of text result ≡ subtract_integers a b }
 {
     if b == MIN {
         if 0 <= a {
@@ -186,7 +186,7 @@ fn subtract_integers(a: i64, b: i64) -> Result
 
 // The largest magnitude that a product of Integers with the signs of a and b may have.
 fn largest_magnitude(a: i64, b: i64) -> u64
-    ensures* { λ r. ⌜ r ≡ largest-magnitude a b ⌝ }
+    ensures { result ≡ largest_magnitude a b }
 {
     if a < 0 {
         if b < 0 {
@@ -203,7 +203,7 @@ fn largest_magnitude(a: i64, b: i64) -> u64
 // A product's magnitude is at most n where one factor's is at most n over the other's, so that no
 // product is worked out before it is known to fit.
 fn multiply_integers(a: i64, b: i64) -> Result
-    ensures* { λ r. ⌜ ((text : List ℕ) → result text r ≡ multiply-integers a b) ⌝ }
+    ensures { (text : List ℕ) → outcome_of text result ≡ multiply_integers a b }
 {
     let x = ieee754::magnitude(a);
     if x == 0 {
@@ -217,7 +217,7 @@ fn multiply_integers(a: i64, b: i64) -> Result
 
 // The quotient, cut toward zero.
 fn divide_integers(a: i64, b: i64) -> Result
-    ensures* { λ r. ⌜ ((text : List ℕ) → result text r ≡ divide-integers a b) ⌝ }
+    ensures { (text : List ℕ) → outcome_of text result ≡ divide_integers a b }
 {
     if b == 0 {
         return Result::Err(Error::DivisionByZero);
@@ -229,7 +229,7 @@ fn divide_integers(a: i64, b: i64) -> Result
 }
 
 fn negate_integer(i: i64) -> Result
-    ensures* { λ r. ⌜ ((text : List ℕ) → result text r ≡ checked (neg_ℤ i)) ⌝ }
+    ensures { (text : List ℕ) → outcome_of text result ≡ checked (neg_ℤ i) }
 {
     if i == MIN {
         return Result::Err(Error::Overflow);
@@ -239,7 +239,7 @@ fn negate_integer(i: i64) -> Result
 
 // An Integer's root: it is rounded first.
 fn root_of_integer(i: i64) -> Result
-    ensures* { λ r. ⌜ ((text : List ℕ) → result text r ≡ root-of-integer i) ⌝ }
+    ensures { (text : List ℕ) → outcome_of text result ≡ root_of_integer i }
 {
     if i < 0 {
         return Result::Err(Error::Mismatch);
@@ -249,7 +249,7 @@ fn root_of_integer(i: i64) -> Result
 
 // A Float's root, from pattern to pattern.
 fn root_of_float(x: f64) -> f64
-    ensures* { λ r. ⌜ Ieee.to_bits binary64 r ≡ square-root-bits (Ieee.to_bits binary64 x) ⌝ }
+    ensures { Ieee.to_bits binary64 result ≡ square_root_bits (Ieee.to_bits binary64 x) }
 {
     value::float_of_bits(ieee754::square_root_bits(value::float_bits(x)))
 }

@@ -10,9 +10,9 @@ use lib.Dec.{eqb}
 use lib.ListN.{get_or, get_or-map, get_or-eq_default}
 use Rattle.sql.specs.Plan.{up_to}
 use Rattle.sql.specs.Ranges.{same_in}
-use Rattle.sheet.specs.Cell.{Cell, Tag, unknown, not_carried, carried, tags, tag_of, fields-ok, float_ok, cell-ok}
-use Rattle.sheet.specs.Content.{Content, Reader, readers, content-of, bit}
-use Rattle.arity.specs.Arity.{sort-of, asking, children-of, Sorted, Asked}
+use Rattle.sheet.specs.Cell.{Cell, Tag, unknown, not_carried, carried, tags, tag_of, fields_ok, float_ok, cell_ok}
+use Rattle.sheet.specs.Content.{Content, Reader, readers, content_of, bit}
+use Rattle.arity.specs.Arity.{sort_of, asking, children_of, Sorted, Asked}
 use Rattle.arity.specs.declared.Children.{Children}
 
 -- for a tag past the list of readers
@@ -20,8 +20,8 @@ abbrev no_cell : Reader
 no_cell text x = none
 
 -- a flag's bit 0, as a number
-pub bit0-is : (flag : ℕ) → bit (eqb (flag % 2) 1) ≡ flag % 2
-bit0-is flag = go (flag % 2) (omega arith)
+pub bit0_is : (flag : ℕ) → bit (eqb (flag % 2) 1) ≡ flag % 2
+bit0_is flag = go (flag % 2) (omega arith)
   where
     go : (n : ℕ) → n < 2 → bit (eqb n 1) ≡ n
     go zero h = refl
@@ -32,20 +32,20 @@ bit0-is flag = go (flag % 2) (omega arith)
 
 module _ {tag : ℕ} where
   -- The sort of the tags from one on is what a function says.
-  pub sorted-by : (f : ℕ → ℕ) (from n : ℕ) → ((text : List ℕ) (x : Cell) → map (λ t. sort-of (get_or readers t no_cell text x)) (up_to from n) ≡ map f (up_to from n))
+  pub sorted_by : (f : ℕ → ℕ) (from n : ℕ) → ((text : List ℕ) (x : Cell) → map (λ t. sort_of (get_or readers t no_cell text x)) (up_to from n) ≡ map f (up_to from n))
       → from ≤ tag → tag < from + n → f tag < 10 → Sorted tag (f tag)
-  unfolding content-of
-  sorted-by f from n e h j k =
+  unfolding content_of
+  sorted_by f from n e h j k =
       record {
-        is = λ text x q. sym (ap (λ (t : ℕ). sort-of (get_or readers t no_cell text x)) q ∙ same_in (λ t. sort-of (get_or readers t no_cell text x)) f from n (e text x) tag h j);
+        is = λ text x q. sym (ap (λ (t : ℕ). sort_of (get_or readers t no_cell text x)) q ∙ same_in (λ t. sort_of (get_or readers t no_cell text x)) f from n (e text x) tag h j);
         small = k;
       }
 
   pub unsorted : 64 ≤ tag → Sorted tag 0
-  unfolding content-of
+  unfolding content_of
   unsorted h =
       record {
-        is = λ text x q. sym (ap (λ (r : Reader). sort-of (r text x)) (ap (λ (t : ℕ). get_or readers t no_cell) q ∙ get_or-eq_default readers no_cell {n = tag} h));
+        is = λ text x q. sym (ap (λ (r : Reader). sort_of (r text x)) (ap (λ (t : ℕ). get_or readers t no_cell) q ∙ get_or-eq_default readers no_cell {n = tag} h));
         small = omega arith;
       }
 
@@ -55,35 +55,35 @@ abbrev it : (tag flag a b c origin : ℕ) → Cell
 it tag flag a b c origin = record { tag = tag; flag = flag; origin = origin; a = a; b = b; c = c }
 
 -- what the reader for a tag says that a cell asks for
-abbrev asked-at : List ℕ → Cell → ℕ → Children
-asked-at text x t = children-of (get_or readers t no_cell text x)
+abbrev asked_at : List ℕ → Cell → ℕ → Children
+asked_at text x t = children_of (get_or readers t no_cell text x)
 
 module _ {tag flag a b c : ℕ} where
   -- Cells with the tags from one on ask for the same children.
-  pub asked_by : (v : Children) (from n : ℕ) → ((text : List ℕ) (origin : ℕ) → map (asked-at text (it tag flag a b c origin)) (up_to from n) ≡ map (λ t. v) (up_to from n))
+  pub asked_by : (v : Children) (from n : ℕ) → ((text : List ℕ) (origin : ℕ) → map (asked_at text (it tag flag a b c origin)) (up_to from n) ≡ map (λ t. v) (up_to from n))
       → from ≤ tag → tag < from + n → v.nodes < 3 → {r : Children} → r ≡ v → Asked tag flag a b c r
-  unfolding content-of
+  unfolding content_of
   asked_by v from n e h j k q =
       record {
-        is = λ text origin. q ∙ sym (same_in (asked-at text (it tag flag a b c origin)) (λ t. v) from n (e text origin) tag h j);
+        is = λ text origin. q ∙ sym (same_in (asked_at text (it tag flag a b c origin)) (λ t. v) from n (e text origin) tag h j);
         few = rw q k;
       }
 
   -- no cell has a tag past the readers
   pub unasked : 64 ≤ tag → {r : Children} → r ≡ asking 0 0 0 0 → Asked tag flag a b c r
-  unfolding content-of
+  unfolding content_of
   unasked h q =
       record {
-        is = λ text origin. q ∙ sym (ap (λ (r : Reader). children-of (r text (it tag flag a b c origin))) (get_or-eq_default readers no_cell {n = tag} h));
+        is = λ text origin. q ∙ sym (ap (λ (r : Reader). children_of (r text (it tag flag a b c origin))) (get_or-eq_default readers no_cell {n = tag} h));
         few = rw q (omega arith);
       }
 
   -- a cell of one tag
-  pub asked-as : (t : ℕ) (v : Children) → ((text : List ℕ) (origin : ℕ) → asked-at text (it tag flag a b c origin) t ≡ v) → tag ≡ t → v.nodes < 3 → {r : Children} → r ≡ v → Asked tag flag a b c r
-  unfolding content-of
-  asked-as t v e h k q =
+  pub asked_as : (t : ℕ) (v : Children) → ((text : List ℕ) (origin : ℕ) → asked_at text (it tag flag a b c origin) t ≡ v) → tag ≡ t → v.nodes < 3 → {r : Children} → r ≡ v → Asked tag flag a b c r
+  unfolding content_of
+  asked_as t v e h k q =
       record {
-        is = λ text origin. q ∙ sym (ap (asked-at text (it tag flag a b c origin)) h ∙ e text origin);
+        is = λ text origin. q ∙ sym (ap (asked_at text (it tag flag a b c origin)) h ∙ e text origin);
         few = rw q k;
       }
 
@@ -92,16 +92,16 @@ module _ {tag flag a b c : ℕ} where
 -- What a cell says, if its layout is right.
 pub record Known (text : List ℕ) (x : Cell) : Type 0 where
   pub content : Content
-  pub is : content-of text x ≡ some content
+  pub is : content_of text x ≡ some content
 
 abbrev is_carried : Tag → Bool
 is_carried unknown = false
 is_carried not_carried = false
 is_carried (carried flags a b c) = true
 
-abbrev has-content : Option Content → Bool
-has-content none = false
-has-content (some k) = true
+abbrev has_content : Option Content → Bool
+has_content none = false
+has_content (some k) = true
 
 -- What two tables say is the same at each index if it is so as lists, and for the entries that stand for those past the end.
 same_at : {A B C : Type 0} (f : A → C) (g : B → C) (l : List A) (m : List B) (d : A) (e : B) → f d ≡ g e → map f l ≡ map g m
@@ -110,19 +110,19 @@ same_at f g l m d e p q n =
     sym (get_or-map f l n d) ∙ ap (λ (x : List _). get_or x n (f d)) q ∙ ap (λ (x : _). get_or (map g m) n x) p ∙ get_or-map g m n e
 
 -- The tags that the layout allows are those that have a reader.
-carried-rule : (text : List ℕ) (x : Cell) → is_carried (tag_of x.tag) ≡ has-content (content-of text x)
-unfolding tag_of content-of
-carried-rule text x = same_at is_carried (λ (r : Reader). has-content (r text x)) tags readers unknown (λ t c. none) refl refl x.tag
+carried_rule : (text : List ℕ) (x : Cell) → is_carried (tag_of x.tag) ≡ has_content (content_of text x)
+unfolding tag_of content_of
+carried_rule text x = same_at is_carried (λ (r : Reader). has_content (r text x)) tags readers unknown (λ t c. none) refl refl x.tag
 
-pub content-known : (text : List ℕ) (origins bytes tables : ℕ) (x : Cell) → cell-ok origins bytes tables x ≡ true → Known text x
-unfolding cell-ok
-content-known text origins bytes tables x e = some-content (content-of text x) refl (sym (carried-rule text x) ∙ tag-carried (tag_of x.tag) e)
+pub content_known : (text : List ℕ) (origins bytes tables : ℕ) (x : Cell) → cell_ok origins bytes tables x ≡ true → Known text x
+unfolding cell_ok
+content_known text origins bytes tables x e = some_content (content_of text x) refl (sym (carried_rule text x) ∙ tag_carried (tag_of x.tag) e)
   where
-    tag-carried : (t : Tag) → (fields-ok origins bytes tables x t && float_ok x) ≡ true → is_carried t ≡ true
-    tag-carried unknown h = h
-    tag-carried not_carried h = h
-    tag-carried (carried flags a b c) h = refl
+    tag_carried : (t : Tag) → (fields_ok origins bytes tables x t && float_ok x) ≡ true → is_carried t ≡ true
+    tag_carried unknown h = h
+    tag_carried not_carried h = h
+    tag_carried (carried flags a b c) h = refl
 
-    some-content : (o : Option Content) → content-of text x ≡ o → has-content o ≡ true → Known text x
-    some-content none p h = let z : ◌≡◌ {A = ℕ} 0 1 = cc in absurd (omega arith)
-    some-content (some k) p h = record { content = k; is = p }
+    some_content : (o : Option Content) → content_of text x ≡ o → has_content o ≡ true → Known text x
+    some_content none p h = let z : ◌≡◌ {A = ℕ} 0 1 = cc in absurd (omega arith)
+    some_content (some k) p h = record { content = k; is = p }

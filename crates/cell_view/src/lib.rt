@@ -1,7 +1,7 @@
 // A view over cells: the sheet's bytes and a cell's number, held in one struct. The work is done by crate `layout`, on the slice and the number. Functions
 // over a struct that holds a slice are proved by hand, so there are two of them, and `cell_of` stands above them with plain parameters.
 ghost use Rattle.std.specs.Prelude.{◌≡◌, ◌<◌};
-ghost use Rattle.sheet.specs.Parts.{cell-count};
+ghost use Rattle.sheet.specs.Parts.{cell_count};
 ghost use Rattle.sheet.specs.Cell as Sheet;
 ghost use Rattle.layout.specs.Layout.{Whole, IsCell};
 
@@ -20,7 +20,7 @@ pub fn view<'a>(sheet: &'a [u8], number: usize) -> CellView<'a>
 
 // The cell that is viewed.
 pub fn cell<'a>(v: CellView<'a>) -> layout::Cell
-    requires { Whole v.sheet.now × (v.number < cell-count v.sheet.now) }
+    requires { Whole v.sheet.now × (v.number < cell_count v.sheet.now) }
     ensures { IsCell (Sheet.cell v.entry.sheet.now v.entry.number) result }
 {
     layout::cell_at(v.sheet, v.number)
@@ -28,7 +28,7 @@ pub fn cell<'a>(v: CellView<'a>) -> layout::Cell
 
 // Cell `number` of a sheet, read through a view.
 pub fn cell_of(sheet: &[u8], number: usize) -> layout::Cell
-    requires { Whole sheet.now × (number < cell-count sheet.now) }
+    requires { Whole sheet.now × (number < cell_count sheet.now) }
     ensures { IsCell (Sheet.cell sheet.now number) result }
 {
     cell(view(sheet, number))

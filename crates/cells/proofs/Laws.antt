@@ -9,7 +9,7 @@ use mathlib.Core.List.{List, [], ◌∷◌, ◌++◌, append_assoc, append-nil}
 use lib.ListN.{length, take, drop, get_or, set, length-append, length-set}
 use lib.Seq.{get_or-append-add, take-suc, take-suc-set, take_at, drop_at}
 use Rattle.cells.specs.declared.Cell.{Cell}
-use Rattle.cells.specs.Cells.{cell-words, words, sized, cell_at, tag_at, start-at, Part, Sized}
+use Rattle.cells.specs.Cells.{cell_words, words, sized, cell_at, tag_at, start_at, Part, Sized}
 use Rattle.cells.specs.Room.{Short, Wrote, Seals, Copies}
 
 -- parts
@@ -30,45 +30,45 @@ module _ {s : List ℕ} {lo hi : ℕ} {w : List ℕ} (p : Part s lo hi w) where
   pub part_in : (lo ≤ hi) × (hi ≤ length s)
   part_in = (omega (arith, p.high), omega (arith, p.low, p.high, ap length p.whole, length-append p.before (w ++ p.after), length-append w p.after))
 
-  pub part-word : (i j : ℕ) → i ≡ lo + j → get_or s i 0 ≡ get_or (w ++ p.after) j 0
-  part-word i j e = rw (e, ← p.low, p.whole) (get_or-append-add p.before (w ++ p.after) j 0)
+  pub part_word : (i j : ℕ) → i ≡ lo + j → get_or s i 0 ≡ get_or (w ++ p.after) j 0
+  part_word i j e = rw (e, ← p.low, p.whole) (get_or-append-add p.before (w ++ p.after) j 0)
 
-  pub part-is : take (hi - lo) (drop lo s) ≡ w
-  part-is = rw (p.whole, drop_at p.before (w ++ p.after) lo p.low) (take_at w p.after (hi - lo) (omega (arith, p.high)))
+  pub part_is : take (hi - lo) (drop lo s) ≡ w
+  part_is = rw (p.whole, drop_at p.before (w ++ p.after) lo p.low) (take_at w p.after (hi - lo) (omega (arith, p.high)))
 
 -- a cell over the words of its children
 module _ {s : List ℕ} {lo hi : ℕ} (b : List ℕ) (k : Cell) (p : Part s lo hi (sized b k)) where
-  pub seam : lo + length b + cell-words ≡ hi
-  seam = omega (arith, p.high, length-append b (words k (length b + cell-words)))
+  pub seam : lo + length b + cell_words ≡ hi
+  seam = omega (arith, p.high, length-append b (words k (length b + cell_words)))
 
-  pub body-part : Part s lo (hi - cell-words) b
-  body-part = let e : lo + length b ≡ hi - cell-words = omega (arith, seam) in rw (← e) (part_left b (words k (length b + cell-words)) p)
+  pub body_part : Part s lo (hi - cell_words) b
+  body_part = let e : lo + length b ≡ hi - cell_words = omega (arith, seam) in rw (← e) (part_left b (words k (length b + cell_words)) p)
 
-  own : Part s (hi - cell-words) hi (words k (length b + cell-words))
-  own = let e : lo + length b ≡ hi - cell-words = omega (arith, seam) in subst (λ (n : ℕ). Part s n hi (words k (length b + cell-words))) e (part_right b (words k (length b + cell-words)) p)
+  own : Part s (hi - cell_words) hi (words k (length b + cell_words))
+  own = let e : lo + length b ≡ hi - cell_words = omega (arith, seam) in subst (λ (n : ℕ). Part s n hi (words k (length b + cell_words))) e (part_right b (words k (length b + cell_words)) p)
 
-  pub cell_in : (lo + cell-words ≤ hi) × (hi ≤ length s)
+  pub cell_in : (lo + cell_words ≤ hi) × (hi ≤ length s)
   cell_in = (omega (arith, seam), (part_in p).1)
 
-  pub cell-is : cell_at s hi ≡ k
-  cell-is =
-      let h : cell-words ≤ hi = omega (arith, seam) in
-      rw (part-word own (hi - cell-words) 0 (omega arith), part-word own (hi - 6) 1 (omega arith), part-word own (hi - 5) 2 (omega arith), part-word own (hi - 4) 3 (omega arith), part-word own (hi - 3) 4 (omega arith), part-word own (hi - 2) 5 (omega arith))
+  pub cell_is : cell_at s hi ≡ k
+  cell_is =
+      let h : cell_words ≤ hi = omega (arith, seam) in
+      rw (part_word own (hi - cell_words) 0 (omega arith), part_word own (hi - 6) 1 (omega arith), part_word own (hi - 5) 2 (omega arith), part_word own (hi - 4) 3 (omega arith), part_word own (hi - 3) 4 (omega arith), part_word own (hi - 2) 5 (omega arith))
 
   pub tag_is : tag_at s hi ≡ k.tag
-  tag_is = ap (λ (x : Cell). x.tag) cell-is
+  tag_is = ap (λ (x : Cell). x.tag) cell_is
 
-  long-is : get_or s (hi - 1) 0 ≡ length b + cell-words
-  long-is = let h : cell-words ≤ hi = omega (arith, seam) in part-word own (hi - 1) 6 (omega arith)
+  long_is : get_or s (hi - 1) 0 ≡ length b + cell_words
+  long_is = let h : cell_words ≤ hi = omega (arith, seam) in part_word own (hi - 1) 6 (omega arith)
 
-  pub start_is : start-at s hi ≡ lo
-  start_is = omega (arith, seam, long-is)
+  pub start_is : start_at s hi ≡ lo
+  start_is = omega (arith, seam, long_is)
 
-  pub has-size : Sized s hi
-  has-size = let (h, j) = cell_in in record { first = omega arith; last = j; long = omega (arith, seam, long-is) }
+  pub has_size : Sized s hi
+  has_size = let (h, j) = cell_in in record { first = omega arith; last = j; long = omega (arith, seam, long_is) }
 
-pub lt-or-ge : (a b : ℕ) → (a < b) ⊎ (b ≤ a)
-lt-or-ge a b = go (dec_lt a b)
+pub lt_or_ge : (a b : ℕ) → (a < b) ⊎ (b ≤ a)
+lt_or_ge a b = go (dec_lt a b)
   where
     go : Dec (a < b) → (a < b) ⊎ (b ≤ a)
     go (yes h) = inl h
@@ -85,11 +85,11 @@ module _ {d : List ℕ} {at : ℕ} {w : List ℕ} {n : ℕ} {d' : List ℕ} wher
   pub fits : Wrote d at w n d' → Short d → at + length w ≤ length d → (n ≡ at + length w) × (take n d' ≡ take at d ++ w)
   fits a s h = a.is (a.room (omega arith) h)
 
-  pub fits-to : Wrote d at w n d' → at + length w < 4294967296 → at + length w ≤ length d → (n ≡ at + length w) × (take n d' ≡ take at d ++ w)
-  fits-to a s h = a.is (a.room s h)
+  pub fits_to : Wrote d at w n d' → at + length w < 4294967296 → at + length w ≤ length d → (n ≡ at + length w) × (take n d' ≡ take at d ++ w)
+  fits_to a s h = a.is (a.room s h)
 
   pub full : Wrote d at w n d' → length d < at + length w → length d < n
-  full a h = ⊎_elim (λ (z : length d < n). z) (λ (z : n ≤ length d). absurd (let (e, _) = a.is z in omega arith)) (lt-or-ge (length d) n)
+  full a h = ⊎_elim (λ (z : length d < n). z) (λ (z : n ≤ length d). absurd (let (e, _) = a.is z in omega arith)) (lt_or_ge (length d) n)
 
 -- one piece, and one more after it
 pub then : {d : List ℕ} {at : ℕ} {v w : List ℕ} {m n : ℕ} {d₁ d₂ : List ℕ}
@@ -116,14 +116,14 @@ pub nothing : (d : List ℕ) (at : ℕ) → Wrote d at [] at d
 nothing d at = record { is = λ h. (omega arith, sym (append-nil (take at d))); room = λ _ h. omega arith }
 
 -- what was written ends at n or past the end
-pub wrote-up : {d : List ℕ} {at : ℕ} {w : List ℕ} {n : ℕ} {d' : List ℕ} → Wrote d at w n d' → n ≤ length d → n ≡ at + length w
-wrote-up a h = (a.is h).0
+pub wrote_up : {d : List ℕ} {at : ℕ} {w : List ℕ} {n : ℕ} {d' : List ℕ} → Wrote d at w n d' → n ≤ length d → n ≡ at + length w
+wrote_up a h = (a.is h).0
 
 one_more : (l : List ℕ) (i j a : ℕ) → j ≡ i + 1 → i < length l → take j (set l i a) ≡ take i l ++ (a ∷ [])
 one_more l i j a e h = ap (λ (n : ℕ). take n (set l i a)) (e ∙ add-one i) ∙ take-suc-set l i a h
 
-pub put7 : (d : List ℕ) (at o t f a b c n : ℕ) → at + cell-words ≤ length d
-    → take (at + cell-words) (set (set (set (set (set (set (set d at o) (at + 1) t) (at + 2) f) (at + 3) a) (at + 4) b) (at + 5) c) (at + 6) n)
+pub put7 : (d : List ℕ) (at o t f a b c n : ℕ) → at + cell_words ≤ length d
+    → take (at + cell_words) (set (set (set (set (set (set (set d at o) (at + 1) t) (at + 2) f) (at + 3) a) (at + 4) b) (at + 5) c) (at + 6) n)
     ≡ take at d ++ (o ∷ t ∷ f ∷ a ∷ b ∷ c ∷ n ∷ [])
 put7 d at o t f a b c n g =
     let l₁ = set d at o in
@@ -144,20 +144,20 @@ put7 d at o t f a b c n g =
 -- the ways out of put
 module _ (k : Cell) {d : List ℕ} {lo at : ℕ} where
   -- past the end, since the words below are less than at, the cell doesn't fit, or its size doesn't
-  pub seals-not : {n : ℕ} {d' : List ℕ} → (at < lo) ⊎ ((length d < at + cell-words) ⊎ (4294967288 < at - lo)) → length d < n → Seals d lo at k n d'
-  seals-not {n} h j d₀ b q w = record {
+  pub seals_not : {n : ℕ} {d' : List ℕ} → (at < lo) ⊎ ((length d < at + cell_words) ⊎ (4294967288 < at - lo)) → length d < n → Seals d lo at k n d'
+  seals_not {n} h j d₀ b q w = record {
     is = λ f. absurd (omega arith);
     room = λ s f.
-        let l = length-append b (words k (length b + cell-words)) in
-        let (e, _) = fits-to w (omega arith) (omega arith) in
-        absurd (⊎_elim (λ (z : at < lo). omega arith) (⊎_elim (λ (z : length d < at + cell-words). omega arith) (λ (z : 4294967288 < at - lo). omega arith)) h);
+        let l = length-append b (words k (length b + cell_words)) in
+        let (e, _) = fits_to w (omega arith) (omega arith) in
+        absurd (⊎_elim (λ (z : at < lo). omega arith) (⊎_elim (λ (z : length d < at + cell_words). omega arith) (λ (z : 4294967288 < at - lo). omega arith)) h);
   }
 
-  pub seals : {d' : List ℕ} → lo ≤ at → at + cell-words ≤ length d → take (at + cell-words) d' ≡ take at d ++ words k (at - lo + cell-words) → Seals d lo at k (at + cell-words) d'
+  pub seals : {d' : List ℕ} → lo ≤ at → at + cell_words ≤ length d → take (at + cell_words) d' ≡ take at d ++ words k (at - lo + cell_words) → Seals d lo at k (at + cell_words) d'
   seals {d'} h j e d₀ b q w =
-      let y = wrote-up w (omega arith) in
+      let y = wrote_up w (omega arith) in
       let z : at - lo ≡ length b = omega arith in
-      then q w (done (omega arith) refl (subst (λ (n : ℕ). take (at + cell-words) d' ≡ take at d ++ words k (n + cell-words)) z e))
+      then q w (done (omega arith) refl (subst (λ (n : ℕ). take (at + cell_words) d' ≡ take at d ++ words k (n + cell_words)) z e))
 
 -- a turn of the copy
 pub copied : (s d₀ d : List ℕ) (at i : ℕ) → i < length s → at + i < length d → take (at + i) d ≡ take at d₀ ++ take i s
@@ -167,7 +167,7 @@ copied s d₀ d at i h k e =
     rw (j, take-suc-set d (at + i) (get_or s i 0) k, add-one, take-suc s i 0 h, e) (append_assoc (take at d₀) (take i s) (get_or s i 0 ∷ []))
 
 pub copies : {s : List ℕ} {lo hi : ℕ} {d : List ℕ} {at n : ℕ} {d' : List ℕ} → Wrote d at (take (hi - lo) (drop lo s)) n d' → Copies s lo hi d at n d'
-copies {d} {at} {n} {d'} w v p = subst (λ (l : List ℕ). Wrote d at l n d') (part-is p) w
+copies {d} {at} {n} {d'} w v p = subst (λ (l : List ℕ). Wrote d at l n d') (part_is p) w
 
-pub full-already : {d : List ℕ} {at : ℕ} {w d' : List ℕ} → length d < at → Wrote d at w at d'
-full-already h = no_room (omega arith) h
+pub full_already : {d : List ℕ} {at : ℕ} {w d' : List ℕ} → length d < at → Wrote d at w at d'
+full_already h = no_room (omega arith) h

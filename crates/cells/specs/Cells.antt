@@ -4,21 +4,21 @@ use Rattle.std.specs.Prelude.{ℕ, ◌+◌, ◌-◌, ◌≤◌, ◌≡◌, List,
 use Rattle.cells.specs.declared.Cell.{Cell}
 
 -- the words of one cell
-abbrev pub cell-words : ℕ
-cell-words = 7
+abbrev pub cell_words : ℕ
+cell_words = 7
 
 abbrev pub words : Cell → ℕ → List ℕ
 words k n = k.origin ∷ k.tag ∷ k.flag ∷ k.a ∷ k.b ∷ k.c ∷ n ∷ []
 
 -- the words of the children, and the cell over them
 abbrev pub sized : List ℕ → Cell → List ℕ
-sized children k = children ++ words k (length children + cell-words)
+sized children k = children ++ words k (length children + cell_words)
 
 -- the cell whose words end before word hi, its tag, its origin, and where its subtree starts
 abbrev pub cell_at : List ℕ → ℕ → Cell
 cell_at s hi =
     record {
-      origin = get_or s (hi - cell-words) 0;
+      origin = get_or s (hi - cell_words) 0;
       tag = get_or s (hi - 6) 0;
       flag = get_or s (hi - 5) 0;
       a = get_or s (hi - 4) 0;
@@ -29,11 +29,11 @@ cell_at s hi =
 abbrev pub tag_at : List ℕ → ℕ → ℕ
 tag_at s hi = get_or s (hi - 6) 0
 
-abbrev pub origin-at : List ℕ → ℕ → ℕ
-origin-at s hi = get_or s (hi - cell-words) 0
+abbrev pub origin_at : List ℕ → ℕ → ℕ
+origin_at s hi = get_or s (hi - cell_words) 0
 
-abbrev pub start-at : List ℕ → ℕ → ℕ
-start-at s hi = hi - get_or s (hi - 1) 0
+abbrev pub start_at : List ℕ → ℕ → ℕ
+start_at s hi = hi - get_or s (hi - 1) 0
 
 -- The words w stand in s from lo up to hi.
 pub record Part (s : List ℕ) (lo hi : ℕ) (w : List ℕ) : Type 0 where
@@ -45,6 +45,6 @@ pub record Part (s : List ℕ) (lo hi : ℕ) (w : List ℕ) : Type 0 where
 
 -- Some subtree ends before word hi.
 pub record Sized (s : List ℕ) (hi : ℕ) : Type 0 where
-  pub first : cell-words ≤ hi
+  pub first : cell_words ≤ hi
   pub last : hi ≤ length s
   pub long : get_or s (hi - 1) 0 ≤ hi

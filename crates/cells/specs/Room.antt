@@ -9,8 +9,8 @@ Short d = length d < 4294967296
 
 -- The most words of a slice that a pass works in, 65,535 cells: so few that columns and words are counted without overflow, and that the number of a lookup's
 -- constants fits a word beside its column.
-abbrev pub most-words : ℕ
-most-words = 458745
+abbrev pub most_words : ℕ
+most_words = 458745
 
 -- w is appended to the first `at` words of d, which makes n words; or n is past the end. Where there is room for w, and it ends before word 2^32, n is not past the
 -- end.

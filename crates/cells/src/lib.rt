@@ -1,6 +1,6 @@
 // The working form of a plan: postfix cells of seven words in lent slices. A position is a number of words.
 ghost use Rattle.std.specs.Prelude.{◌≡◌, List, [], ◌∷◌, ◌++◌, ℕ, ◌+◌, ◌-◌, ◌≤◌, ◌<◌, length, take, drop};
-ghost use Rattle.cells.specs.Cells.{cell-words, cell_at, start-at, tag_at, origin-at, Part, Sized};
+ghost use Rattle.cells.specs.Cells.{cell_words, cell_at, start_at, tag_at, origin_at, Part, Sized};
 ghost use Rattle.cells.specs.Room.{Wrote, Puts, Copies};
 
 #[derive(Drop)]
@@ -48,7 +48,7 @@ const LONGEST: usize = 4294967288;
 
 // The cell whose words end before hi, without the size.
 pub fn cell_at(s: &[u32], hi: usize) -> Cell
-    requires { (cell-words ≤ hi) × (hi ≤ length s.now) }
+    requires { (cell_words ≤ hi) × (hi ≤ length s.now) }
     ensures { result ≡ cell_at s.now hi }
 {
     Cell {
@@ -62,7 +62,7 @@ pub fn cell_at(s: &[u32], hi: usize) -> Cell
 }
 
 pub fn tag_at(s: &[u32], hi: usize) -> u32
-    requires { (cell-words ≤ hi) × (hi ≤ length s.now) }
+    requires { (cell_words ≤ hi) × (hi ≤ length s.now) }
     ensures { result ≡ tag_at s.now hi }
 {
     s[hi - TAG_BACK]
@@ -70,8 +70,8 @@ pub fn tag_at(s: &[u32], hi: usize) -> u32
 
 // The origin of that cell.
 pub fn origin_at(s: &[u32], hi: usize) -> u32
-    requires { (cell-words ≤ hi) × (hi ≤ length s.now) }
-    ensures { result ≡ origin-at s.now hi }
+    requires { (cell_words ≤ hi) × (hi ≤ length s.now) }
+    ensures { result ≡ origin_at s.now hi }
 {
     s[hi - CELL_WORDS]
 }
@@ -86,7 +86,7 @@ pub fn wide(x: u32) -> usize
 // Where the subtree that ends before hi starts.
 pub fn start(s: &[u32], hi: usize) -> usize
     requires { Sized s.now hi }
-    ensures { result ≡ start-at s.now hi }
+    ensures { result ≡ start_at s.now hi }
 {
     hi - wide(s[hi - 1])
 }

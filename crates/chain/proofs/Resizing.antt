@@ -7,18 +7,18 @@ use lib.ListN.{length, get_or, set, length-append}
 use lib.Seq.{set_at}
 use borrow.Author.Tests.{le-leb, lt-leb}
 use Rattle.cells.specs.declared.Cell.{Cell}
-use Rattle.cells.specs.Cells.{cell-words, words, sized, Part}
-use Rattle.cells.proofs.Laws.{part-word}
-use Rattle.chain.specs.Resized.{new-size, resized, Reseals}
+use Rattle.cells.specs.Cells.{cell_words, words, sized, Part}
+use Rattle.cells.proofs.Laws.{part_word}
+use Rattle.chain.specs.Resized.{new_size, resized, Reseals}
 
 -- ---- one size
-pub size-new : (tag new old : ℕ) → 50 ≤ tag → new ≡ new-size tag new old
-unfolding new-size
-size-new tag new old h = rw (le-leb 50 tag h)
+pub size_new : (tag new old : ℕ) → 50 ≤ tag → new ≡ new_size tag new old
+unfolding new_size
+size_new tag new old h = rw (le-leb 50 tag h)
 
-pub size-old : (tag new old : ℕ) → tag < 50 → old ≡ new-size tag new old
-unfolding new-size
-size-old tag new old h = rw (lt-leb 50 tag h)
+pub size_old : (tag new old : ℕ) → tag < 50 → old ≡ new_size tag new old
+unfolding new_size
+size_old tag new old h = rw (lt-leb 50 tag h)
 
 -- ---- the loop: d is done, e is left
 
@@ -37,33 +37,33 @@ Doing x₀ lo from to at x =
 pub none_done : (x : List ℕ) (lo from to : ℕ) → Doing x lo from to from x
 none_done x lo from to a c post e i j = record { d = []; e = c; is = e; long = omega arith; left = j; same = refl }
 
-seven-of : (P : List ℕ → Type 0) → ((o t f g b h n : ℕ) (ws : List ℕ) → P (o ∷ t ∷ f ∷ g ∷ b ∷ h ∷ n ∷ ws)) → (e : List ℕ) → cell-words ≤ length e → P e
-seven-of P k [] h = absurd (omega arith)
-seven-of P k (o ∷ []) h = absurd (omega arith)
-seven-of P k (o ∷ t ∷ []) h = absurd (omega arith)
-seven-of P k (o ∷ t ∷ f ∷ []) h = absurd (omega arith)
-seven-of P k (o ∷ t ∷ f ∷ a ∷ []) h = absurd (omega arith)
-seven-of P k (o ∷ t ∷ f ∷ a ∷ b ∷ []) h = absurd (omega arith)
-seven-of P k (o ∷ t ∷ f ∷ a ∷ b ∷ c ∷ []) h = absurd (omega arith)
-seven-of P k (o ∷ t ∷ f ∷ a ∷ b ∷ c ∷ n ∷ ws) h = k o t f a b c n ws
+seven_of : (P : List ℕ → Type 0) → ((o t f g b h n : ℕ) (ws : List ℕ) → P (o ∷ t ∷ f ∷ g ∷ b ∷ h ∷ n ∷ ws)) → (e : List ℕ) → cell_words ≤ length e → P e
+seven_of P k [] h = absurd (omega arith)
+seven_of P k (o ∷ []) h = absurd (omega arith)
+seven_of P k (o ∷ t ∷ []) h = absurd (omega arith)
+seven_of P k (o ∷ t ∷ f ∷ []) h = absurd (omega arith)
+seven_of P k (o ∷ t ∷ f ∷ a ∷ []) h = absurd (omega arith)
+seven_of P k (o ∷ t ∷ f ∷ a ∷ b ∷ []) h = absurd (omega arith)
+seven_of P k (o ∷ t ∷ f ∷ a ∷ b ∷ c ∷ []) h = absurd (omega arith)
+seven_of P k (o ∷ t ∷ f ∷ a ∷ b ∷ c ∷ n ∷ ws) h = k o t f a b c n ws
 
 module _ (lo from to at : ℕ) (x a c post : List ℕ) (l : lo ≤ at) (i : length a ≡ from) (d : List ℕ) (long : from + length d ≡ at) where
-  one-done : (v o t f g b h n : ℕ) (ws : List ℕ) → v ≡ new-size (get_or x (at + 1) 0) (at + cell-words - lo) (get_or x (at + 6) 0)
+  one_done : (v o t f g b h n : ℕ) (ws : List ℕ) → v ≡ new_size (get_or x (at + 1) 0) (at + cell_words - lo) (get_or x (at + 6) 0)
       → x ≡ a ++ (d ++ ((o ∷ t ∷ f ∷ g ∷ b ∷ h ∷ n ∷ ws) ++ post)) → at + length (o ∷ t ∷ f ∷ g ∷ b ∷ h ∷ n ∷ ws) ≡ to
-      → d ++ resized (at - lo) (o ∷ t ∷ f ∷ g ∷ b ∷ h ∷ n ∷ ws) ≡ resized (from - lo) c → Rest a c post lo from to (at + cell-words) (set x (at + 6) v)
+      → d ++ resized (at - lo) (o ∷ t ∷ f ∷ g ∷ b ∷ h ∷ n ∷ ws) ≡ resized (from - lo) c → Rest a c post lo from to (at + cell_words) (set x (at + 6) v)
   unfolding resized
-  one-done v o t f g b h n ws w is left same =
+  one_done v o t f g b h n ws w is left same =
       let cells = o ∷ t ∷ f ∷ g ∷ b ∷ h ∷ n ∷ ws in
       let six = o ∷ t ∷ f ∷ g ∷ b ∷ h ∷ [] in
       let front = a ++ (d ++ six) in
       let all : x ≡ front ++ (n ∷ (ws ++ post)) = is ∙ simp append_assoc in
       let here : Part x at (at + length cells) cells =
       record { before = a ++ d; after = post; whole = is ∙ simp append_assoc; low = omega (arith, length-append a d); high = refl } in
-      let tag : get_or x (at + 1) 0 ≡ t = part-word here (at + 1) 1 (omega arith) in
-      let old : get_or x (at + 6) 0 ≡ n = part-word here (at + 6) 6 (omega arith) in
-      let size : v ≡ new-size t (at + cell-words - lo) n = w ∙ ap (λ (k : ℕ). new-size k (at + cell-words - lo) (get_or x (at + 6) 0)) tag ∙ ap (new-size t (at + cell-words - lo)) old in
+      let tag : get_or x (at + 1) 0 ≡ t = part_word here (at + 1) 1 (omega arith) in
+      let old : get_or x (at + 6) 0 ≡ n = part_word here (at + 6) 6 (omega arith) in
+      let size : v ≡ new_size t (at + cell_words - lo) n = w ∙ ap (λ (k : ℕ). new_size k (at + cell_words - lo) (get_or x (at + 6) 0)) tag ∙ ap (new_size t (at + cell_words - lo)) old in
       let q : length front ≡ at + 6 = omega (arith, length-append a (d ++ six), length-append d six) in
-      let j : at + cell-words - lo ≡ at - lo + cell-words = omega arith in
+      let j : at + cell_words - lo ≡ at - lo + cell_words = omega arith in
       record {
         d = d ++ (o ∷ t ∷ f ∷ g ∷ b ∷ h ∷ v ∷ []);
         e = ws;
@@ -71,23 +71,23 @@ module _ (lo from to at : ℕ) (x a c post : List ℕ) (l : lo ≤ at) (i : leng
         long = omega (arith, length-append d (o ∷ t ∷ f ∷ g ∷ b ∷ h ∷ v ∷ []));
         left = omega arith;
         same =
-            append_assoc d (o ∷ t ∷ f ∷ g ∷ b ∷ h ∷ v ∷ []) (resized (at + cell-words - lo) ws)
-            ∙ ap (λ (k : ℕ). d ++ (o ∷ t ∷ f ∷ g ∷ b ∷ h ∷ k ∷ resized (at + cell-words - lo) ws)) size
-            ∙ ap (λ (k : ℕ). d ++ (o ∷ t ∷ f ∷ g ∷ b ∷ h ∷ new-size t k n ∷ resized k ws)) j
+            append_assoc d (o ∷ t ∷ f ∷ g ∷ b ∷ h ∷ v ∷ []) (resized (at + cell_words - lo) ws)
+            ∙ ap (λ (k : ℕ). d ++ (o ∷ t ∷ f ∷ g ∷ b ∷ h ∷ k ∷ resized (at + cell_words - lo) ws)) size
+            ∙ ap (λ (k : ℕ). d ++ (o ∷ t ∷ f ∷ g ∷ b ∷ h ∷ new_size t k n ∷ resized k ws)) j
             ∙ same;
       }
 
-pub next-done : (x₀ x : List ℕ) (lo from to at v : ℕ) → lo ≤ at → cell-words ≤ to - at → v ≡ new-size (get_or x (at + 1) 0) (at + cell-words - lo) (get_or x (at + 6) 0)
-    → Doing x₀ lo from to at x → Doing x₀ lo from to (at + cell-words) (set x (at + 6) v)
-next-done x₀ x lo from to at v l h w f a c post e i j =
+pub next_done : (x₀ x : List ℕ) (lo from to at v : ℕ) → lo ≤ at → cell_words ≤ to - at → v ≡ new_size (get_or x (at + 1) 0) (at + cell_words - lo) (get_or x (at + 6) 0)
+    → Doing x₀ lo from to at x → Doing x₀ lo from to (at + cell_words) (set x (at + 6) v)
+next_done x₀ x lo from to at v l h w f a c post e i j =
     let r = f a c post e i j in
-    seven-of
+    seven_of
     (λ (k : List ℕ). x ≡ a ++ (r.d ++ (k ++ post)) → at + length k ≡ to → r.d ++ resized (at - lo) k ≡ resized (from - lo) c
-    → Rest a c post lo from to (at + cell-words) (set x (at + 6) v))
-    (λ o t f g b h n ws. one-done lo from to at x a c post l i r.d r.long v o t f g b h n ws w)
+    → Rest a c post lo from to (at + cell_words) (set x (at + 6) v))
+    (λ o t f g b h n ws. one_done lo from to at x a c post l i r.d r.long v o t f g b h n ws w)
     r.e (omega (arith, r.left)) r.is r.left r.same
 
-short : (n : ℕ) (c : List ℕ) → length c < cell-words → resized n c ≡ c
+short : (n : ℕ) (c : List ℕ) → length c < cell_words → resized n c ≡ c
 unfolding resized
 short n [] h = refl
 short n (o ∷ []) h = refl
@@ -98,7 +98,7 @@ short n (o ∷ t ∷ f ∷ a ∷ b ∷ []) h = refl
 short n (o ∷ t ∷ f ∷ a ∷ b ∷ c ∷ []) h = refl
 short n (o ∷ t ∷ f ∷ a ∷ b ∷ c ∷ size ∷ ws) h = absurd (omega arith)
 
-pub all_done : (x₀ x : List ℕ) (t lo from tail at : ℕ) → t - tail - at < cell-words → Doing x₀ lo from (t - tail) at x → Reseals x₀ t lo from tail t x
+pub all_done : (x₀ x : List ℕ) (t lo from tail at : ℕ) → t - tail - at < cell_words → Doing x₀ lo from (t - tail) at x → Reseals x₀ t lo from tail t x
 all_done x₀ x t lo from tail at h f =
     record {
       same = refl;
@@ -114,11 +114,11 @@ all_done x₀ x t lo from tail at h f =
 abbrev pub Plain : List ℕ → Type 0
 Plain w = (n : ℕ) (ws : List ℕ) → resized n (w ++ ws) ≡ w ++ resized (n + length w) ws
 
-pub plain-none : Plain []
-plain-none n ws = let e : n ≡ n + 0 = omega arith in ap (λ (k : ℕ). resized k ws) e
+pub plain_none : Plain []
+plain_none n ws = let e : n ≡ n + 0 = omega arith in ap (λ (k : ℕ). resized k ws) e
 
-pub plain-both : (u v : List ℕ) → Plain u → Plain v → Plain (u ++ v)
-plain-both u v f g n ws =
+pub plain_both : (u v : List ℕ) → Plain u → Plain v → Plain (u ++ v)
+plain_both u v f g n ws =
     let e : n + length u + length v ≡ n + length (u ++ v) = omega (arith, length-append u v) in
     ap (resized n) (append_assoc u v ws)
     ∙ f n (v ++ ws)
@@ -126,16 +126,16 @@ plain-both u v f g n ws =
     ∙ ap (λ (k : ℕ). u ++ (v ++ resized k ws)) e
     ∙ sym (append_assoc u v (resized (n + length (u ++ v)) ws))
 
-plain-words : (k : Cell) (size : ℕ) → k.tag < 50 → Plain (words k size)
+plain_words : (k : Cell) (size : ℕ) → k.tag < 50 → Plain (words k size)
 unfolding resized
-plain-words k size h n ws =
-    ap (λ (m : ℕ). k.origin ∷ k.tag ∷ k.flag ∷ k.a ∷ k.b ∷ k.c ∷ m ∷ resized (n + cell-words) ws) (sym (size-old k.tag (n + cell-words) size h))
+plain_words k size h n ws =
+    ap (λ (m : ℕ). k.origin ∷ k.tag ∷ k.flag ∷ k.a ∷ k.b ∷ k.c ∷ m ∷ resized (n + cell_words) ws) (sym (size_old k.tag (n + cell_words) size h))
 
-pub plain-sized : (b : List ℕ) (k : Cell) → Plain b → k.tag < 50 → Plain (sized b k)
-plain-sized b k f h = plain-both b (words k (length b + cell-words)) f (plain-words k (length b + cell-words) h)
+pub plain_sized : (b : List ℕ) (k : Cell) → Plain b → k.tag < 50 → Plain (sized b k)
+plain_sized b k f h = plain_both b (words k (length b + cell_words)) f (plain_words k (length b + cell_words) h)
 
 -- a node's cell
-pub node-resized : (k : Cell) (size n : ℕ) (ws : List ℕ) → 50 ≤ k.tag → resized n (words k size ++ ws) ≡ words k (n + cell-words) ++ resized (n + cell-words) ws
+pub node_resized : (k : Cell) (size n : ℕ) (ws : List ℕ) → 50 ≤ k.tag → resized n (words k size ++ ws) ≡ words k (n + cell_words) ++ resized (n + cell_words) ws
 unfolding resized
-node-resized k size n ws h =
-    ap (λ (m : ℕ). k.origin ∷ k.tag ∷ k.flag ∷ k.a ∷ k.b ∷ k.c ∷ m ∷ resized (n + cell-words) ws) (sym (size-new k.tag (n + cell-words) size h))
+node_resized k size n ws h =
+    ap (λ (m : ℕ). k.origin ∷ k.tag ∷ k.flag ∷ k.a ∷ k.b ∷ k.c ∷ m ∷ resized (n + cell_words) ws) (sym (size_new k.tag (n + cell_words) size h))

@@ -4,7 +4,7 @@
 ghost use Rattle.std.specs.Prelude.{◌≡◌, ◌<◌, ◌+◌, ◌≤◌, length};
 ghost use Rattle.words.specs.Place.{NodeAt};
 ghost use Rattle.chain.specs.Chain.{IsOther, GoesDown, GoesBelow, ChainAt, Follows};
-ghost use Rattle.chain.specs.Resized.{new-size, Reseals};
+ghost use Rattle.chain.specs.Resized.{new_size, Reseals};
 
 // Whether the node from lo to hi has one source and is no Filter.
 fn is_other(s: &[u32], lo: usize, hi: usize) -> bool
@@ -64,7 +64,7 @@ pub fn descend_bare(s: &[u32], lo: usize, hi: usize) -> usize
 
 // The size in a cell of a chain: the cells of nodes, whose tags are from 50 up, get the new one, those of their parts keep theirs.
 fn size(tag: u32, new: u32, old: u32) -> u32
-    ensures { result ≡ new-size tag new old }
+    ensures { result ≡ new_size tag new old }
 {
     if tags::NODES <= tag {
         return new;

@@ -1,9 +1,9 @@
 // The operation `check`: every byte string gets success or one refusal, 2 to 10, with its place.
 ghost use Rattle.std.specs.Prelude.{◌≡◌};
 ghost use Rattle.std.proofs.Math.Option.{none};
-ghost use Rattle.sheet.specs.Cell.{bad-cell};
+ghost use Rattle.sheet.specs.Cell.{bad_cell};
 ghost use Rattle.sheet.specs.Check;
-ghost use Rattle.sheet.specs.Check.{checked, cells-checked};
+ghost use Rattle.sheet.specs.Check.{checked, cells_checked};
 ghost use Rattle.layout.specs.Layout.{Whole};
 ghost use Rattle.scope.specs.Scope.{OnePlan};
 ghost use Rattle.checker.specs.Checker.{numbers, scoped, Targets};
@@ -56,7 +56,7 @@ pub fn check(s: &[u8]) -> Answer
 // Refusals 6 to 10.
 fn check_cells(s: &[u8]) -> Answer
     requires { Whole s.now }
-    ensures { numbers result ≡ checked s.now (cells-checked s.now (bad-cell s.now) (scoped s.now)) }
+    ensures { numbers result ≡ checked s.now (cells_checked s.now (bad_cell s.now) (scoped s.now)) }
 {
     if let Found::At(i) = layout::bad_cell(s) {
         let k = layout::cell_at(s, i);
@@ -67,7 +67,7 @@ fn check_cells(s: &[u8]) -> Answer
 
 // Refusals 8 to 10.
 fn check_plan(s: &[u8]) -> Answer
-    requires { Whole s.now × (bad-cell s.now ≡ none) }
+    requires { Whole s.now × (bad_cell s.now ≡ none) }
     ensures { numbers result ≡ checked s.now (scoped s.now) }
 {
     if let Found::At(i) = structure::lacking(s) {

@@ -3,9 +3,9 @@
 ghost use Rattle.std.specs.Prelude.{◌≡◌, ℕ, ◌+◌, ◌-◌, ◌≤◌, ◌<◌, length};
 ghost use Rattle.sql.specs.Expression;
 ghost use Rattle.cells.specs.Cells.{tag_at};
-ghost use Rattle.words.specs.Words.{map-operands};
+ghost use Rattle.words.specs.Words.{map_operands};
 ghost use Rattle.words.specs.Place.{ExpressionAt, Maps};
-ghost use Rattle.cnf.specs.Cnf.{MapsTwo, spread, spread-right};
+ghost use Rattle.cnf.specs.Cnf.{MapsTwo, spread, spread_right};
 
 // distribute of the expression from lo to hi, which is its words as they are if it holds no Or.
 pub fn distribute(s: &[u32], lo: usize, hi: usize, d: &mut [u32], at: usize) -> usize
@@ -39,7 +39,7 @@ fn distribute_expression(s: &[u32], lo: usize, hi: usize, d: &mut [u32], at: usi
 #[cycle(distribute_expression_distribute_operands_or_both_or_right)]
 fn distribute_operands(s: &[u32], lo: usize, hi: usize, d: &mut [u32], at: usize) -> usize
     requires { ExpressionAt s.now lo hi }
-    ensures { Maps (map-operands Expression.distribute) s.now lo hi d.old at result d.new }
+    ensures { Maps (map_operands Expression.distribute) s.now lo hi d.old at result d.new }
 {
     let c = cells::cell_at(s, hi);
     if c.tag < tags::BINARY {
@@ -111,7 +111,7 @@ fn or_right(
 ) -> usize
     requires expression_at { ExpressionAt s.now a x }
     requires expression_at_2 { ExpressionAt s.now b z }
-    ensures { MapsTwo (spread-right origin) s.now a x b z d.old at result d.new }
+    ensures { MapsTwo (spread_right origin) s.now a x b z d.old at result d.new }
 {
     if d.len() < at {
         return at;

@@ -1,8 +1,8 @@
 // optimizer.rs, the `collect` in short_circuit that asks plan.rs's column_label for each column of a node: all its labels, written as Label cells.
 ghost use Rattle.std.specs.Prelude.{◌≡◌, ℕ};
-ghost use Rattle.sheet.specs.Content.{label-cell};
+ghost use Rattle.sheet.specs.Content.{label_cell};
 ghost use Rattle.cells.specs.Room.{Wrote};
-ghost use Rattle.words.specs.Words.{cell, label-words};
+ghost use Rattle.words.specs.Words.{cell, label_words};
 ghost use Rattle.nodes.specs.Own.{SourceCount};
 ghost use Rattle.nodes.specs.Columns.{ColumnsAt};
 ghost use Rattle.labels.specs.Labels.{label};
@@ -11,7 +11,7 @@ ghost use Rattle.column_labels.specs.ColumnLabels.{LabelsUp, Marks, WritesLabels
 
 // The cell of a Label with an origin.
 fn label_cell(l: labels::Label, origin: u32) -> cells::Cell
-    ensures { result ≡ cell origin (label-cell (label l)) }
+    ensures { result ≡ cell origin (label_cell (label l)) }
 {
     match l {
         labels::Label::Unlabelled => cells::Cell {
@@ -43,7 +43,7 @@ fn label_cell(l: labels::Label, origin: u32) -> cells::Cell
 
 // A Label after the first `at` words of d.
 fn put_label(d: &mut [u32], at: usize, l: labels::Label, origin: u32) -> usize
-    ensures { Wrote d.old at (label-words (label l, origin)) result d.new }
+    ensures { Wrote d.old at (label_words (label l, origin)) result d.new }
 {
     let k = label_cell(l, origin);
     cells::put(d, at, at, k)

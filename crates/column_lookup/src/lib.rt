@@ -1,12 +1,12 @@
 // expression.rs, is_column_lookup and into_column_values, and optimizer.rs, the test for an equijoin: which column an expression looks up, the values that it
 // is looked up for, and which two columns it sets equal. Expressions are in their working form (crate cells).
 ghost use Rattle.std.specs.Prelude.{◌≡◌, ℕ, ◌-◌, ◌<◌};
-ghost use Rattle.sql.specs.Expression.{same-column};
+ghost use Rattle.sql.specs.Expression.{same_column};
 ghost use Rattle.sql.specs.Optimizer.{ordered};
 ghost use Rattle.cells.specs.Room.{Wrote};
 ghost use Rattle.words.specs.Place.{ExpressionAt};
-ghost use Rattle.column_lookup.specs.Lookup.{found, pair, column-in, equal-cells, LooksUp, SetsEqual};
-ghost use Rattle.column_lookup.specs.Values.{is_number, is-defined, value-words, is-words, Gathers};
+ghost use Rattle.column_lookup.specs.Lookup.{found, pair, column_in, equal_cells, LooksUp, SetsEqual};
+ghost use Rattle.column_lookup.specs.Values.{is_number, is_defined, value_words, is_words, Gathers};
 
 // The column that an expression looks up, if it is a lookup.
 #[derive(Drop)]
@@ -24,7 +24,7 @@ pub enum ColumnPair {
 
 // The column of a Column's cell.
 fn is_column(k: cells::Cell) -> Lookup
-    ensures { result ≡ column-in k }
+    ensures { result ≡ column_in k }
 {
     if k.tag == tags::COLUMN {
         return Lookup::Column(k.a);
@@ -34,7 +34,7 @@ fn is_column(k: cells::Cell) -> Lookup
 
 // The column that Equal looks up, from its operands' cells: one is a column's, the other a constant's.
 fn is_equal_lookup(l: cells::Cell, r: cells::Cell) -> Lookup
-    ensures { result ≡ equal-cells l r }
+    ensures { result ≡ equal_cells l r }
 {
     if l.tag < tags::COLUMN {
         return is_column(r);
@@ -49,7 +49,7 @@ fn is_equal_lookup(l: cells::Cell, r: cells::Cell) -> Lookup
 
 // The column that Or looks up, from its operands' answers.
 fn same_column(l: Lookup, r: Lookup) -> Lookup
-    ensures { found result ≡ same-column (found l) (found r) }
+    ensures { found result ≡ same_column (found l) (found r) }
 {
     let Lookup::Column(c) = l else {
         return Lookup::None;
@@ -105,7 +105,7 @@ fn is_number(low: u32, high: u32) -> bool
 
 // Whether a cell is a constant's, neither Null nor NaN.
 fn is_defined(k: cells::Cell) -> bool
-    ensures { result ≡ is-defined k }
+    ensures { result ≡ is_defined k }
 {
     if k.tag < tags::BOOLEAN {
         return false;
@@ -121,7 +121,7 @@ fn is_defined(k: cells::Cell) -> bool
 
 // The value of one of Equal's operands: a constant's, unless it is Null or NaN.
 fn equal_value(d: &mut [u32], at: usize, k: cells::Cell) -> usize
-    ensures { Wrote d.old at (value-words k) result d.new }
+    ensures { Wrote d.old at (value_words k) result d.new }
 {
     if is_defined(k) {
         return cells::put(d, at, at, k);
@@ -131,7 +131,7 @@ fn equal_value(d: &mut [u32], at: usize, k: cells::Cell) -> usize
 
 // The value of Is Null, which has tag 31, and of Is NaN, 32. It has the origin of the Is.
 fn is_value(d: &mut [u32], at: usize, t: u32, origin: u32) -> usize
-    ensures { Wrote d.old at (is-words t origin) result d.new }
+    ensures { Wrote d.old at (is_words t origin) result d.new }
 {
     if t == tags::IS_NULL {
         return cells::put(

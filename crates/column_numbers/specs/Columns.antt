@@ -28,12 +28,12 @@ Room (Up n) c = n + c < 4294967296
 Room (Replace from to) c = Unit
 
 -- a Column's cell has tag 6 and its number in a
-abbrev pub changed-cell : Change → Cell → Cell
-changed-cell k c = cond (eqb c.tag Tags.column) (record { origin = c.origin; tag = c.tag; flag = c.flag; a = changed k c.a; b = c.b; c = c.c }) c
+abbrev pub changed_cell : Change → Cell → Cell
+changed_cell k c = cond (eqb c.tag Tags.column) (record { origin = c.origin; tag = c.tag; flag = c.flag; a = changed k c.a; b = c.b; c = c.c }) c
 
 -- the cell with its size, which stays
-abbrev pub changed-sized : Change → Cell × ℕ → Cell × ℕ
-changed-sized k c = (changed-cell k c.0, c.1)
+abbrev pub changed_sized : Change → Cell × ℕ → Cell × ℕ
+changed_sized k c = (changed_cell k c.0, c.1)
 
 -- The columns among these cells can be rewritten.
 abbrev pub EachCell : Change → List (Cell × ℕ) → Type 0
@@ -48,7 +48,7 @@ pub record CellsAt (k : Change) (d : List ℕ) (at n : ℕ) : Type 0 where
 
 -- The cells that stand in d from at up to n, whatever they are, are rewritten in d'.
 abbrev pub Rewrites : Change → List ℕ → ℕ → ℕ → List ℕ → Type 0
-Rewrites k d at n d' = (cs : List (Cell × ℕ)) (p : Part d at n (flat cs)) → d' ≡ p.before ++ (flat (map (changed-sized k) cs) ++ p.after)
+Rewrites k d at n d' = (cs : List (Cell × ℕ)) (p : Part d at n (flat cs)) → d' ≡ p.before ++ (flat (map (changed_sized k) cs) ++ p.after)
 
 -- P holds of each column of an expression.
 abbrev pub EachColumn : (ℕ → Type 0) → Expression → Type 0

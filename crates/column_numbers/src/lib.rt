@@ -2,10 +2,10 @@
 // working form (crate cells), and the rewritten one is appended to another slice. Its cells follow each other, operands before operators, and what is asked or
 // rewritten stands in a column's cell alone: so a loop over the cells does it, whatever the operators are and however deep they nest.
 ghost use Rattle.std.specs.Prelude.{◌≡◌, ◌+◌, ◌-◌, ◌<◌};
-ghost use Rattle.sql.specs.Expression.{map-columns, replace-column, shift-column-down, shift-column-up};
+ghost use Rattle.sql.specs.Expression.{map_columns, replace_column, shift_column_down, shift_column_up};
 ghost use Rattle.words.specs.Place.{ExpressionAt, Maps};
 ghost use Rattle.column_numbers.specs.Columns.{source_of, changed, Room, CellsAt, Rewrites, Changeable, SmallAt};
-ghost use Rattle.column_numbers.specs.References.{column-refers, together, RefersTo};
+ghost use Rattle.column_numbers.specs.References.{column_refers, together, RefersTo};
 
 // A column of a join's left source.
 #[derive(Drop)]
@@ -119,7 +119,7 @@ fn change_columns(d: &mut [u32], at: usize, n: usize, k: Change) -> usize
 // The expression from lo to hi with its columns rewritten.
 pub fn map_columns(s: &[u32], lo: usize, hi: usize, d: &mut [u32], at: usize, k: Change) -> usize
     requires { Changeable k s.now lo hi }
-    ensures { Maps (map-columns (changed k)) s.now lo hi d.old at result d.new }
+    ensures { Maps (map_columns (changed k)) s.now lo hi d.old at result d.new }
 {
     let n = cells::copy(s, lo, hi, d, at);
     if d.len() < n {
@@ -138,7 +138,7 @@ pub fn shift_column_down(
     n: usize,
 ) -> usize
     requires { ExpressionAt s.now lo hi }
-    ensures { Maps (shift-column-down n) s.now lo hi d.old at result d.new }
+    ensures { Maps (shift_column_down n) s.now lo hi d.old at result d.new }
 {
     map_columns(s, lo, hi, d, at, Change::Down(n))
 }
@@ -146,7 +146,7 @@ pub fn shift_column_down(
 // shift_column by n: from the right source's row to the joined row.
 pub fn shift_column_up(s: &[u32], lo: usize, hi: usize, d: &mut [u32], at: usize, n: usize) -> usize
     requires { SmallAt n s.now lo hi }
-    ensures { Maps (shift-column-up n) s.now lo hi d.old at result d.new }
+    ensures { Maps (shift_column_up n) s.now lo hi d.old at result d.new }
 {
     map_columns(s, lo, hi, d, at, Change::Up(n))
 }
@@ -161,7 +161,7 @@ pub fn replace_column(
     to: u32,
 ) -> usize
     requires { ExpressionAt s.now lo hi }
-    ensures { Maps (replace-column from to) s.now lo hi d.old at result d.new }
+    ensures { Maps (replace_column from to) s.now lo hi d.old at result d.new }
 {
     map_columns(s, lo, hi, d, at, Change::Replace(from, to))
 }
@@ -177,7 +177,7 @@ pub enum References {
 
 // What a column refers to, where the left source has n columns.
 fn column_refers(c: u32, n: usize) -> References
-    ensures { result ≡ column-refers n c }
+    ensures { result ≡ column_refers n c }
 {
     if (c as usize) < n {
         return References::Left;

@@ -2,47 +2,47 @@
 -- a number that says something else. This is the one place that says which words are references, and in which order they come.
 use Rattle.std.specs.Prelude.{ℕ, zero, suc, ◌+◌, Bool, true, false, cond, List, [], ◌∷◌, ◌++◌, leb}
 use Rattle.sheet.specs.Bytes.{byte, word, bytes}
-use Rattle.sheet.specs.Parts.{tables-at, columns-at, cells_at, table-count, column-count, cell-count}
-use Rattle.sheet.specs.Cell.{Cell, cell-from, Field, unused, any, bit, table, text, small, Tag, unknown, not_carried, carried, tag_of}
+use Rattle.sheet.specs.Parts.{tables_at, columns_at, cells_at, table_count, column_count, cell_count}
+use Rattle.sheet.specs.Cell.{Cell, cell_from, Field, unused, any, bit, table, text, small, Tag, unknown, not_carried, carried, tag_of}
 
 pub data Slot : Type 0 where
   number reference : ℕ → Slot
 
 -- A field of a cell is a reference where its layout asks for one: `text k` with a flag of at least k.
-abbrev pub field-slot : (flag : ℕ) → Field → ℕ → Slot
-field-slot flag unused v = number v
-field-slot flag any v = number v
-field-slot flag bit v = number v
-field-slot flag table v = number v
-field-slot flag (text k) v = cond (leb k flag) (reference v) (number v)
-field-slot flag (small k) v = number v
+abbrev pub field_slot : (flag : ℕ) → Field → ℕ → Slot
+field_slot flag unused v = number v
+field_slot flag any v = number v
+field_slot flag bit v = number v
+field_slot flag table v = number v
+field_slot flag (text k) v = cond (leb k flag) (reference v) (number v)
+field_slot flag (small k) v = number v
 
 -- the fields a, b, c of a cell
-abbrev pub field-slots : Cell → Tag → List Slot
-field-slots k unknown = number k.a ∷ number k.b ∷ number k.c ∷ []
-field-slots k not_carried = number k.a ∷ number k.b ∷ number k.c ∷ []
-field-slots k (carried flags a b c) = field-slot k.flag a k.a ∷ field-slot k.flag b k.b ∷ field-slot k.flag c k.c ∷ []
+abbrev pub field_slots : Cell → Tag → List Slot
+field_slots k unknown = number k.a ∷ number k.b ∷ number k.c ∷ []
+field_slots k not_carried = number k.a ∷ number k.b ∷ number k.c ∷ []
+field_slots k (carried flags a b c) = field_slot k.flag a k.a ∷ field_slot k.flag b k.b ∷ field_slot k.flag c k.c ∷ []
 
 -- the cell that starts at byte i: tag, flag and origin are its first word
-unfoldable pub cell-slots : List ℕ → ℕ → List Slot
+unfoldable pub cell_slots : List ℕ → ℕ → List Slot
 unfolding tag_of
-cell-slots s i = number (word s i) ∷ field-slots (cell-from s i) (tag_of (byte s i))
+cell_slots s i = number (word s i) ∷ field_slots (cell_from s i) (tag_of (byte s i))
 
 -- the table or column record that starts at byte i: its name is its first word
-abbrev pub record-slots : List ℕ → ℕ → List Slot
-record-slots s i = reference (word s i) ∷ number (word s (i + 4)) ∷ number (word s (i + 8)) ∷ number (word s (i + 12)) ∷ []
+abbrev pub record_slots : List ℕ → ℕ → List Slot
+record_slots s i = reference (word s i) ∷ number (word s (i + 4)) ∷ number (word s (i + 8)) ∷ number (word s (i + 12)) ∷ []
 
 -- n records or cells of 16 bytes, the first at byte `at`
-abbrev pub in-each : (ℕ → List Slot) → (at n : ℕ) → List Slot
-in-each f at zero = []
-in-each f at (suc n) = f at ++ in-each f (at + 16) n
+abbrev pub in_each : (ℕ → List Slot) → (at n : ℕ) → List Slot
+in_each f at zero = []
+in_each f at (suc n) = f at ++ in_each f (at + 16) n
 
 -- All of them: table records, column records, cells.
 unfoldable pub slots : List ℕ → List Slot
-unfolding cell-slots
+unfolding cell_slots
 slots s =
-    in-each (record-slots s) (tables-at s) (table-count s)
-    ++ (in-each (record-slots s) (columns-at s) (column-count s) ++ in-each (cell-slots s) (cells_at s) (cell-count s))
+    in_each (record_slots s) (tables_at s) (table_count s)
+    ++ (in_each (record_slots s) (columns_at s) (column_count s) ++ in_each (cell_slots s) (cells_at s) (cell_count s))
 
 -- the references, in order
 abbrev pub references : List Slot → List ℕ
@@ -61,7 +61,7 @@ redirect f (number v) = number v
 redirect f (reference r) = reference (f r)
 
 -- as bytes
-unfoldable pub slot-bytes : List Slot → List ℕ
+unfoldable pub slot_bytes : List Slot → List ℕ
 unfolding bytes
-slot-bytes [] = []
-slot-bytes (x ∷ xs) = bytes (value x) ++ slot-bytes xs
+slot_bytes [] = []
+slot_bytes (x ∷ xs) = bytes (value x) ++ slot_bytes xs

@@ -36,13 +36,13 @@ joined [] = []
 joined (k ∷ ks) = k ++ joined ks
 
 -- where a string stands among those that are kept
-abbrev pub offset-in : List (List ℕ) → List ℕ → ℕ
-offset-in [] t = 0
-offset-in (k ∷ ks) t = cond (same k t) 0 (length k + offset-in ks t)
+abbrev pub offset_in : List (List ℕ) → List ℕ → ℕ
+offset_in [] t = 0
+offset_in (k ∷ ks) t = cond (same k t) 0 (length k + offset_in ks t)
 
 -- the reference to a string, offset + 65,536 × length; the empty string's is 0
-abbrev pub reference-to : List (List ℕ) → List ℕ → ℕ
-reference-to ks t = cond (empty t) 0 (offset-in ks t + 65536 * length t)
+abbrev pub reference_to : List (List ℕ) → List ℕ → ℕ
+reference_to ks t = cond (empty t) 0 (offset_in ks t + 65536 * length t)
 
 -- ---- strings in a text, in any way
 
@@ -51,8 +51,8 @@ abbrev pub Stretch : Type 0
 Stretch = ℕ × ℕ
 
 -- a string's stretch of a text, if it starts where `place` says
-abbrev pub stretch-of : (place : List ℕ → ℕ) → List ℕ → Stretch
-stretch-of place t = (place t, length t)
+abbrev pub stretch_of : (place : List ℕ → ℕ) → List ℕ → Stretch
+stretch_of place t = (place t, length t)
 
 -- They share no byte: one ends before the other starts.
 pub data Apart (x y : Stretch) : Type 0 where

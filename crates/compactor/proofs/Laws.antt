@@ -8,23 +8,23 @@ use mathlib.Core.Bool.{Bool, true, false, cond}
 use mathlib.Core.List.{List, [], ◌∷◌, ◌++◌, map, append_assoc, append-nil}
 use lib.ListN.{length, take, drop, get_or, set, length-append, length-take, length-drop, length-set, take-append-drop}
 use lib.Seq.{set_split, take-suc, get_or-drop, drop-drop, take-append-add, drop-append_seam, get_or-append_seam, length-take-le}
-use Rattle.value.specs.Meaning.{bytes-at}
+use Rattle.value.specs.Meaning.{bytes_at}
 use Rattle.sheet.specs.Bytes.{byte, word, bytes}
-use Rattle.sheet.specs.Cell.{Cell, cell-from, tag_of}
+use Rattle.sheet.specs.Cell.{Cell, cell_from, tag_of}
 use Rattle.sheet_laws.specs.Fits.{All}
 use Rattle.sheet_laws.specs.Plan.{Bytes}
 use Rattle.sheet_laws.specs.Bytes.{word_next}
 use Rattle.compact.specs.Strings.{joined}
-use Rattle.compact.specs.Slots.{Slot, number, reference, references, value, redirect, record-slots, cell-slots, in-each, slots, slot-bytes}
-use Rattle.compact.specs.Blocks.{slot-bytes-append, length-slot-bytes, map-append}
+use Rattle.compact.specs.Slots.{Slot, number, reference, references, value, redirect, record_slots, cell_slots, in_each, slots, slot_bytes}
+use Rattle.compact.specs.Blocks.{slot_bytes_append, length_slot_bytes, map_append}
 use Rattle.layout.specs.Layout.{IsCell}
 use Rattle.layout.specs.declared.Cell as Code
 use Rattle.encode.specs.Encode.{written}
-use Rattle.encode.proofs.Written.{written_none, chain, length-bytes}
+use Rattle.encode.proofs.Written.{written_none, chain, length_bytes}
 use Rattle.gather.specs.Gather.{stretch, held, Inside}
-use Rattle.gather.proofs.Laws.{length-stretch}
-use Rattle.text_references.specs.Asks.{asks-a, asks-b, if-refers}
-use Rattle.text_references.proofs.Laws.{references-append, in-each-last, cell-slots-are}
+use Rattle.gather.proofs.Laws.{length_stretch}
+use Rattle.text_references.specs.Asks.{asks_a, asks_b, if_refers}
+use Rattle.text_references.proofs.Laws.{references_append, in_each_last, cell_slots_are}
 use Rattle.compactor.specs.Compactor.{fill}
 
 -- ---- one byte, and bytes copied
@@ -32,61 +32,61 @@ use Rattle.compactor.specs.Compactor.{fill}
 written_one : (d : List ℕ) (m v : ℕ) → m < length d → set d m v ≡ written d m (v ∷ [])
 written_one d m v h = set_split d m v h ∙ ap (λ (k : ℕ). take m d ++ (v ∷ drop k d)) (sym (add-one m))
 
-pub copy-on : (d₀ d s : List ℕ) (from at i : ℕ) → at ≤ length d₀ → length d ≡ length d₀ → at + i < length d₀ → from + i < length s
+pub copy_on : (d₀ d s : List ℕ) (from at i : ℕ) → at ≤ length d₀ → length d ≡ length d₀ → at + i < length d₀ → from + i < length s
     → d ≡ written d₀ at (stretch s from i) → set d (at + i) (get_or s (from + i) 0) ≡ written d₀ at (stretch s from (i + 1))
-copy-on d₀ d s from at i h l room inside e =
+copy_on d₀ d s from at i h l room inside e =
     let b = get_or s (from + i) 0 in
-    let size : length (stretch s from i) ≡ i = length-stretch s from i (omega arith) in
+    let size : length (stretch s from i) ≡ i = length_stretch s from i (omega arith) in
     let last : stretch s from (i + 1) ≡ stretch s from i ++ (b ∷ []) =
     ap (λ (k : ℕ). take k (drop from s)) (add-one i) ∙ take-suc (drop from s) i 0 (omega (arith, length-drop from s)) ∙ ap (λ (x : ℕ). stretch s from i ++ (x ∷ [])) (get_or-drop from s i 0) in
     chain d₀ at {m = at + i} (stretch s from i) (b ∷ []) h (omega (arith, size)) e (written_one d (at + i) b (omega arith)) ∙ ap (written d₀ at) (sym last)
 
 -- ---- strings
 
-joined-last : (ks : List (List ℕ)) (t : List ℕ) → joined (ks ++ (t ∷ [])) ≡ joined ks ++ t
-joined-last [] t = append-nil t
-joined-last (k ∷ ks) t = ap (λ (l : List ℕ). k ++ l) (joined-last ks t) ∙ sym (append_assoc k (joined ks) t)
+joined_last : (ks : List (List ℕ)) (t : List ℕ) → joined (ks ++ (t ∷ [])) ≡ joined ks ++ t
+joined_last [] t = append-nil t
+joined_last (k ∷ ks) t = ap (λ (l : List ℕ). k ++ l) (joined_last ks t) ∙ sym (append_assoc k (joined ks) t)
 
-held-last : (s olds : List ℕ) (j : ℕ) → j < length olds → held s olds (j + 1) ≡ held s olds j ++ (bytes-at s (get_or olds j 0) ∷ [])
-held-last s olds j h = ap (λ (k : ℕ). held s olds k) (add-one j) ∙ ap (map (bytes-at s)) (take-suc olds j 0 h) ∙ map-append (bytes-at s) (take j olds) (get_or olds j 0 ∷ [])
+held_last : (s olds : List ℕ) (j : ℕ) → j < length olds → held s olds (j + 1) ≡ held s olds j ++ (bytes_at s (get_or olds j 0) ∷ [])
+held_last s olds j h = ap (λ (k : ℕ). held s olds k) (add-one j) ∙ ap (map (bytes_at s)) (take-suc olds j 0 h) ∙ map_append (bytes_at s) (take j olds) (get_or olds j 0 ∷ [])
 
-joined-upto : (s olds : List ℕ) (i k : ℕ) → i + k ≤ length olds → length (joined (held s olds i)) ≤ length (joined (held s olds (i + k)))
-joined-upto s olds i zero h = let e : i ≡ i + 0 = omega arith in subst (λ (j : ℕ). length (joined (held s olds i)) ≤ length (joined (held s olds j))) e (omega arith)
-joined-upto s olds i (suc k) h =
+joined_upto : (s olds : List ℕ) (i k : ℕ) → i + k ≤ length olds → length (joined (held s olds i)) ≤ length (joined (held s olds (i + k)))
+joined_upto s olds i zero h = let e : i ≡ i + 0 = omega arith in subst (λ (j : ℕ). length (joined (held s olds i)) ≤ length (joined (held s olds j))) e (omega arith)
+joined_upto s olds i (suc k) h =
     let e : i + k + 1 ≡ i + suc k = omega arith in
-    let t = bytes-at s (get_or olds (i + k) 0) in
+    let t = bytes_at s (get_or olds (i + k) 0) in
     let l : length (joined (held s olds (i + suc k))) ≡ length (joined (held s olds (i + k))) + length t =
-    ap (λ (j : ℕ). length (joined (held s olds j))) (sym e) ∙ ap (λ (x : List (List ℕ)). length (joined x)) (held-last s olds (i + k) (omega arith))
-    ∙ ap length (joined-last (held s olds (i + k)) t) ∙ length-append (joined (held s olds (i + k))) t in
-    omega (arith, l, joined-upto s olds i k (omega arith))
+    ap (λ (j : ℕ). length (joined (held s olds j))) (sym e) ∙ ap (λ (x : List (List ℕ)). length (joined x)) (held_last s olds (i + k) (omega arith))
+    ∙ ap length (joined_last (held s olds (i + k)) t) ∙ length-append (joined (held s olds (i + k))) t in
+    omega (arith, l, joined_upto s olds i k (omega arith))
 
 -- Room for the next string.
-pub text-room : (s olds : List ℕ) (count j : ℕ) → j < count → count ≤ length olds → Inside s (get_or olds j 0)
+pub text_room : (s olds : List ℕ) (count j : ℕ) → j < count → count ≤ length olds → Inside s (get_or olds j 0)
     → length (joined (held s olds j)) + get_or olds j 0 / 65536 ≤ length (joined (held s olds count))
-text-room s olds count j l h i =
+text_room s olds count j l h i =
     let r = get_or olds j 0 in
     let k = count - (j + 1) in
     let e : j + 1 + k ≡ count = omega arith in
-    let up = subst (λ (m : ℕ). length (joined (held s olds (j + 1))) ≤ length (joined (held s olds m))) e (joined-upto s olds (j + 1) k (omega arith)) in
-    let n : length (joined (held s olds (j + 1))) ≡ length (joined (held s olds j)) + length (bytes-at s r) =
-    ap (λ (x : List (List ℕ)). length (joined x)) (held-last s olds j (omega arith)) ∙ ap length (joined-last (held s olds j) (bytes-at s r)) ∙ length-append (joined (held s olds j)) (bytes-at s r) in
-    omega (arith, up, n, length-stretch s (r % 65536) (r / 65536) i.within)
+    let up = subst (λ (m : ℕ). length (joined (held s olds (j + 1))) ≤ length (joined (held s olds m))) e (joined_upto s olds (j + 1) k (omega arith)) in
+    let n : length (joined (held s olds (j + 1))) ≡ length (joined (held s olds j)) + length (bytes_at s r) =
+    ap (λ (x : List (List ℕ)). length (joined x)) (held_last s olds j (omega arith)) ∙ ap length (joined_last (held s olds j) (bytes_at s r)) ∙ length-append (joined (held s olds j)) (bytes_at s r) in
+    omega (arith, up, n, length_stretch s (r % 65536) (r / 65536) i.within)
 
-pub text-on : (s olds d₀ d d' : List ℕ) (j to r : ℕ) → j < length olds → Inside s (get_or olds j 0) → to ≡ length (joined (held s olds j)) → d ≡ written d₀ 0 (joined (held s olds j))
-    → (r ≡ to + get_or olds j 0 / 65536) × (d' ≡ written d to (bytes-at s (get_or olds j 0)))
+pub text_on : (s olds d₀ d d' : List ℕ) (j to r : ℕ) → j < length olds → Inside s (get_or olds j 0) → to ≡ length (joined (held s olds j)) → d ≡ written d₀ 0 (joined (held s olds j))
+    → (r ≡ to + get_or olds j 0 / 65536) × (d' ≡ written d to (bytes_at s (get_or olds j 0)))
     → (r ≡ length (joined (held s olds (j + 1)))) × (d' ≡ written d₀ 0 (joined (held s olds (j + 1))))
-text-on s olds d₀ d d' j to r l i e w x =
-    let t = bytes-at s (get_or olds j 0) in
-    let k : joined (held s olds (j + 1)) ≡ joined (held s olds j) ++ t = ap joined (held-last s olds j l) ∙ joined-last (held s olds j) t in (
-      omega (arith, x.0, e, ap length k, length-append (joined (held s olds j)) t, length-stretch s (get_or olds j 0 % 65536) (get_or olds j 0 / 65536) i.within),
+text_on s olds d₀ d d' j to r l i e w x =
+    let t = bytes_at s (get_or olds j 0) in
+    let k : joined (held s olds (j + 1)) ≡ joined (held s olds j) ++ t = ap joined (held_last s olds j l) ∙ joined_last (held s olds j) t in (
+      omega (arith, x.0, e, ap length k, length-append (joined (held s olds j)) t, length_stretch s (get_or olds j 0 % 65536) (get_or olds j 0 / 65536) i.within),
       chain d₀ 0 (joined (held s olds j)) t (omega arith) (e ∙ omega arith) w x.1 ∙ ap (written d₀ 0) (sym k),
     )
 
 -- ---- words
 
-three-words : (s : List ℕ) → Bytes s → (q : ℕ) → q + 12 ≤ length s → stretch s q 12 ≡ bytes (word s q) ++ (bytes (word s (q + 4)) ++ bytes (word s (q + 8)))
+three_words : (s : List ℕ) → Bytes s → (q : ℕ) → q + 12 ≤ length s → stretch s q 12 ≡ bytes (word s q) ++ (bytes (word s (q + 4)) ++ bytes (word s (q + 8)))
 unfolding bytes
-three-words s b q h =
+three_words s b q h =
     ap (take 12) (word_next s b q (q + 4) refl (omega arith)
     ∙ ap (λ (l : List ℕ). bytes (word s q) ++ l) (word_next s b (q + 4) (q + 8) (omega arith) (omega arith)
     ∙ ap (λ (l : List ℕ). bytes (word s (q + 4)) ++ l) (word_next s b (q + 8) (q + 12) (omega arith) (omega arith))))
@@ -95,169 +95,169 @@ pub one_word : (s : List ℕ) → Bytes s → (q : ℕ) → q + 4 ≤ length s �
 unfolding bytes
 one_word s b q h = ap (take 4) (word_next s b q (q + 4) refl h)
 
-pub record-put : (s : List ℕ) → Bytes s → (p w at : ℕ) (d d₁ d₂ : List ℕ) {a r : ℕ} → p + 16 ≤ length s → at + 16 ≤ length d
+pub record_put : (s : List ℕ) → Bytes s → (p w at : ℕ) (d d₁ d₂ : List ℕ) {a r : ℕ} → p + 16 ≤ length s → at + 16 ≤ length d
     → (a ≡ at + 4) × (d₁ ≡ written d at (bytes w)) → (r ≡ a + 12) × (d₂ ≡ written d₁ a (stretch s (p + 4) 12))
-    → (r ≡ at + 16) × (d₂ ≡ written d at (slot-bytes (fill (record-slots s p) (w ∷ []))))
-unfolding slot-bytes
-record-put s b p w at d d₁ d₂ {a = a} h room x y =
+    → (r ≡ at + 16) × (d₂ ≡ written d at (slot_bytes (fill (record_slots s p) (w ∷ []))))
+unfolding slot_bytes
+record_put s b p w at d d₁ d₂ {a = a} h room x y =
     let p8 : p + 4 + 4 ≡ p + 8 = omega arith in
     let p12 : p + 4 + 8 ≡ p + 12 = omega arith in
     let e : stretch s (p + 4) 12 ≡ bytes (word s (p + 4)) ++ (bytes (word s (p + 8)) ++ (bytes (word s (p + 12)) ++ [])) =
-    three-words s b (p + 4) (omega arith) ∙ ap₂ (λ (i j : ℕ). bytes (word s (p + 4)) ++ (bytes (word s i) ++ bytes (word s j))) p8 p12
+    three_words s b (p + 4) (omega arith) ∙ ap₂ (λ (i j : ℕ). bytes (word s (p + 4)) ++ (bytes (word s i) ++ bytes (word s j))) p8 p12
     ∙ ap (λ (l : List ℕ). bytes (word s (p + 4)) ++ (bytes (word s (p + 8)) ++ l)) (sym (append-nil (bytes (word s (p + 12))))) in
-    (omega (arith, x.0, y.0), chain d at {m = a} (bytes w) (stretch s (p + 4) 12) (omega arith) (omega (arith, x.0, length-bytes w)) x.1 y.1 ∙ ap (λ (l : List ℕ). written d at (bytes w ++ l)) e)
+    (omega (arith, x.0, y.0), chain d at {m = a} (bytes w) (stretch s (p + 4) 12) (omega arith) (omega (arith, x.0, length_bytes w)) x.1 y.1 ∙ ap (λ (l : List ℕ). written d at (bytes w ++ l)) e)
 
 -- ---- filling
 
-pub fill-append : (xs ys : List Slot) (fs : List ℕ) → fill (xs ++ ys) fs ≡ fill xs fs ++ fill ys (drop (length (references xs)) fs)
-fill-append [] ys fs = refl
-fill-append (number v ∷ xs) ys fs = ap (λ (l : List Slot). number v ∷ l) (fill-append xs ys fs)
-fill-append (reference r ∷ xs) ys fs =
-    ap (λ (l : List Slot). reference (get_or fs 0 0) ∷ l) (fill-append xs ys (drop 1 fs) ∙ ap (λ (l : List ℕ). fill xs (drop 1 fs) ++ fill ys l) (drop-drop (length (references xs)) 1 fs ∙ (let e : 1 + length (references xs) ≡ suc (length (references xs)) = omega arith in ap (λ (k : ℕ). drop k fs) e)))
+pub fill_append : (xs ys : List Slot) (fs : List ℕ) → fill (xs ++ ys) fs ≡ fill xs fs ++ fill ys (drop (length (references xs)) fs)
+fill_append [] ys fs = refl
+fill_append (number v ∷ xs) ys fs = ap (λ (l : List Slot). number v ∷ l) (fill_append xs ys fs)
+fill_append (reference r ∷ xs) ys fs =
+    ap (λ (l : List Slot). reference (get_or fs 0 0) ∷ l) (fill_append xs ys (drop 1 fs) ∙ ap (λ (l : List ℕ). fill xs (drop 1 fs) ++ fill ys l) (drop-drop (length (references xs)) 1 fs ∙ (let e : 1 + length (references xs) ≡ suc (length (references xs)) = omega arith in ap (λ (k : ℕ). drop k fs) e)))
 
 -- References replaced by what a function makes of each: the words with their references put through it.
-pub fill-redirect : (f : ℕ → ℕ) (xs : List Slot) (rest : List ℕ) → fill xs (map f (references xs) ++ rest) ≡ map (redirect f) xs
-fill-redirect f [] rest = refl
-fill-redirect f (number v ∷ xs) rest = ap (λ (l : List Slot). number v ∷ l) (fill-redirect f xs rest)
-fill-redirect f (reference r ∷ xs) rest = ap (λ (l : List Slot). reference (f r) ∷ l) (fill-redirect f xs rest)
+pub fill_redirect : (f : ℕ → ℕ) (xs : List Slot) (rest : List ℕ) → fill xs (map f (references xs) ++ rest) ≡ map (redirect f) xs
+fill_redirect f [] rest = refl
+fill_redirect f (number v ∷ xs) rest = ap (λ (l : List Slot). number v ∷ l) (fill_redirect f xs rest)
+fill_redirect f (reference r ∷ xs) rest = ap (λ (l : List Slot). reference (f r) ∷ l) (fill_redirect f xs rest)
 
-pub length-fill : (xs : List Slot) (fs : List ℕ) → length (fill xs fs) ≡ length xs
-length-fill [] fs = refl
-length-fill (number v ∷ xs) fs = ap suc (length-fill xs fs)
-length-fill (reference r ∷ xs) fs = ap suc (length-fill xs (drop 1 fs))
+pub length_fill : (xs : List Slot) (fs : List ℕ) → length (fill xs fs) ≡ length xs
+length_fill [] fs = refl
+length_fill (number v ∷ xs) fs = ap suc (length_fill xs fs)
+length_fill (reference r ∷ xs) fs = ap suc (length_fill xs (drop 1 fs))
 
 -- one piece of filled words behind others
-pub filled-then : (d : List ℕ) (at m : ℕ) (xs ys : List Slot) (fs : List ℕ) {d₁ d₂ : List ℕ} → at ≤ length d → m ≡ at + length xs * 4 → d₁ ≡ written d at (slot-bytes (fill xs fs))
-    → d₂ ≡ written d₁ m (slot-bytes (fill ys (drop (length (references xs)) fs))) → d₂ ≡ written d at (slot-bytes (fill (xs ++ ys) fs))
-filled-then d at m xs ys fs h e p q =
-    let l : length (slot-bytes (fill xs fs)) ≡ length xs * 4 = length-slot-bytes (fill xs fs) ∙ ap (λ (k : ℕ). k * 4) (length-fill xs fs) in
-    chain d at {m = m} (slot-bytes (fill xs fs)) (slot-bytes (fill ys (drop (length (references xs)) fs))) h (omega (arith, e, l)) p q
-    ∙ ap (written d at) (sym (slot-bytes-append (fill xs fs) (fill ys (drop (length (references xs)) fs))) ∙ ap slot-bytes (sym (fill-append xs ys fs)))
+pub filled_then : (d : List ℕ) (at m : ℕ) (xs ys : List Slot) (fs : List ℕ) {d₁ d₂ : List ℕ} → at ≤ length d → m ≡ at + length xs * 4 → d₁ ≡ written d at (slot_bytes (fill xs fs))
+    → d₂ ≡ written d₁ m (slot_bytes (fill ys (drop (length (references xs)) fs))) → d₂ ≡ written d at (slot_bytes (fill (xs ++ ys) fs))
+filled_then d at m xs ys fs h e p q =
+    let l : length (slot_bytes (fill xs fs)) ≡ length xs * 4 = length_slot_bytes (fill xs fs) ∙ ap (λ (k : ℕ). k * 4) (length_fill xs fs) in
+    chain d at {m = m} (slot_bytes (fill xs fs)) (slot_bytes (fill ys (drop (length (references xs)) fs))) h (omega (arith, e, l)) p q
+    ∙ ap (written d at) (sym (slot_bytes_append (fill xs fs) (fill ys (drop (length (references xs)) fs))) ∙ ap slot_bytes (sym (fill_append xs ys fs)))
 
-record-references : (s : List ℕ) (at n : ℕ) → length (references (in-each (record-slots s) at n)) ≡ n
-record-references s at zero = refl
-record-references s at (suc n) = ap suc (record-references s (at + 16) n)
+record_references : (s : List ℕ) (at n : ℕ) → length (references (in_each (record_slots s) at n)) ≡ n
+record_references s at zero = refl
+record_references s at (suc n) = ap suc (record_references s (at + 16) n)
 
-length-records : (s : List ℕ) (at n : ℕ) → length (in-each (record-slots s) at n) ≡ n * 4
-length-records s at zero = refl
-length-records s at (suc n) = omega (arith, length-records s (at + 16) n)
+length_records : (s : List ℕ) (at n : ℕ) → length (in_each (record_slots s) at n) ≡ n * 4
+length_records s at zero = refl
+length_records s at (suc n) = omega (arith, length_records s (at + 16) n)
 
-pub records-start : (s fresh d : List ℕ) (from at : ℕ) → d ≡ written d at (slot-bytes (fill (in-each (record-slots s) from 0) fresh))
-unfolding slot-bytes
-records-start s fresh d from at = written_none d at
+pub records_start : (s fresh d : List ℕ) (from at : ℕ) → d ≡ written d at (slot_bytes (fill (in_each (record_slots s) from 0) fresh))
+unfolding slot_bytes
+records_start s fresh d from at = written_none d at
 
-pub cells-start : (s fresh d : List ℕ) (from at : ℕ) → d ≡ written d at (slot-bytes (fill (in-each (cell-slots s) from 0) fresh))
-unfolding slot-bytes
-cells-start s fresh d from at = written_none d at
+pub cells_start : (s fresh d : List ℕ) (from at : ℕ) → d ≡ written d at (slot_bytes (fill (in_each (cell_slots s) from 0) fresh))
+unfolding slot_bytes
+cells_start s fresh d from at = written_none d at
 
-pub records-on : (s fresh d₀ d d' : List ℕ) (from at i to : ℕ) {r : ℕ} → at ≤ length d₀ → to ≡ at + i * 16 → d ≡ written d₀ at (slot-bytes (fill (in-each (record-slots s) from i) fresh))
-    → (r ≡ to + 16) × (d' ≡ written d to (slot-bytes (fill (record-slots s (from + i * 16)) (get_or fresh i 0 ∷ []))))
-    → d' ≡ written d₀ at (slot-bytes (fill (in-each (record-slots s) from (i + 1)) fresh))
-records-on s fresh d₀ d d' from at i to h te w x =
-    let xs = in-each (record-slots s) from i in
+pub records_on : (s fresh d₀ d d' : List ℕ) (from at i to : ℕ) {r : ℕ} → at ≤ length d₀ → to ≡ at + i * 16 → d ≡ written d₀ at (slot_bytes (fill (in_each (record_slots s) from i) fresh))
+    → (r ≡ to + 16) × (d' ≡ written d to (slot_bytes (fill (record_slots s (from + i * 16)) (get_or fresh i 0 ∷ []))))
+    → d' ≡ written d₀ at (slot_bytes (fill (in_each (record_slots s) from (i + 1)) fresh))
+records_on s fresh d₀ d d' from at i to h te w x =
+    let xs = in_each (record_slots s) from i in
     let q = from + i * 16 in
-    let n = record-references s from i in
+    let n = record_references s from i in
     let z : i ≡ i + 0 = omega arith in
     let g : get_or fresh i 0 ≡ get_or (drop (length (references xs)) fresh) 0 0 = ap (λ (k : ℕ). get_or fresh k 0) z ∙ sym (get_or-drop i fresh 0 0) ∙ ap (λ (k : ℕ). get_or (drop k fresh) 0 0) (sym n) in
-    let same : fill (record-slots s q) (get_or fresh i 0 ∷ []) ≡ fill (record-slots s q) (drop (length (references xs)) fresh) =
+    let same : fill (record_slots s q) (get_or fresh i 0 ∷ []) ≡ fill (record_slots s q) (drop (length (references xs)) fresh) =
     ap (λ (v : ℕ). reference v ∷ number (word s (q + 4)) ∷ number (word s (q + 8)) ∷ number (word s (q + 12)) ∷ []) g in
-    filled-then d₀ at to xs (record-slots s q) fresh h (omega (arith, te, length-records s from i)) w (x.1 ∙ ap (λ (l : List Slot). written d to (slot-bytes l)) same)
-    ∙ ap (λ (l : List Slot). written d₀ at (slot-bytes (fill l fresh))) (sym (in-each-last (record-slots s) from i))
+    filled_then d₀ at to xs (record_slots s q) fresh h (omega (arith, te, length_records s from i)) w (x.1 ∙ ap (λ (l : List Slot). written d to (slot_bytes l)) same)
+    ∙ ap (λ (l : List Slot). written d₀ at (slot_bytes (fill l fresh))) (sym (in_each_last (record_slots s) from i))
 
 -- ---- a field, a cell
 
-field-reference : (d d₁ fresh : List ℕ) (v j at : ℕ) → d₁ ≡ written d at (bytes (get_or fresh j 0)) → d₁ ≡ written d at (slot-bytes (fill (if-refers true v) (drop j fresh)))
-unfolding slot-bytes
-field-reference d d₁ fresh v j at e =
+field_reference : (d d₁ fresh : List ℕ) (v j at : ℕ) → d₁ ≡ written d at (bytes (get_or fresh j 0)) → d₁ ≡ written d at (slot_bytes (fill (if_refers true v) (drop j fresh)))
+unfolding slot_bytes
+field_reference d d₁ fresh v j at e =
     let z : j ≡ j + 0 = omega arith in
     e ∙ ap (written d at) (ap bytes (ap (λ (k : ℕ). get_or fresh k 0) z ∙ sym (get_or-drop j fresh 0 0)) ∙ sym (append-nil (bytes (get_or (drop j fresh) 0 0))))
 
-field-number : (d d₁ fresh : List ℕ) (v j at : ℕ) → d₁ ≡ written d at (bytes v) → d₁ ≡ written d at (slot-bytes (fill (if-refers false v) (drop j fresh)))
-unfolding slot-bytes
-field-number d d₁ fresh v j at e = e ∙ ap (written d at) (sym (append-nil (bytes v)))
+field_number : (d d₁ fresh : List ℕ) (v j at : ℕ) → d₁ ≡ written d at (bytes v) → d₁ ≡ written d at (slot_bytes (fill (if_refers false v) (drop j fresh)))
+unfolding slot_bytes
+field_number d d₁ fresh v j at e = e ∙ ap (written d at) (sym (append-nil (bytes v)))
 
 -- A cell's four words, filled, in turn.
-pub cell-put : (s : List ℕ) → Bytes s → (p : ℕ) (k : Code.Cell) (fresh d d₁ d₂ d₃ d₄ : List ℕ) (j at : ℕ) {x i m y : ℕ} {a b : Bool} → IsCell (cell-from s p) k
-    → a ≡ asks-a (tag_of k.tag) k.flag → b ≡ asks-b (tag_of k.tag) k.flag → p + 16 ≤ length s → at + 16 ≤ length d
+pub cell_put : (s : List ℕ) → Bytes s → (p : ℕ) (k : Code.Cell) (fresh d d₁ d₂ d₃ d₄ : List ℕ) (j at : ℕ) {x i m y : ℕ} {a b : Bool} → IsCell (cell_from s p) k
+    → a ≡ asks_a (tag_of k.tag) k.flag → b ≡ asks_b (tag_of k.tag) k.flag → p + 16 ≤ length s → at + 16 ≤ length d
     → (x ≡ at + 4) × (d₁ ≡ written d at (stretch s p 4))
-    → (i ≡ j + length (references (if-refers a k.a))) × (d₂ ≡ written d₁ x (slot-bytes (fill (if-refers a k.a) (drop j fresh))))
-    → (m ≡ i + length (references (if-refers b k.b))) × (d₃ ≡ written d₂ (x + 4) (slot-bytes (fill (if-refers b k.b) (drop i fresh))))
+    → (i ≡ j + length (references (if_refers a k.a))) × (d₂ ≡ written d₁ x (slot_bytes (fill (if_refers a k.a) (drop j fresh))))
+    → (m ≡ i + length (references (if_refers b k.b))) × (d₃ ≡ written d₂ (x + 4) (slot_bytes (fill (if_refers b k.b) (drop i fresh))))
     → (y ≡ x + 8 + 4) × (d₄ ≡ written d₃ (x + 8) (stretch s (p + 12) 4))
-    → (m ≡ j + length (references (cell-slots s p))) × (d₄ ≡ written d at (slot-bytes (fill (cell-slots s p) (drop j fresh))))
-unfolding slot-bytes
-cell-put s bs p k fresh d d₁ d₂ d₃ d₄ j at {x = x} {i = i} {m = m} {a = a} {b = b} c ea eb h room q0 q1 q2 q3 =
+    → (m ≡ j + length (references (cell_slots s p))) × (d₄ ≡ written d at (slot_bytes (fill (cell_slots s p) (drop j fresh))))
+unfolding slot_bytes
+cell_put s bs p k fresh d d₁ d₂ d₃ d₄ j at {x = x} {i = i} {m = m} {a = a} {b = b} c ea eb h room q0 q1 q2 q3 =
     let is = c.is in
     let tag : k.tag ≡ byte s p = ap (λ (z : Cell). z.tag) is in
     let flag : k.flag ≡ byte s (p + 1) = ap (λ (z : Cell). z.flag) is in
     let va : k.a ≡ word s (p + 4) = ap (λ (z : Cell). z.a) is in
     let vb : k.b ≡ word s (p + 8) = ap (λ (z : Cell). z.b) is in
-    let fa : if-refers a k.a ≡ if-refers (asks-a (tag_of (byte s p)) (byte s (p + 1))) (word s (p + 4)) = ap₂ if-refers (ea ∙ ap₂ (λ (t g : ℕ). asks-a (tag_of t) g) tag flag) va in
-    let fb : if-refers b k.b ≡ if-refers (asks-b (tag_of (byte s p)) (byte s (p + 1))) (word s (p + 8)) = ap₂ if-refers (eb ∙ ap₂ (λ (t g : ℕ). asks-b (tag_of t) g) tag flag) vb in
+    let fa : if_refers a k.a ≡ if_refers (asks_a (tag_of (byte s p)) (byte s (p + 1))) (word s (p + 4)) = ap₂ if_refers (ea ∙ ap₂ (λ (t g : ℕ). asks_a (tag_of t) g) tag flag) va in
+    let fb : if_refers b k.b ≡ if_refers (asks_b (tag_of (byte s p)) (byte s (p + 1))) (word s (p + 8)) = ap₂ if_refers (eb ∙ ap₂ (λ (t g : ℕ). asks_b (tag_of t) g) tag flag) vb in
     let first = number (word s p) ∷ [] in
-    let ra = if-refers a k.a in
-    let rb = if-refers b k.b in
+    let ra = if_refers a k.a in
+    let rb = if_refers b k.b in
     let last = number (word s (p + 12)) ∷ [] in
     let fs = drop j fresh in
     let na = length (references ra) in
     let nb = length (references rb) in
-    let all : cell-slots s p ≡ ((first ++ ra) ++ rb) ++ last =
-    cell-slots-are s p ∙ ap₂ (λ (u v : List Slot). number (word s p) ∷ (u ++ (v ++ last))) (sym fa) (sym fb) in
-    let w0 : d₁ ≡ written d at (slot-bytes (fill first fs)) = q0.1 ∙ ap (written d at) (one_word s bs p (omega arith) ∙ sym (append-nil (bytes (word s p)))) in
-    let w1 : d₂ ≡ written d at (slot-bytes (fill (first ++ ra) fs)) = filled-then d at x first ra fs (omega arith) (omega (arith, q0.0)) w0 q1.1 in
+    let all : cell_slots s p ≡ ((first ++ ra) ++ rb) ++ last =
+    cell_slots_are s p ∙ ap₂ (λ (u v : List Slot). number (word s p) ∷ (u ++ (v ++ last))) (sym fa) (sym fb) in
+    let w0 : d₁ ≡ written d at (slot_bytes (fill first fs)) = q0.1 ∙ ap (written d at) (one_word s bs p (omega arith) ∙ sym (append-nil (bytes (word s p)))) in
+    let w1 : d₂ ≡ written d at (slot_bytes (fill (first ++ ra) fs)) = filled_then d at x first ra fs (omega arith) (omega (arith, q0.0)) w0 q1.1 in
     let e1 : drop i fresh ≡ drop (length (references (first ++ ra))) fs = ap (λ (n : ℕ). drop n fresh) q1.0 ∙ sym (drop-drop na j fresh) in
-    let w2 : d₃ ≡ written d at (slot-bytes (fill ((first ++ ra) ++ rb) fs)) =
-    filled-then d at (x + 4) (first ++ ra) rb fs (omega arith) (omega (arith, q0.0)) w1 (q2.1 ∙ ap (λ (l : List ℕ). written d₂ (x + 4) (slot-bytes (fill rb l))) e1) in
-    let w3 : d₄ ≡ written d at (slot-bytes (fill (((first ++ ra) ++ rb) ++ last) fs)) =
-    filled-then d at (x + 8) ((first ++ ra) ++ rb) last fs (omega arith) (omega (arith, q0.0)) w2
+    let w2 : d₃ ≡ written d at (slot_bytes (fill ((first ++ ra) ++ rb) fs)) =
+    filled_then d at (x + 4) (first ++ ra) rb fs (omega arith) (omega (arith, q0.0)) w1 (q2.1 ∙ ap (λ (l : List ℕ). written d₂ (x + 4) (slot_bytes (fill rb l))) e1) in
+    let w3 : d₄ ≡ written d at (slot_bytes (fill (((first ++ ra) ++ rb) ++ last) fs)) =
+    filled_then d at (x + 8) ((first ++ ra) ++ rb) last fs (omega arith) (omega (arith, q0.0)) w2
     (q3.1 ∙ ap (written d₃ (x + 8)) (one_word s bs (p + 12) (omega arith) ∙ sym (append-nil (bytes (word s (p + 12)))))) in
     let n : length (references (((first ++ ra) ++ rb) ++ last)) ≡ na + nb =
-    ap length (references-append ((first ++ ra) ++ rb) last ∙ append-nil (references ((first ++ ra) ++ rb)) ∙ references-append (first ++ ra) rb) ∙ length-append (references ra) (references rb) in
-    (omega (arith, q1.0, q2.0, n, ap (λ (l : List Slot). length (references l)) all), w3 ∙ ap (λ (l : List Slot). written d at (slot-bytes (fill l fs))) (sym all))
+    ap length (references_append ((first ++ ra) ++ rb) last ∙ append-nil (references ((first ++ ra) ++ rb)) ∙ references_append (first ++ ra) rb) ∙ length-append (references ra) (references rb) in
+    (omega (arith, q1.0, q2.0, n, ap (λ (l : List Slot). length (references l)) all), w3 ∙ ap (λ (l : List Slot). written d at (slot_bytes (fill l fs))) (sym all))
 
 -- A cell has at most two references.
-pub field-few : (t : Bool) (v : ℕ) → length (references (if-refers t v)) ≤ 1
-field-few true v = omega arith
-field-few false v = omega arith
+pub field_few : (t : Bool) (v : ℕ) → length (references (if_refers t v)) ≤ 1
+field_few true v = omega arith
+field_few false v = omega arith
 
-pub cell-few : (s : List ℕ) (p : ℕ) → length (references (cell-slots s p)) ≤ 2
-cell-few s p =
-    let ra = if-refers (asks-a (tag_of (byte s p)) (byte s (p + 1))) (word s (p + 4)) in
-    let rb = if-refers (asks-b (tag_of (byte s p)) (byte s (p + 1))) (word s (p + 8)) in
+pub cell_few : (s : List ℕ) (p : ℕ) → length (references (cell_slots s p)) ≤ 2
+cell_few s p =
+    let ra = if_refers (asks_a (tag_of (byte s p)) (byte s (p + 1))) (word s (p + 4)) in
+    let rb = if_refers (asks_b (tag_of (byte s p)) (byte s (p + 1))) (word s (p + 8)) in
     let last = number (word s (p + 12)) ∷ [] in
-    let n : length (references (cell-slots s p)) ≡ length (references ra) + length (references rb) =
-    ap (λ (l : List Slot). length (references l)) (cell-slots-are s p) ∙ ap length (references-append ra (rb ++ last)) ∙ length-append (references ra) (references (rb ++ last))
-    ∙ ap (λ (l : List ℕ). length (references ra) + length l) (references-append rb last ∙ append-nil (references rb)) in
-    omega (arith, n, field-few (asks-a (tag_of (byte s p)) (byte s (p + 1))) (word s (p + 4)), field-few (asks-b (tag_of (byte s p)) (byte s (p + 1))) (word s (p + 8)))
+    let n : length (references (cell_slots s p)) ≡ length (references ra) + length (references rb) =
+    ap (λ (l : List Slot). length (references l)) (cell_slots_are s p) ∙ ap length (references_append ra (rb ++ last)) ∙ length-append (references ra) (references (rb ++ last))
+    ∙ ap (λ (l : List ℕ). length (references ra) + length l) (references_append rb last ∙ append-nil (references rb)) in
+    omega (arith, n, field_few (asks_a (tag_of (byte s p)) (byte s (p + 1))) (word s (p + 4)), field_few (asks_b (tag_of (byte s p)) (byte s (p + 1))) (word s (p + 8)))
 
-cell-four : (s : List ℕ) (p : ℕ) → length (cell-slots s p) ≡ 4
-cell-four s p = ap length (cell-slots-are s p)
+cell_four : (s : List ℕ) (p : ℕ) → length (cell_slots s p) ≡ 4
+cell_four s p = ap length (cell_slots_are s p)
 
-pub length-cells : (s : List ℕ) (at n : ℕ) → length (in-each (cell-slots s) at n) ≡ n * 4
-length-cells s at zero = refl
-length-cells s at (suc n) = length-append (cell-slots s at) (in-each (cell-slots s) (at + 16) n) ∙ omega (arith, cell-four s at, length-cells s (at + 16) n)
+pub length_cells : (s : List ℕ) (at n : ℕ) → length (in_each (cell_slots s) at n) ≡ n * 4
+length_cells s at zero = refl
+length_cells s at (suc n) = length-append (cell_slots s at) (in_each (cell_slots s) (at + 16) n) ∙ omega (arith, cell_four s at, length_cells s (at + 16) n)
 
-pub cells-on : (s fresh d₀ d d' : List ℕ) (from at i first j : ℕ) {r : ℕ} → at ≤ length d₀
-    → j ≡ first + length (references (in-each (cell-slots s) from i)) → d ≡ written d₀ at (slot-bytes (fill (in-each (cell-slots s) from i) (drop first fresh)))
-    → (r ≡ j + length (references (cell-slots s (from + i * 16)))) × (d' ≡ written d (at + i * 16) (slot-bytes (fill (cell-slots s (from + i * 16)) (drop j fresh))))
-    → (r ≡ first + length (references (in-each (cell-slots s) from (i + 1)))) × (d' ≡ written d₀ at (slot-bytes (fill (in-each (cell-slots s) from (i + 1)) (drop first fresh))))
-cells-on s fresh d₀ d d' from at i first j h n w x =
-    let xs = in-each (cell-slots s) from i in
+pub cells_on : (s fresh d₀ d d' : List ℕ) (from at i first j : ℕ) {r : ℕ} → at ≤ length d₀
+    → j ≡ first + length (references (in_each (cell_slots s) from i)) → d ≡ written d₀ at (slot_bytes (fill (in_each (cell_slots s) from i) (drop first fresh)))
+    → (r ≡ j + length (references (cell_slots s (from + i * 16)))) × (d' ≡ written d (at + i * 16) (slot_bytes (fill (cell_slots s (from + i * 16)) (drop j fresh))))
+    → (r ≡ first + length (references (in_each (cell_slots s) from (i + 1)))) × (d' ≡ written d₀ at (slot_bytes (fill (in_each (cell_slots s) from (i + 1)) (drop first fresh))))
+cells_on s fresh d₀ d d' from at i first j h n w x =
+    let xs = in_each (cell_slots s) from i in
     let q = from + i * 16 in
     let e : drop j fresh ≡ drop (length (references xs)) (drop first fresh) = ap (λ (k : ℕ). drop k fresh) n ∙ sym (drop-drop (length (references xs)) first fresh) in
-    let last = in-each-last (cell-slots s) from i in
-    let size : length (references (in-each (cell-slots s) from (i + 1))) ≡ length (references xs) + length (references (cell-slots s q)) =
-    ap (λ (l : List Slot). length (references l)) last ∙ ap length (references-append xs (cell-slots s q)) ∙ length-append (references xs) (references (cell-slots s q)) in (
+    let last = in_each_last (cell_slots s) from i in
+    let size : length (references (in_each (cell_slots s) from (i + 1))) ≡ length (references xs) + length (references (cell_slots s q)) =
+    ap (λ (l : List Slot). length (references l)) last ∙ ap length (references_append xs (cell_slots s q)) ∙ length-append (references xs) (references (cell_slots s q)) in (
       omega (arith, x.0, n, size),
-      filled-then d₀ at (at + i * 16) xs (cell-slots s q) (drop first fresh) h (omega (arith, length-cells s from i)) w (x.1 ∙ ap (λ (l : List ℕ). written d (at + i * 16) (slot-bytes (fill (cell-slots s q) l))) e)
-          ∙ ap (λ (l : List Slot). written d₀ at (slot-bytes (fill l (drop first fresh)))) (sym last),
+      filled_then d₀ at (at + i * 16) xs (cell_slots s q) (drop first fresh) h (omega (arith, length_cells s from i)) w (x.1 ∙ ap (λ (l : List ℕ). written d (at + i * 16) (slot_bytes (fill (cell_slots s q) l))) e)
+          ∙ ap (λ (l : List Slot). written d₀ at (slot_bytes (fill l (drop first fresh)))) (sym last),
     )
 
-pub put-reference : (refers : Bool) (d d₁ fresh : List ℕ) (v j at : ℕ) → refers ≡ true → d₁ ≡ written d at (bytes (get_or fresh j 0))
-    → (j + 1 ≡ j + length (references (if-refers refers v))) × (d₁ ≡ written d at (slot-bytes (fill (if-refers refers v) (drop j fresh))))
-put-reference true d d₁ fresh v j at e w = (refl, field-reference d d₁ fresh v j at w)
-put-reference false d d₁ fresh v j at e w = absurd (let z : ◌≡◌ {A = ℕ} 0 1 = cc in omega arith)
+pub put_reference : (refers : Bool) (d d₁ fresh : List ℕ) (v j at : ℕ) → refers ≡ true → d₁ ≡ written d at (bytes (get_or fresh j 0))
+    → (j + 1 ≡ j + length (references (if_refers refers v))) × (d₁ ≡ written d at (slot_bytes (fill (if_refers refers v) (drop j fresh))))
+put_reference true d d₁ fresh v j at e w = (refl, field_reference d d₁ fresh v j at w)
+put_reference false d d₁ fresh v j at e w = absurd (let z : ◌≡◌ {A = ℕ} 0 1 = cc in omega arith)
 
-pub put-number : (refers : Bool) (d d₁ fresh : List ℕ) (v j at : ℕ) → refers ≡ false → d₁ ≡ written d at (bytes v)
-    → (j ≡ j + length (references (if-refers refers v))) × (d₁ ≡ written d at (slot-bytes (fill (if-refers refers v) (drop j fresh))))
-put-number false d d₁ fresh v j at e w = (omega arith, field-number d d₁ fresh v j at w)
-put-number true d d₁ fresh v j at e w = absurd (let z : ◌≡◌ {A = ℕ} 0 1 = cc in omega arith)
+pub put_number : (refers : Bool) (d d₁ fresh : List ℕ) (v j at : ℕ) → refers ≡ false → d₁ ≡ written d at (bytes v)
+    → (j ≡ j + length (references (if_refers refers v))) × (d₁ ≡ written d at (slot_bytes (fill (if_refers refers v) (drop j fresh))))
+put_number false d d₁ fresh v j at e w = (omega arith, field_number d d₁ fresh v j at w)
+put_number true d d₁ fresh v j at e w = absurd (let z : ◌≡◌ {A = ℕ} 0 1 = cc in omega arith)

@@ -9,45 +9,45 @@ use mathlib.Core.List.{List, [], ◌∷◌, ◌++◌, map, append_assoc}
 use lib.Dec.{leb}
 use lib.ListN.{length, take, drop, length-append, length-map, take-append-drop}
 use lib.Seq.{length-take-le}
-use Rattle.value.specs.Meaning.{bytes-at}
+use Rattle.value.specs.Meaning.{bytes_at}
 use Rattle.sql.specs.Answer.{Answer, done, refused}
-use Rattle.sql.specs.Plan.{Node, columns, node-size}
+use Rattle.sql.specs.Plan.{Node, columns, node_size}
 use Rattle.sheet.specs.Bytes.{bytes, word}
-use Rattle.sheet.specs.Parts.{tables-at, columns-at, cells_at, edition, table-count, column-count, cell-count}
+use Rattle.sheet.specs.Parts.{tables_at, columns_at, cells_at, edition, table_count, column_count, cell_count}
 use Rattle.sheet.specs.Check.{Numbers, text, schema, plan, check, checked, refusal}
 use Rattle.sheet.specs.Operations as Sheet
 use Rattle.sheet.specs.Operations.{refuse}
 use Rattle.sheet_laws.specs.Fits.{All}
-use Rattle.sheet_laws.specs.Plan.{Bytes, parts-of, plan-size}
+use Rattle.sheet_laws.specs.Plan.{Bytes, parts_of, plan_size}
 use Rattle.sheet_laws.specs.Accepted.{accepted}
-use Rattle.sound.specs.Refusals.{Refused-by, From-to, plan-refused}
-use Rattle.compact.specs.Strings.{kept, joined, reference-to}
-use Rattle.compact.specs.Slots.{Slot, references, redirect, record-slots, cell-slots, in-each, slots, slot-bytes}
-use Rattle.compact.specs.Compact.{strings, kept-strings, kept-text, moved, trailer-with, compacted, handed_out, compact}
-use Rattle.compact.specs.Blocks.{slot-bytes-append, length-slot-bytes}
-use Rattle.compact.specs.Moved.{length-d}
+use Rattle.sound.specs.Refusals.{RefusedBy, FromTo, plan_refused}
+use Rattle.compact.specs.Strings.{kept, joined, reference_to}
+use Rattle.compact.specs.Slots.{Slot, references, redirect, record_slots, cell_slots, in_each, slots, slot_bytes}
+use Rattle.compact.specs.Compact.{strings, kept_strings, kept_text, moved, trailer_with, compacted, handed_out, compact}
+use Rattle.compact.specs.Blocks.{slot_bytes_append, length_slot_bytes}
+use Rattle.compact.specs.Moved.{length_d}
 use Rattle.layout.specs.Layout.{Whole, Laid}
 use Rattle.layout.specs.declared.Parts.{Parts}
 use Rattle.checker.specs.Checker.{numbers, outcome}
 use Rattle.checker.specs.declared.Answer as Code
 use Rattle.encode.specs.Encode.{written}
-use Rattle.encode.proofs.Written.{chain, trailer-put}
+use Rattle.encode.proofs.Written.{chain, trailer_put}
 use Rattle.gather.specs.Gather.{Inside, held, Gathers, Gathered}
 use Rattle.gather.specs.declared.Kept.{Kept}
 use Rattle.text_references.specs.Asks.{Listed}
-use Rattle.text_references.proofs.Laws.{in-each-join}
-use Rattle.compactor.specs.Compactor.{fill, trailer-at, TextAt, Ready, Writes, Counted, Runs}
-use Rattle.compactor.proofs.Laws.{fill-append, fill-redirect, length-fill, length-cells}
-use Rattle.compactor.proofs.Inside.{In-text, references-inside, inside-sheet, same_bytes}
+use Rattle.text_references.proofs.Laws.{in_each_join}
+use Rattle.compactor.specs.Compactor.{fill, trailer_at, TextAt, Ready, Writes, Counted, Runs}
+use Rattle.compactor.proofs.Laws.{fill_append, fill_redirect, length_fill, length_cells}
+use Rattle.compactor.proofs.Inside.{InText, references_inside, inside_sheet, same_bytes}
 
 -- ---- the trailer
 
-pub trailer-put-at : (d : List ℕ) (at tables columns cells edition : ℕ) {a b c e r : ℕ} {d₁ d₂ d₃ d₄ d₅ : List ℕ} → at + 20 ≤ length d
+pub trailer_put_at : (d : List ℕ) (at tables columns cells edition : ℕ) {a b c e r : ℕ} {d₁ d₂ d₃ d₄ d₅ : List ℕ} → at + 20 ≤ length d
     → (a ≡ at + 4) × (d₁ ≡ written d at (bytes tables)) → (b ≡ a + 4) × (d₂ ≡ written d₁ a (bytes columns)) → (c ≡ b + 4) × (d₃ ≡ written d₂ b (bytes cells))
     → (e ≡ c + 4) × (d₄ ≡ written d₃ c (bytes edition)) → (r ≡ e + 4) × (d₅ ≡ written d₄ e (bytes (e + 4)))
-    → (r ≡ at + 20) × (d₅ ≡ written d at (trailer-at tables columns cells edition (at + 20)))
-trailer-put-at d at tables columns cells edition h x y z u v =
-    trailer-put d at (record { tables = record { at = tables; count = 0 }; columns = record { at = columns; count = 0 }; cells = record { at = cells; count = 0 } }) edition h x y z u v
+    → (r ≡ at + 20) × (d₅ ≡ written d at (trailer_at tables columns cells edition (at + 20)))
+trailer_put_at d at tables columns cells edition h x y z u v =
+    trailer_put d at (record { tables = record { at = tables; count = 0 }; columns = record { at = columns; count = 0 }; cells = record { at = cells; count = 0 } }) edition h x y z u v
 
 -- ---- the strings are those of the definition
 
@@ -55,151 +55,151 @@ map_same : (f g : ℕ → ℕ) (P : ℕ → Type 0) → ((r : ℕ) → P r → f
 map_same f g P h [] a = refl
 map_same f g P h (r ∷ rs) a = ap₂ ◌∷◌ (h r a.0) (map_same f g P h rs a.1)
 
-map-same-lists : (f g : ℕ → List ℕ) (P : ℕ → Type 0) → ((r : ℕ) → P r → f r ≡ g r) → (rs : List ℕ) → All P rs → map f rs ≡ map g rs
-map-same-lists f g P h [] a = refl
-map-same-lists f g P h (r ∷ rs) a = ap₂ ◌∷◌ (h r a.0) (map-same-lists f g P h rs a.1)
+map_same_lists : (f g : ℕ → List ℕ) (P : ℕ → Type 0) → ((r : ℕ) → P r → f r ≡ g r) → (rs : List ℕ) → All P rs → map f rs ≡ map g rs
+map_same_lists f g P h [] a = refl
+map_same_lists f g P h (r ∷ rs) a = ap₂ ◌∷◌ (h r a.0) (map_same_lists f g P h rs a.1)
 
 module _ (s : List ℕ) (b : Bytes s) (n : Node) (h : plan s ≡ done n) where
   abbrev rs : List ℕ
   rs = references (slots s)
 
-  in-text : All (In-text s) rs
-  in-text = references-inside s b n h
+  in_text : All (InText s) rs
+  in_text = references_inside s b n h
 
-  text-fits : tables-at s ≤ length s
-  text-fits = let p = parts-of (accepted s n h) in omega (arith, p.tables, p.columns, p.cells)
+  text_fits : tables_at s ≤ length s
+  text_fits = let p = parts_of (accepted s n h) in omega (arith, p.tables, p.columns, p.cells)
 
-  pub all-inside : All (Inside s) rs
-  all-inside = inside-sheet s rs text-fits in-text
+  pub all_inside : All (Inside s) rs
+  all_inside = inside_sheet s rs text_fits in_text
 
-  strings-are : map (bytes-at s) rs ≡ strings s
+  strings_are : map (bytes_at s) rs ≡ strings s
   unfolding strings
-  strings-are = map-same-lists (bytes-at s) (bytes-at (text s)) (In-text s) (λ r t. same_bytes s r text-fits t) rs in-text
+  strings_are = map_same_lists (bytes_at s) (bytes_at (text s)) (InText s) (λ r t. same_bytes s r text_fits t) rs in_text
 
-  pub kept-are : kept (map (bytes-at s) rs) ≡ kept-strings s
-  unfolding kept-strings
-  kept-are = ap kept strings-are
+  pub kept_are : kept (map (bytes_at s) rs) ≡ kept_strings s
+  unfolding kept_strings
+  kept_are = ap kept strings_are
 
-  pub text-is : joined (kept (map (bytes-at s) rs)) ≡ kept-text s
-  unfolding kept-text
-  text-is = ap joined kept-are
+  pub text_is : joined (kept (map (bytes_at s) rs)) ≡ kept_text s
+  unfolding kept_text
+  text_is = ap joined kept_are
 
-  pub moved-are : map (λ r. reference-to (kept (map (bytes-at s) rs)) (bytes-at s r)) rs ≡ map (moved s) rs
+  pub moved_are : map (λ r. reference_to (kept (map (bytes_at s) rs)) (bytes_at s r)) rs ≡ map (moved s) rs
   unfolding moved
-  moved-are =
-      map_same (λ r. reference-to (kept (map (bytes-at s) rs)) (bytes-at s r)) (moved s) (In-text s)
-      (λ r t. ap₂ reference-to kept-are (same_bytes s r text-fits t)) rs in-text
+  moved_are =
+      map_same (λ r. reference_to (kept (map (bytes_at s) rs)) (bytes_at s r)) (moved s) (InText s)
+      (λ r t. ap₂ reference_to kept_are (same_bytes s r text_fits t)) rs in_text
 
   -- ---- the sheet that is written
 
-  module _ (p : Parts) (l : Laid s p) (olds fresh : List ℕ) (count : ℕ) (g : Gathers s rs olds fresh count) (short : length (kept-text s) ≤ 8192) where
+  module _ (p : Parts) (l : Laid s p) (olds fresh : List ℕ) (count : ℕ) (g : Gathers s rs olds fresh count) (short : length (kept_text s) ≤ 8192) where
     abbrev records : ℕ
     records = p.tables.count + p.columns.count
 
-    slots-are : in-each (record-slots s) p.tables.at records ++ in-each (cell-slots s) p.cells.at p.cells.count ≡ slots s
+    slots_are : in_each (record_slots s) p.tables.at records ++ in_each (cell_slots s) p.cells.at p.cells.count ≡ slots s
     unfolding slots
-    slots-are =
+    slots_are =
         let is = l.is in
-        let front : in-each (record-slots s) (tables-at s) (table-count s) ++ in-each (record-slots s) (columns-at s) (column-count s) ≡ in-each (record-slots s) (tables-at s) (table-count s + column-count s) =
-        in-each-join (record-slots s) (tables-at s) (columns-at s) (table-count s) (column-count s) (sym (subst (λ (q : Parts). q.tables.at + q.tables.count * 16 ≡ q.columns.at) is l.tables_end)) in
-        ap (λ (q : Parts). in-each (record-slots s) q.tables.at (q.tables.count + q.columns.count) ++ in-each (cell-slots s) q.cells.at q.cells.count) is
-        ∙ ap (λ (x : List Slot). x ++ in-each (cell-slots s) (cells_at s) (cell-count s)) (sym front)
-        ∙ append_assoc (in-each (record-slots s) (tables-at s) (table-count s)) (in-each (record-slots s) (columns-at s) (column-count s)) (in-each (cell-slots s) (cells_at s) (cell-count s))
+        let front : in_each (record_slots s) (tables_at s) (table_count s) ++ in_each (record_slots s) (columns_at s) (column_count s) ≡ in_each (record_slots s) (tables_at s) (table_count s + column_count s) =
+        in_each_join (record_slots s) (tables_at s) (columns_at s) (table_count s) (column_count s) (sym (subst (λ (q : Parts). q.tables.at + q.tables.count * 16 ≡ q.columns.at) is l.tables_end)) in
+        ap (λ (q : Parts). in_each (record_slots s) q.tables.at (q.tables.count + q.columns.count) ++ in_each (cell_slots s) q.cells.at q.cells.count) is
+        ∙ ap (λ (x : List Slot). x ++ in_each (cell_slots s) (cells_at s) (cell_count s)) (sym front)
+        ∙ append_assoc (in_each (record_slots s) (tables_at s) (table_count s)) (in_each (record_slots s) (columns_at s) (column_count s)) (in_each (cell_slots s) (cells_at s) (cell_count s))
 
     filled : fill (slots s) fresh ≡ map (redirect (moved s)) (slots s)
     filled =
-        ap (fill (slots s)) (sym (take-append-drop (length rs) fresh) ∙ ap (λ (x : List ℕ). x ++ drop (length rs) fresh) (g.refers ∙ moved-are)) ∙ fill-redirect (moved s) (slots s) (drop (length rs) fresh)
+        ap (fill (slots s)) (sym (take-append-drop (length rs) fresh) ∙ ap (λ (x : List ℕ). x ++ drop (length rs) fresh) (g.refers ∙ moved_are)) ∙ fill_redirect (moved s) (slots s) (drop (length rs) fresh)
 
-    counts : (p.tables.count ≡ table-count s) × ((p.columns.count ≡ column-count s) × (p.cells.count ≡ cell-count s))
+    counts : (p.tables.count ≡ table_count s) × ((p.columns.count ≡ column_count s) × (p.cells.count ≡ cell_count s))
     counts = (ap (λ (q : Parts). q.tables.count) l.is, (ap (λ (q : Parts). q.columns.count) l.is, ap (λ (q : Parts). q.cells.count) l.is))
 
-    pub needed-is : (bytes : ℕ) → bytes ≡ length (kept-text s) → bytes + records * 16 + p.cells.count * 16 + 20 ≡ length (compacted s)
-    needed-is bytes e = omega (arith, e, counts, length-d s b (parts-of (accepted s n h)) short)
+    pub needed_is : (bytes : ℕ) → bytes ≡ length (kept_text s) → bytes + records * 16 + p.cells.count * 16 + 20 ≡ length (compacted s)
+    needed_is bytes e = omega (arith, e, counts, length_d s b (parts_of (accepted s n h)) short)
 
-    record-refs : (at n : ℕ) → length (references (in-each (record-slots s) at n)) ≡ n
-    record-refs at zero = refl
-    record-refs at (suc n) = ap suc (record-refs (at + 16) n)
+    record_refs : (at n : ℕ) → length (references (in_each (record_slots s) at n)) ≡ n
+    record_refs at zero = refl
+    record_refs at (suc n) = ap suc (record_refs (at + 16) n)
 
-    record-slots-long : (at n : ℕ) → length (in-each (record-slots s) at n) ≡ n * 4
-    record-slots-long at zero = refl
-    record-slots-long at (suc n) = omega (arith, record-slots-long (at + 16) n)
+    record_slots_long : (at n : ℕ) → length (in_each (record_slots s) at n) ≡ n * 4
+    record_slots_long at zero = refl
+    record_slots_long at (suc n) = omega (arith, record_slots_long (at + 16) n)
 
-    pub whole-put : (bytes : ℕ) → bytes ≡ length (kept-text s) → (d d₁ d₂ d₃ d₄ : List ℕ) {a c e edition' r : ℕ} → bytes + records * 16 + p.cells.count * 16 + 20 ≤ length d
+    pub whole_put : (bytes : ℕ) → bytes ≡ length (kept_text s) → (d d₁ d₂ d₃ d₄ : List ℕ) {a c e edition' r : ℕ} → bytes + records * 16 + p.cells.count * 16 + 20 ≤ length d
         → (a ≡ length (joined (held s olds count))) × (d₁ ≡ written d 0 (joined (held s olds count)))
-        → (c ≡ a + records * 16) × (d₂ ≡ written d₁ a (slot-bytes (fill (in-each (record-slots s) p.tables.at records) fresh)))
-        → (e ≡ c + p.cells.count * 16) × (d₃ ≡ written d₂ c (slot-bytes (fill (in-each (cell-slots s) p.cells.at p.cells.count) (drop records fresh))))
+        → (c ≡ a + records * 16) × (d₂ ≡ written d₁ a (slot_bytes (fill (in_each (record_slots s) p.tables.at records) fresh)))
+        → (e ≡ c + p.cells.count * 16) × (d₃ ≡ written d₂ c (slot_bytes (fill (in_each (cell_slots s) p.cells.at p.cells.count) (drop records fresh))))
         → edition' ≡ edition s
-        → (r ≡ e + 20) × (d₄ ≡ written d₃ e (trailer-at a (a + p.tables.count * 16) c edition' (e + 20)))
+        → (r ≡ e + 20) × (d₄ ≡ written d₃ e (trailer_at a (a + p.tables.count * 16) c edition' (e + 20)))
         → d₄ ≡ compacted s ++ drop (length (compacted s)) d
-    unfolding compacted trailer-with
-    whole-put bytes be d d₁ d₂ d₃ d₄ {a = a} {c = c} {e = e} {edition' = ed} room w0 w1 w2 ee w3 =
+    unfolding compacted trailer_with
+    whole_put bytes be d d₁ d₂ d₃ d₄ {a = a} {c = c} {e = e} {edition' = ed} room w0 w1 w2 ee w3 =
         let x = joined (held s olds count) in
-        let xe : x ≡ kept-text s = ap joined g.strings ∙ text-is in
-        let r = in-each (record-slots s) p.tables.at records in
-        let k = in-each (cell-slots s) p.cells.at p.cells.count in
-        let sr = slot-bytes (fill r fresh) in
-        let sk = slot-bytes (fill k (drop records fresh)) in
-        let lr : length sr ≡ records * 16 = length-slot-bytes (fill r fresh) ∙ omega (arith, length-fill r fresh, record-slots-long p.tables.at records) in
-        let lk : length sk ≡ p.cells.count * 16 = length-slot-bytes (fill k (drop records fresh)) ∙ omega (arith, length-fill k (drop records fresh), length-cells s p.cells.at p.cells.count) in
-        let t = trailer-at a (a + p.tables.count * 16) c ed (e + 20) in
+        let xe : x ≡ kept_text s = ap joined g.strings ∙ text_is in
+        let r = in_each (record_slots s) p.tables.at records in
+        let k = in_each (cell_slots s) p.cells.at p.cells.count in
+        let sr = slot_bytes (fill r fresh) in
+        let sk = slot_bytes (fill k (drop records fresh)) in
+        let lr : length sr ≡ records * 16 = length_slot_bytes (fill r fresh) ∙ omega (arith, length_fill r fresh, record_slots_long p.tables.at records) in
+        let lk : length sk ≡ p.cells.count * 16 = length_slot_bytes (fill k (drop records fresh)) ∙ omega (arith, length_fill k (drop records fresh), length_cells s p.cells.at p.cells.count) in
+        let t = trailer_at a (a + p.tables.count * 16) c ed (e + 20) in
         let n1 = length-append x sr in
         let n2 = length-append (x ++ sr) sk in
         let y1 : d₂ ≡ written d 0 (x ++ sr) = chain d 0 {m = a} x sr (omega arith) (w0.0 ∙ omega arith) w0.1 w1.1 in
         let y2 : d₃ ≡ written d 0 ((x ++ sr) ++ sk) = chain d 0 {m = c} (x ++ sr) sk (omega arith) (omega (arith, w0.0, w1.0, n1, lr)) y1 w2.1 in
         let y3 : d₄ ≡ written d 0 (((x ++ sr) ++ sk) ++ t) = chain d 0 {m = e} ((x ++ sr) ++ sk) t (omega arith) (omega (arith, w0.0, w1.0, w2.0, n1, n2, lr, lk)) y2 w3.1 in
-        let body : sr ++ sk ≡ slot-bytes (map (redirect (moved s)) (slots s)) =
-        ap (λ (i : ℕ). sr ++ slot-bytes (fill k (drop i fresh))) (sym (record-refs p.tables.at records))
-        ∙ sym (slot-bytes-append (fill r fresh) (fill k (drop (length (references r)) fresh))) ∙ ap slot-bytes (sym (fill-append r k fresh))
-        ∙ ap (λ (z : List Slot). slot-bytes (fill z fresh)) slots-are ∙ ap slot-bytes filled in
-        let ta : a ≡ length (kept-text s) = w0.0 ∙ ap length xe in
-        let tb : a + p.tables.count * 16 ≡ length (kept-text s) + table-count s * 16 = omega (arith, ta, counts) in
-        let tc : c ≡ length (kept-text s) + table-count s * 16 + column-count s * 16 = omega (arith, ta, w1.0, counts) in
-        let te : e + 20 ≡ length (kept-text s) + table-count s * 16 + column-count s * 16 + cell-count s * 16 + 20 = omega (arith, tc, w2.0, counts) in
-        let tail : t ≡ trailer-with (length (kept-text s)) (table-count s) (column-count s) (cell-count s) (edition s) = cc (ta, tb, tc, te, ee) in
+        let body : sr ++ sk ≡ slot_bytes (map (redirect (moved s)) (slots s)) =
+        ap (λ (i : ℕ). sr ++ slot_bytes (fill k (drop i fresh))) (sym (record_refs p.tables.at records))
+        ∙ sym (slot_bytes_append (fill r fresh) (fill k (drop (length (references r)) fresh))) ∙ ap slot_bytes (sym (fill_append r k fresh))
+        ∙ ap (λ (z : List Slot). slot_bytes (fill z fresh)) slots_are ∙ ap slot_bytes filled in
+        let ta : a ≡ length (kept_text s) = w0.0 ∙ ap length xe in
+        let tb : a + p.tables.count * 16 ≡ length (kept_text s) + table_count s * 16 = omega (arith, ta, counts) in
+        let tc : c ≡ length (kept_text s) + table_count s * 16 + column_count s * 16 = omega (arith, ta, w1.0, counts) in
+        let te : e + 20 ≡ length (kept_text s) + table_count s * 16 + column_count s * 16 + cell_count s * 16 + 20 = omega (arith, tc, w2.0, counts) in
+        let tail : t ≡ trailer_with (length (kept_text s)) (table_count s) (column_count s) (cell_count s) (edition s) = cc (ta, tb, tc, te, ee) in
         let whole : ((x ++ sr) ++ sk) ++ t ≡ compacted s =
         ap (λ (z : List ℕ). z ++ t) (append_assoc x sr sk) ∙ append_assoc x (sr ++ sk) t
         ∙ ap₂ (λ (u v : List ℕ). x ++ (u ++ v)) body tail
-        ∙ ap (λ (z : List ℕ). z ++ (slot-bytes (map (redirect (moved s)) (slots s)) ++ trailer-with (length (kept-text s)) (table-count s) (column-count s) (cell-count s) (edition s))) xe in
-        let zero-plus : 0 + length (compacted s) ≡ length (compacted s) = omega arith in
-        y3 ∙ ap (written d 0) whole ∙ ap (λ (i : ℕ). compacted s ++ drop i d) zero-plus
+        ∙ ap (λ (z : List ℕ). z ++ (slot_bytes (map (redirect (moved s)) (slots s)) ++ trailer_with (length (kept_text s)) (table_count s) (column_count s) (cell_count s) (edition s))) xe in
+        let zero_plus : 0 + length (compacted s) ≡ length (compacted s) = omega arith in
+        y3 ∙ ap (written d 0) whole ∙ ap (λ (i : ℕ). compacted s ++ drop i d) zero_plus
 
 -- ---- what is answered
 
-pub write-refused : (s out : List ℕ) (a : Code.Answer) (needed : ℕ) → needed ≡ length (compacted s) → length out < needed → numbers a ≡ refusal 15 needed → Writes s out a out
-write-refused s out a needed e l h node p =
+pub write_refused : (s out : List ℕ) (a : Code.Answer) (needed : ℕ) → needed ≡ length (compacted s) → length out < needed → numbers a ≡ refusal 15 needed → Writes s out a out
+write_refused s out a needed e l h node p =
     let short : leb (length (compacted s)) (length out) ≡ false = lt-leb (length (compacted s)) (length out) (omega arith) in
     ap (λ (z : Numbers). record { numbers = z; output = out }) (h ∙ ap (refusal 15) e) ∙ sym (ap (Sheet.written s out node (compacted s)) short)
 
-same-node : (s : List ℕ) (m n : Node) → plan s ≡ done m → plan s ≡ done n → m ≡ n
-same-node s m n p q = let e : ◌≡◌ {A = Answer Node} (done m) (done n) = sym p ∙ q in cc
+same_node : (s : List ℕ) (m n : Node) → plan s ≡ done m → plan s ≡ done n → m ≡ n
+same_node s m n p q = let e : ◌≡◌ {A = Answer Node} (done m) (done n) = sym p ∙ q in cc
 
-pub write_done : (s : List ℕ) → Bytes s → (out out' : List ℕ) (n : Node) (needed cells wide : ℕ) → plan s ≡ done n → needed ≡ length (compacted s) → needed ≤ length out → cells ≡ cell-count s
+pub write_done : (s : List ℕ) → Bytes s → (out out' : List ℕ) (n : Node) (needed cells wide : ℕ) → plan s ≡ done n → needed ≡ length (compacted s) → needed ≤ length out → cells ≡ cell_count s
     → wide ≡ columns (schema s) n → out' ≡ compacted s ++ drop (length (compacted s)) out
     → Writes s out (record { number = 0; place = 0; length = needed; cells = cells; columns = wide }) out'
 write_done s b out out' n needed cells wide p e l c w o node q =
-    let same = same-node s n node p q in
+    let same = same_node s n node p q in
     let long : leb (length (compacted s)) (length out) ≡ true = le-leb (length (compacted s)) (length out) (omega arith) in
-    let size : cells ≡ node-size node = c ∙ (sym (plan-size s b n p) ∙ ap node-size same) in
+    let size : cells ≡ node_size node = c ∙ (sym (plan_size s b n p) ∙ ap node_size same) in
     let broad : wide ≡ columns (schema s) node = w ∙ ap (columns (schema s)) same in
     cc (e, size, broad, o, ap (Sheet.written s out node (compacted s)) long)
 
-pub run-refused : (s : List ℕ) → Bytes s → (out : List ℕ) (a : Code.Answer) (n : Node) → plan s ≡ done n → 8192 < length (kept-text s) → numbers a ≡ refusal 14 0 → Runs s out a out
-unfolding kept-text compacted
-run-refused s b out a n p l h node q =
-    let over : leb (length (kept-text s)) 8192 ≡ false = lt-leb (length (kept-text s)) 8192 l in
+pub run_refused : (s : List ℕ) → Bytes s → (out : List ℕ) (a : Code.Answer) (n : Node) → plan s ≡ done n → 8192 < length (kept_text s) → numbers a ≡ refusal 14 0 → Runs s out a out
+unfolding kept_text compacted
+run_refused s b out a n p l h node q =
+    let over : leb (length (kept_text s)) 8192 ≡ false = lt-leb (length (kept_text s)) 8192 l in
     ap (λ (z : Numbers). record { numbers = z; output = out }) h
     ∙ sym (ap (λ (t : Bool). cond t (Sheet.written s out node (compacted s) (leb (length (compacted s)) (length out))) (refuse out 14 0)) over)
 
-pub run-written : (s out out' : List ℕ) (a : Code.Answer) → length (kept-text s) ≤ 8192 → Writes s out a out' → Runs s out a out'
-unfolding kept-text compacted
-run-written s out out' a l w node q =
-    let few : leb (length (kept-text s)) 8192 ≡ true = le-leb (length (kept-text s)) 8192 l in
+pub run_written : (s out out' : List ℕ) (a : Code.Answer) → length (kept_text s) ≤ 8192 → Writes s out a out' → Runs s out a out'
+unfolding kept_text compacted
+run_written s out out' a l w node q =
+    let few : leb (length (kept_text s)) 8192 ≡ true = le-leb (length (kept_text s)) 8192 l in
     w node q ∙ sym (ap (λ (t : Bool). cond t (Sheet.written s out node (compacted s) (leb (length (compacted s)) (length out))) (refuse out 14 0)) few)
 
 -- What check refuses is refused.
-pub compact-refused : (s out : List ℕ) (a : Code.Answer) → numbers a ≡ check s → 1 ≤ a.number → outcome a out ≡ compact s out
+pub compact_refused : (s out : List ℕ) (a : Code.Answer) → numbers a ≡ check s → 1 ≤ a.number → outcome a out ≡ compact s out
 unfolding check compact
-compact-refused s out a e h = go (plan s) e
+compact_refused s out a e h = go (plan s) e
   where
     go : (r : Answer Node) → numbers a ≡ checked s r → outcome a out ≡ handed_out s out r
     go (done node) g = absurd (omega (arith, h, ap (λ (z : Numbers). z.number) g))
@@ -208,45 +208,45 @@ compact-refused s out a e h = go (plan s) e
 -- What it doesn't refuse is a plan with the columns that it counted.
 pub counted : (s : List ℕ) (a : Code.Answer) → numbers a ≡ check s → a.number ≡ 0 → Counted s a.columns
 unfolding check
-counted s a e z = go (plan s) refl e (plan-refused s)
+counted s a e z = go (plan s) refl e (plan_refused s)
   where
-    go : (r : Answer Node) → plan s ≡ r → numbers a ≡ checked s r → Refused-by (From-to 2 10) r → Counted s a.columns
-    go (done node) p g x = record { node = node; stands-for = p; counts = ap (λ (m : Numbers). m.columns) g }
+    go : (r : Answer Node) → plan s ≡ r → numbers a ≡ checked s r → RefusedBy (FromTo 2 10) r → Counted s a.columns
+    go (done node) p g x = record { node = node; stands_for = p; counts = ap (λ (m : Numbers). m.columns) g }
     go (refused number place) p g x = absurd (omega (arith, x.0, z, ap (λ (m : Numbers). m.number) g))
 
-pub compact-run : (s out out' : List ℕ) (a : Code.Answer) (n : Node) → plan s ≡ done n → Runs s out a out' → outcome a out' ≡ compact s out
+pub compact_run : (s out out' : List ℕ) (a : Code.Answer) (n : Node) → plan s ≡ done n → Runs s out a out' → outcome a out' ≡ compact s out
 unfolding compact
-compact-run s out out' a n p r = r n p ∙ sym (ap (handed_out s out) p)
+compact_run s out out' a n p r = r n p ∙ sym (ap (handed_out s out) p)
 
 -- ---- needs of the calls
 
 pub whole_of : (s : List ℕ) (n : Node) → plan s ≡ done n → Whole s
-whole_of s n h = let a = accepted s n h in record { length-is = a.length-is; parts_are = a.parts_are }
+whole_of s n h = let a = accepted s n h in record { length_is = a.length_is; parts_are = a.parts_are }
 
 pub held_bytes : (s : List ℕ) → Bytes s → (n : Node) → plan s ≡ done n → (olds fresh : List ℕ) (count : ℕ) → Gathers s (references (slots s)) olds fresh count
-    → length (joined (held s olds count)) ≡ length (kept-text s)
-held_bytes s b n h olds fresh count g = ap length (ap joined g.strings ∙ text-is s b n h)
+    → length (joined (held s olds count)) ≡ length (kept_text s)
+held_bytes s b n h olds fresh count g = ap length (ap joined g.strings ∙ text_is s b n h)
 
 -- The references listed are those of the sheet.
-pub inside-listed : (s : List ℕ) → Bytes s → (n : Node) → plan s ≡ done n → {refs refs' : List ℕ} {r : ℕ} → Listed (slots s) refs 0 4368 refs' r → All (Inside s) (take r refs')
-inside-listed s b n h l = subst (All (Inside s)) (sym l.is) (all-inside s b n h)
+pub inside_listed : (s : List ℕ) → Bytes s → (n : Node) → plan s ≡ done n → {refs refs' : List ℕ} {r : ℕ} → Listed (slots s) refs 0 4368 refs' r → All (Inside s) (take r refs')
+inside_listed s b n h l = subst (All (Inside s)) (sym l.is) (all_inside s b n h)
 
 -- Over 8,192 bytes, by what was gathered.
-pub gathered-over : (s : List ℕ) → Bytes s → (n : Node) → plan s ≡ done n → (refs refs' olds fresh : List ℕ) (r : ℕ) (k : Kept) → Listed (slots s) refs 0 4368 refs' r → Gathered s (take r refs') olds fresh k
-    → 8192 < k.bytes → 8192 < length (kept-text s)
-gathered-over s b n h refs refs' olds fresh r k l g o =
-    let e : length (joined (kept (map (bytes-at s) (take r refs')))) ≡ length (kept-text s) = ap (λ (x : List ℕ). length (joined (kept (map (bytes-at s) x)))) l.is ∙ ap length (text-is s b n h) in
+pub gathered_over : (s : List ℕ) → Bytes s → (n : Node) → plan s ≡ done n → (refs refs' olds fresh : List ℕ) (r : ℕ) (k : Kept) → Listed (slots s) refs 0 4368 refs' r → Gathered s (take r refs') olds fresh k
+    → 8192 < k.bytes → 8192 < length (kept_text s)
+gathered_over s b n h refs refs' olds fresh r k l g o =
+    let e : length (joined (kept (map (bytes_at s) (take r refs')))) ≡ length (kept_text s) = ap (λ (x : List ℕ). length (joined (kept (map (bytes_at s) x)))) l.is ∙ ap length (text_is s b n h) in
     omega (arith, g.over o, e)
 
-pub gathered-ready : (s : List ℕ) → Bytes s → (w : ℕ) (c : Counted s w) (refs refs' olds fresh : List ℕ) (r : ℕ) (k : Kept) → Listed (slots s) refs 0 4368 refs' r
+pub gathered_ready : (s : List ℕ) → Bytes s → (w : ℕ) (c : Counted s w) (refs refs' olds fresh : List ℕ) (r : ℕ) (k : Kept) → Listed (slots s) refs 0 4368 refs' r
     → Gathered s (take r refs') olds fresh k → k.bytes ≤ 8192 → 4368 ≤ length fresh → Ready s k.count k.bytes w olds fresh
-gathered-ready s b w c refs refs' olds fresh r k l g short long =
+gathered_ready s b w c refs refs' olds fresh r k l g short long =
     record {
       node = c.node;
-      stands-for = c.stands-for;
+      stands_for = c.stands_for;
       counts = c.counts;
       gathers = subst (λ (x : List ℕ). Gathers s x olds fresh k.count) l.is (g.gathers short);
-      bytes-are = g.bytes short ∙ (ap (λ (x : List ℕ). length (joined (kept (map (bytes-at s) x)))) l.is ∙ ap length (text-is s b c.node c.stands-for));
+      bytes_are = g.bytes short ∙ (ap (λ (x : List ℕ). length (joined (kept (map (bytes_at s) x)))) l.is ∙ ap length (text_is s b c.node c.stands_for));
       short = short;
-      fresh-long = long;
+      fresh_long = long;
     }

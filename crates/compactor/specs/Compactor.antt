@@ -1,6 +1,6 @@
 -- What `compact` writes, set beside the definition of crate `compact`.
 use Rattle.std.specs.Prelude.{ℕ, ◌+◌, ◌*◌, ◌≤◌, ◌<◌, ◌≡◌, List, [], ◌∷◌, ◌++◌, map, leb, length, take, drop, get_or}
-use Rattle.value.specs.Meaning.{bytes-at}
+use Rattle.value.specs.Meaning.{bytes_at}
 use Rattle.sql.specs.Answer.{done}
 use Rattle.sql.specs.Plan.{Node, columns}
 use Rattle.sheet.specs.Bytes.{bytes}
@@ -9,7 +9,7 @@ use Rattle.sheet.specs.Operations as Sheet
 use Rattle.sheet_laws.specs.Fits.{All}
 use Rattle.compact.specs.Strings.{joined}
 use Rattle.compact.specs.Slots.{Slot, number, reference, references, slots}
-use Rattle.compact.specs.Compact.{kept-text, compacted, handed_out}
+use Rattle.compact.specs.Compact.{kept_text, compacted, handed_out}
 use Rattle.checker.specs.Checker.{outcome}
 use Rattle.checker.specs.declared.Answer.{Answer}
 use Rattle.gather.specs.Gather.{Inside, held, Gathers}
@@ -29,25 +29,25 @@ pub record TextAt (s olds : List ℕ) (count : ℕ) (out : List ℕ) : Type 0 wh
 -- An accepted sheet whose plan has so many columns, and its gathered strings.
 pub record Ready (s : List ℕ) (count bytes n : ℕ) (olds fresh : List ℕ) : Type 0 where
   pub node : Node
-  pub stands-for : plan s ≡ done node
+  pub stands_for : plan s ≡ done node
   pub counts : n ≡ columns (schema s) node
   pub gathers : Gathers s (references (slots s)) olds fresh count
-  pub bytes-are : bytes ≡ length (kept-text s)
+  pub bytes_are : bytes ≡ length (kept_text s)
   pub short : bytes ≤ 8192
-  pub fresh-long : 4368 ≤ length fresh
+  pub fresh_long : 4368 ≤ length fresh
 
 -- The compacted sheet is written, or refusal 15 is given.
 abbrev pub Writes : (s out : List ℕ) → Answer → List ℕ → Type 0
 Writes s out a out' = (node : Node) → plan s ≡ done node → outcome a out' ≡ Sheet.written s out node (compacted s) (leb (length (compacted s)) (length out))
 
 -- the trailer of a sheet of so many bytes whose parts start at these
-abbrev pub trailer-at : (tables columns cells edition total : ℕ) → List ℕ
-trailer-at tables columns cells edition total = bytes tables ++ (bytes columns ++ (bytes cells ++ (bytes edition ++ bytes total)))
+abbrev pub trailer_at : (tables columns cells edition total : ℕ) → List ℕ
+trailer_at tables columns cells edition total = bytes tables ++ (bytes columns ++ (bytes cells ++ (bytes edition ++ bytes total)))
 
 -- An accepted sheet whose plan has n columns.
 pub record Counted (s : List ℕ) (n : ℕ) : Type 0 where
   pub node : Node
-  pub stands-for : plan s ≡ done node
+  pub stands_for : plan s ≡ done node
   pub counts : n ≡ columns (schema s) node
 
 -- The definition, of an accepted sheet.

@@ -2,14 +2,14 @@
 ghost use Rattle.std.specs.Prelude.{◌≡◌, List, [], ◌∷◌, ℕ, ◌+◌, ◌*◌, ◌≤◌, ◌<◌, length, take, drop};
 ghost use Rattle.sheet.specs.Bytes.{bytes, word};
 ghost use Rattle.compact.specs.Strings.{joined};
-ghost use Rattle.compact.specs.Slots.{record-slots, cell-slots, in-each, references, slot-bytes};
+ghost use Rattle.compact.specs.Slots.{record_slots, cell_slots, in_each, references, slot_bytes};
 ghost use Rattle.compact.specs.Compact as Definition;
 ghost use Rattle.layout.specs.Layout.{Whole};
 ghost use Rattle.checker.specs.Checker.{outcome};
 ghost use Rattle.encode.specs.Encode.{written};
 ghost use Rattle.gather.specs.Gather.{stretch, held};
-ghost use Rattle.text_references.specs.Asks.{if-refers};
-ghost use Rattle.compactor.specs.Compactor.{fill, trailer-at, TextAt, Ready, Writes, Counted, Runs};
+ghost use Rattle.text_references.specs.Asks.{if_refers};
+ghost use Rattle.compactor.specs.Compactor.{fill, trailer_at, TextAt, Ready, Writes, Counted, Runs};
 
 use checker::Answer;
 
@@ -46,7 +46,7 @@ fn put_text(s: &[u8], olds: &[usize], count: usize, out: &mut [u8]) -> usize
 // The record at byte p with the name w.
 fn put_record(s: &[u8], p: usize, w: usize, out: &mut [u8], at: usize) -> usize
     requires { (p + 16 ≤ length s.now) × (at + 16 ≤ length out.old) }
-    ensures { (result ≡ at + 16) × (out.new ≡ written out.old at (slot-bytes (fill (record-slots s.now p) (w ∷ [])))) }
+    ensures { (result ≡ at + 16) × (out.new ≡ written out.old at (slot_bytes (fill (record_slots s.now p) (w ∷ [])))) }
 {
     let a = encode::put_word(out, at, w);
     copy(s, p + 4, 12, out, a)
@@ -55,7 +55,7 @@ fn put_record(s: &[u8], p: usize, w: usize, out: &mut [u8], at: usize) -> usize
 // n records, the first at byte `from`, with the names of `fresh`.
 fn put_records(s: &[u8], from: usize, n: usize, fresh: &[usize], out: &mut [u8], at: usize) -> usize
     requires { (from + n * 16 ≤ length s.now) × ((n ≤ length fresh.now) × (at + n * 16 ≤ length out.old)) }
-    ensures { (result ≡ at + n * 16) × (out.new ≡ written out.old at (slot-bytes (fill (in-each (record-slots s.now) from n) fresh.now))) }
+    ensures { (result ≡ at + n * 16) × (out.new ≡ written out.old at (slot_bytes (fill (in_each (record_slots s.now) from n) fresh.now))) }
 {
     let mut to = at;
     let mut i: usize = 0;
@@ -69,7 +69,7 @@ fn put_records(s: &[u8], from: usize, n: usize, fresh: &[usize], out: &mut [u8],
 // A field with the number v, or where it is a reference number j of `fresh`. The next number is returned.
 fn put_field(refers: bool, v: usize, fresh: &[usize], j: usize, out: &mut [u8], at: usize) -> usize
     requires { (j + 1 ≤ length fresh.now) × (at + 4 ≤ length out.old) }
-    ensures { (result ≡ j + length (references (if-refers refers v))) × (out.new ≡ written out.old at (slot-bytes (fill (if-refers refers v) (drop j fresh.now)))) }
+    ensures { (result ≡ j + length (references (if_refers refers v))) × (out.new ≡ written out.old at (slot_bytes (fill (if_refers refers v) (drop j fresh.now)))) }
 {
     if refers {
         encode::put_word(out, at, fresh[j]);
@@ -82,7 +82,7 @@ fn put_field(refers: bool, v: usize, fresh: &[usize], j: usize, out: &mut [u8], 
 // The cell at byte p with references of `fresh` from number j on. The next number is returned.
 fn put_cell(s: &[u8], p: usize, fresh: &[usize], j: usize, out: &mut [u8], at: usize) -> usize
     requires { (p + 16 ≤ length s.now) × ((j + 2 ≤ length fresh.now) × (at + 16 ≤ length out.old)) }
-    ensures { (result ≡ j + length (references (cell-slots s.now p))) × (out.new ≡ written out.old at (slot-bytes (fill (cell-slots s.now p) (drop j fresh.now)))) }
+    ensures { (result ≡ j + length (references (cell_slots s.now p))) × (out.new ≡ written out.old at (slot_bytes (fill (cell_slots s.now p) (drop j fresh.now)))) }
 {
     let k = layout::cell_from(s, p);
     let a = text_references::a_refers(k.tag, k.flag);
@@ -105,7 +105,7 @@ fn put_cells(
     at: usize,
 ) -> usize
     requires { (from + n * 16 ≤ length s.now) × ((first + n * 2 ≤ length fresh.now) × (at + n * 16 ≤ length out.old)) }
-    ensures { (result ≡ at + n * 16) × (out.new ≡ written out.old at (slot-bytes (fill (in-each (cell-slots s.now) from n) (drop first fresh.now)))) }
+    ensures { (result ≡ at + n * 16) × (out.new ≡ written out.old at (slot_bytes (fill (in_each (cell_slots s.now) from n) (drop first fresh.now)))) }
 {
     let mut j = first;
     let mut i: usize = 0;
@@ -126,7 +126,7 @@ fn put_trailer(
     edition: usize,
 ) -> usize
     requires { at + 20 ≤ length out.old }
-    ensures { (result ≡ at + 20) × (out.new ≡ written out.old at (trailer-at tables columns cells edition (at + 20))) }
+    ensures { (result ≡ at + 20) × (out.new ≡ written out.old at (trailer_at tables columns cells edition (at + 20))) }
 {
     let a = encode::put_word(out, at, tables);
     let b = encode::put_word(out, a, columns);

@@ -8,37 +8,37 @@ use lib.Dec.{ltb}
 use lib.ListN.{length, take, drop, get_or, length-drop, drop_of_length-le}
 use lib.Seq.{drop-cons, take_all, take-nil}
 use borrow.Author.Tests.{lt-ltb, le-ltb}
-use Rattle.value.specs.Comparison.{Finding, Less, Equal, Greater, order, then, compare-bytes}
+use Rattle.value.specs.Comparison.{Finding, Less, Equal, Greater, order, then, compare_bytes}
 
 -- from i on
 abbrev pub rest : List ℕ → List ℕ → ℕ → Finding
-rest a b i = compare-bytes (drop i a) (drop i b)
+rest a b i = compare_bytes (drop i a) (drop i b)
 
 module _ (a b : List ℕ) (i : ℕ) where
-  both-there : i < length a → i < length b → rest a b i ≡ then (order (ltb (get_or a i 0) (get_or b i 0)) (ltb (get_or b i 0) (get_or a i 0))) (rest a b (suc i))
-  unfolding compare-bytes
-  both-there h k = rw (drop-cons a i 0 h, drop-cons b i 0 k)
+  both_there : i < length a → i < length b → rest a b i ≡ then (order (ltb (get_or a i 0) (get_or b i 0)) (ltb (get_or b i 0) (get_or a i 0))) (rest a b (suc i))
+  unfolding compare_bytes
+  both_there h k = rw (drop-cons a i 0 h, drop-cons b i 0 k)
 
-  pub less-here : i < length a → i < length b → get_or a i 0 < get_or b i 0 → Less ≡ rest a b i
-  less-here h k l = rw (both-there h k, lt-ltb (get_or a i 0) (get_or b i 0) l)
+  pub less_here : i < length a → i < length b → get_or a i 0 < get_or b i 0 → Less ≡ rest a b i
+  less_here h k l = rw (both_there h k, lt-ltb (get_or a i 0) (get_or b i 0) l)
 
-  pub greater-here : i < length a → i < length b → get_or b i 0 < get_or a i 0 → Greater ≡ rest a b i
-  greater-here h k l = let m : get_or b i 0 ≤ get_or a i 0 = omega arith in rw (both-there h k, le-ltb (get_or a i 0) (get_or b i 0) m, lt-ltb (get_or b i 0) (get_or a i 0) l)
+  pub greater_here : i < length a → i < length b → get_or b i 0 < get_or a i 0 → Greater ≡ rest a b i
+  greater_here h k l = let m : get_or b i 0 ≤ get_or a i 0 = omega arith in rw (both_there h k, le-ltb (get_or a i 0) (get_or b i 0) m, lt-ltb (get_or b i 0) (get_or a i 0) l)
 
   pub same_here : i < length a → i < length b → get_or b i 0 ≤ get_or a i 0 → get_or a i 0 ≤ get_or b i 0 → rest a b i ≡ rest a b (i + 1)
-  same_here h k l m = rw (both-there h k, le-ltb (get_or a i 0) (get_or b i 0) l, le-ltb (get_or b i 0) (get_or a i 0) m, add-one i)
+  same_here h k l m = rw (both_there h k, le-ltb (get_or a i 0) (get_or b i 0) l, le-ltb (get_or b i 0) (get_or a i 0) m, add-one i)
 
-  pub right-ended : i < length a → length b ≤ i → Greater ≡ rest a b i
-  unfolding compare-bytes
-  right-ended h k = rw (drop-cons a i 0 h, drop_of_length-le b k)
+  pub right_ended : i < length a → length b ≤ i → Greater ≡ rest a b i
+  unfolding compare_bytes
+  right_ended h k = rw (drop-cons a i 0 h, drop_of_length-le b k)
 
   pub left_ended : length a ≤ i → i < length b → Less ≡ rest a b i
-  unfolding compare-bytes
+  unfolding compare_bytes
   left_ended h k = rw (drop_of_length-le a h, drop-cons b i 0 k)
 
-  pub both-ended : length a ≤ i → length b ≤ i → Equal ≡ rest a b i
-  unfolding compare-bytes
-  both-ended h k = rw (drop_of_length-le a h, drop_of_length-le b k)
+  pub both_ended : length a ≤ i → length b ≤ i → Equal ≡ rest a b i
+  unfolding compare_bytes
+  both_ended h k = rw (drop_of_length-le a h, drop_of_length-le b k)
 
 -- ---- a reference's bytes
 

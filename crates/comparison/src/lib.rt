@@ -2,11 +2,11 @@
 ghost use Rattle.std.specs.Prelude.{ℕ, ◌≡◌, List};
 ghost use Rattle.std.specs.Float.Ieee as Ieee;
 ghost use Rattle.std.specs.Float.{binary64};
-ghost use Rattle.value.specs.Meaning.{meaning, result, bytes-at};
+ghost use Rattle.value.specs.Meaning.{meaning, outcome_of, bytes_at};
 ghost use Rattle.comparison.specs.Findings.{finding, comparison};
 ghost use Rattle.value.specs.Value.{boolean, datum, integer, float, string};
 ghost use Rattle.value.specs.Comparison as Defined;
-ghost use Rattle.value.specs.Comparison.{Found, compare-integers, compare-floats, compare-bytes, compare, is-less, is-equal, is_greater, equal, greater-than, less-than};
+ghost use Rattle.value.specs.Comparison.{Found, compare_integers, compare_floats, compare_bytes, compare, is_less, is_equal, is_greater, equal, greater_than, less_than};
 
 use value::{Error, Result, Value};
 
@@ -31,28 +31,28 @@ pub enum Comparison {
 }
 
 pub fn equal(text: &[u8], lhs: Value, rhs: Value) -> Result
-    ensures* { λ r. ⌜ result text.now r ≡ equal (meaning text.now lhs) (meaning text.now rhs) ⌝ }
+    ensures { outcome_of text.now result ≡ equal (meaning text.now lhs) (meaning text.now rhs) }
 {
     let c = compare(text, lhs, rhs);
     answer(c, is_equal(c))
 }
 
 pub fn greater_than(text: &[u8], lhs: Value, rhs: Value) -> Result
-    ensures* { λ r. ⌜ result text.now r ≡ greater-than (meaning text.now lhs) (meaning text.now rhs) ⌝ }
+    ensures { outcome_of text.now result ≡ greater_than (meaning text.now lhs) (meaning text.now rhs) }
 {
     let c = compare(text, lhs, rhs);
     answer(c, is_greater(c))
 }
 
 pub fn less_than(text: &[u8], lhs: Value, rhs: Value) -> Result
-    ensures* { λ r. ⌜ result text.now r ≡ less-than (meaning text.now lhs) (meaning text.now rhs) ⌝ }
+    ensures { outcome_of text.now result ≡ less_than (meaning text.now lhs) (meaning text.now rhs) }
 {
     let c = compare(text, lhs, rhs);
     answer(c, is_less(c))
 }
 
 fn is_less(c: Comparison) -> bool
-    ensures* { λ r. ⌜ r ≡ is-less (comparison c) ⌝ }
+    ensures { result ≡ is_less (comparison c) }
 {
     match c {
         Comparison::Found(f) => match f {
@@ -64,7 +64,7 @@ fn is_less(c: Comparison) -> bool
 }
 
 fn is_equal(c: Comparison) -> bool
-    ensures* { λ r. ⌜ r ≡ is-equal (comparison c) ⌝ }
+    ensures { result ≡ is_equal (comparison c) }
 {
     match c {
         Comparison::Found(f) => match f {
@@ -76,7 +76,7 @@ fn is_equal(c: Comparison) -> bool
 }
 
 fn is_greater(c: Comparison) -> bool
-    ensures* { λ r. ⌜ r ≡ is_greater (comparison c) ⌝ }
+    ensures { result ≡ is_greater (comparison c) }
 {
     match c {
         Comparison::Found(f) => match f {
@@ -89,7 +89,7 @@ fn is_greater(c: Comparison) -> bool
 
 // Null gives Null, and kinds that don't fit are an error; else the answer is `holds`.
 fn answer(c: Comparison, holds: bool) -> Result
-    ensures* { λ r. ⌜ ((text : List ℕ) → result text r ≡ Defined.answer (comparison c) holds) ⌝ }
+    ensures { (text : List ℕ) → outcome_of text result ≡ Defined.answer (comparison c) holds }
 {
     match c {
         Comparison::Null => Result::Ok(Value::Null),
@@ -102,7 +102,7 @@ fn answer(c: Comparison, holds: bool) -> Result
 
 // Compares two values, strings by their bytes in `text`.
 pub fn compare(text: &[u8], lhs: Value, rhs: Value) -> Comparison
-    ensures* { λ r. ⌜ comparison r ≡ compare (meaning text.now lhs) (meaning text.now rhs) ⌝ }
+    ensures { comparison result ≡ compare (meaning text.now lhs) (meaning text.now rhs) }
 {
     match lhs {
         Value::Null => Comparison::Null,
@@ -114,7 +114,7 @@ pub fn compare(text: &[u8], lhs: Value, rhs: Value) -> Comparison
 }
 
 fn compare_boolean(a: bool, rhs: Value) -> Comparison
-    ensures* { λ r. ⌜ ((text : List ℕ) → comparison r ≡ compare (boolean a) (meaning text rhs)) ⌝ }
+    ensures { (text : List ℕ) → comparison result ≡ compare (boolean a) (meaning text rhs) }
 {
     match rhs {
         Value::Null => Comparison::Null,
@@ -124,7 +124,7 @@ fn compare_boolean(a: bool, rhs: Value) -> Comparison
 }
 
 fn compare_integer(a: i64, rhs: Value) -> Comparison
-    ensures* { λ r. ⌜ ((text : List ℕ) → comparison r ≡ compare (datum (integer a)) (meaning text rhs)) ⌝ }
+    ensures { (text : List ℕ) → comparison result ≡ compare (datum (integer a)) (meaning text rhs) }
 {
     match rhs {
         Value::Null => Comparison::Null,
@@ -136,7 +136,7 @@ fn compare_integer(a: i64, rhs: Value) -> Comparison
 }
 
 fn compare_float(x: f64, rhs: Value) -> Comparison
-    ensures* { λ r. ⌜ ((text : List ℕ) → comparison r ≡ compare (datum (float (Ieee.to_bits binary64 x))) (meaning text rhs)) ⌝ }
+    ensures { (text : List ℕ) → comparison result ≡ compare (datum (float (Ieee.to_bits binary64 x))) (meaning text rhs) }
 {
     match rhs {
         Value::Null => Comparison::Null,
@@ -148,7 +148,7 @@ fn compare_float(x: f64, rhs: Value) -> Comparison
 }
 
 fn compare_string(text: &[u8], a: u32, rhs: Value) -> Comparison
-    ensures* { λ r. ⌜ comparison r ≡ compare (datum (string a (bytes-at text.now a))) (meaning text.now rhs) ⌝ }
+    ensures { comparison result ≡ compare (datum (string a (bytes_at text.now a))) (meaning text.now rhs) }
 {
     match rhs {
         Value::Null => Comparison::Null,
@@ -161,7 +161,7 @@ fn compare_string(text: &[u8], a: u32, rhs: Value) -> Comparison
 
 // false is less than true
 fn compare_booleans(a: bool, b: bool) -> Finding
-    ensures* { λ r. ⌜ Found (finding r) ≡ compare (boolean a) (boolean b) ⌝ }
+    ensures { Found (finding result) ≡ compare (boolean a) (boolean b) }
 {
     if a == b {
         return Finding::Equal;
@@ -170,7 +170,7 @@ fn compare_booleans(a: bool, b: bool) -> Finding
 }
 
 fn compare_integers(a: i64, b: i64) -> Finding
-    ensures* { λ r. ⌜ finding r ≡ compare-integers a b ⌝ }
+    ensures { finding result ≡ compare_integers a b }
 {
     if a < b {
         return Finding::Less;
@@ -183,7 +183,7 @@ fn compare_integers(a: i64, b: i64) -> Finding
 }
 
 fn compare_floats(x: f64, y: f64) -> Finding
-    ensures* { λ r. ⌜ finding r ≡ compare-floats x y ⌝ }
+    ensures { finding result ≡ compare_floats x y }
 {
     if x == y {
         return Finding::Equal;
@@ -199,7 +199,7 @@ fn compare_floats(x: f64, y: f64) -> Finding
 }
 
 fn compare_bytes(a: &[u8], b: &[u8]) -> Finding
-    ensures* { λ r. ⌜ finding r ≡ compare-bytes a.now b.now ⌝ }
+    ensures { finding result ≡ compare_bytes a.now b.now }
 {
     let mut i: usize = 0;
     while i < a.len() {
@@ -223,7 +223,7 @@ fn compare_bytes(a: &[u8], b: &[u8]) -> Finding
 
 // The bytes that a text reference refers to; of one that runs past the text's end, those inside.
 pub fn bytes_at(text: &[u8], reference: u32) -> &[u8]
-    ensures* { λ r. ⌜ r.now ≡ bytes-at text.now reference ⌝ }
+    ensures { result.now ≡ bytes_at text.now reference }
 {
     let length = (reference / 65536) as usize;
     let offset = (reference % 65536) as usize;

@@ -2,8 +2,8 @@
 // cells); a conjunct is appended to another slice, behind those that stand there from word `from` up to `at`, with an And over both (and_vec), whose
 // origin the caller gives.
 ghost use Rattle.std.specs.Prelude.{◌≡◌, [], ◌∷◌, map, ◌-◌, ◌<◌};
-ghost use Rattle.sql.specs.Expression.{shift-column-down, ands};
-ghost use Rattle.sql.specs.Optimizer.{for-left, for-right, for-both};
+ghost use Rattle.sql.specs.Expression.{shift_column_down, ands};
+ghost use Rattle.sql.specs.Optimizer.{for_left, for_right, for_both};
 ghost use Rattle.words.specs.Place.{ExpressionAt, Maps};
 ghost use Rattle.conjuncts.specs.Conjuncts.{GatheredAt, JoinableAt, Joins, Walks, goes, chosen, AppendsEach};
 
@@ -18,7 +18,7 @@ pub enum Destination {
 // The expression from lo to hi with its columns `shift` lower.
 fn move_down(s: &[u32], lo: usize, hi: usize, d: &mut [u32], at: usize, shift: usize) -> usize
     requires { ExpressionAt s.now lo hi }
-    ensures { Maps (shift-column-down shift) s.now lo hi d.old at result d.new }
+    ensures { Maps (shift_column_down shift) s.now lo hi d.old at result d.new }
 {
     if shift == 0 {
         return cells::copy(s, lo, hi, d, at);
@@ -65,7 +65,7 @@ pub fn append(
 ) -> usize
     requires expression_at { ExpressionAt s.now lo hi }
     requires gathered_at { GatheredAt d.old from at }
-    ensures { AppendsEach origin (λ e. shift-column-down shift e ∷ []) s.now lo hi d.old from at result d.new }
+    ensures { AppendsEach origin (λ e. shift_column_down shift e ∷ []) s.now lo hi d.old from at result d.new }
 {
     let m = move_down(s, lo, hi, d, at, shift);
     and_over(d, from, at, m, origin)
@@ -139,7 +139,7 @@ pub fn for_left(
 ) -> usize
     requires expression_at { ExpressionAt s.now lo hi }
     requires gathered_at { GatheredAt d.old from at }
-    ensures { AppendsEach origin (λ e. for-left n (ands e)) s.now lo hi d.old from at result d.new }
+    ensures { AppendsEach origin (λ e. for_left n (ands e)) s.now lo hi d.old from at result d.new }
 {
     gather(s, lo, hi, d, from, at, Destination::Left, n, 0, origin)
 }
@@ -158,7 +158,7 @@ pub fn for_right(
 ) -> usize
     requires expression_at { ExpressionAt s.now lo hi }
     requires gathered_at { GatheredAt d.old from at }
-    ensures { AppendsEach origin (λ e. map (shift-column-down shift) (for-right n (ands e))) s.now lo hi d.old from at result d.new }
+    ensures { AppendsEach origin (λ e. map (shift_column_down shift) (for_right n (ands e))) s.now lo hi d.old from at result d.new }
 {
     gather(s, lo, hi, d, from, at, Destination::Right, n, shift, origin)
 }
@@ -176,7 +176,7 @@ pub fn for_both(
 ) -> usize
     requires expression_at { ExpressionAt s.now lo hi }
     requires gathered_at { GatheredAt d.old from at }
-    ensures { AppendsEach origin (λ e. for-both n (ands e)) s.now lo hi d.old from at result d.new }
+    ensures { AppendsEach origin (λ e. for_both n (ands e)) s.now lo hi d.old from at result d.new }
 {
     gather(s, lo, hi, d, from, at, Destination::Join, n, 0, origin)
 }

@@ -4,7 +4,7 @@ use Rattle.sql.specs.Schema.{Schema}
 use Rattle.sql.specs.Plan.{Node}
 use Rattle.sql.specs.Answer.{Answer, done, refused}
 use Rattle.sql.specs.Optimizer.{ConstantFolding}
-use Rattle.words.specs.Words.{node-words}
+use Rattle.words.specs.Words.{node_words}
 use Rattle.words.specs.Place.{NodeHere}
 use Rattle.kept.specs.Kept.{Kept}
 use Rattle.fold_operator.specs.declared.Folded.{Folded}
@@ -20,23 +20,23 @@ pub record PlanAt (text x : List ℕ) (t : ℕ) : Type 0 where
   pub short : length text < 65536
 
 -- q is the first n words of y, no more than t, and can take the place of p.
-pub record Plan-done (schema : Schema) (text : List ℕ) (tables : ℕ) (p q : Node) (t n : ℕ) (y : List ℕ) : Type 0 where
+pub record PlanDone (schema : Schema) (text : List ℕ) (tables : ℕ) (p q : Node) (t n : ℕ) (y : List ℕ) : Type 0 where
   pub within : n ≤ t
   pub inside : n ≤ length y
-  pub words : take n y ≡ node-words q
+  pub words : take n y ≡ node_words q
   pub kept : Kept schema text tables p q
 
 module _ (schema : Schema) (text : List ℕ) (tables : ℕ) (p : Node) (t : ℕ) where
   abbrev pub Left : Answer Node → Folded → List ℕ → Type 0
-  Left (done q) (Folded.Done n) y = Plan-done schema text tables p q t n y
+  Left (done q) (Folded.Done n) y = PlanDone schema text tables p q t n y
   Left (done q) (Folded.Refused number place) y = ⊥
   Left (refused number place) (Folded.Done n) y = ⊥
-  Left (refused number place) (Folded.Refused said at-cell) y = (said ≡ number) × (at-cell ≡ place)
+  Left (refused number place) (Folded.Refused said at_cell) y = (said ≡ number) × (at_cell ≡ place)
 
 -- That is what ConstantFolding of the plan leaves in y, and answers.
-pub record Plan-folded (schema : Schema) (text : List ℕ) (tables : ℕ) (p : Node) (t : ℕ) (r : Folded) (y : List ℕ) : Type 0 where
+pub record PlanFolded (schema : Schema) (text : List ℕ) (tables : ℕ) (p : Node) (t : ℕ) (r : Folded) (y : List ℕ) : Type 0 where
   pub left : Left schema text tables p t (ConstantFolding 0 p) r y
 
 abbrev pub FoldsPlan : List ℕ → List ℕ → ℕ → Folded → List ℕ → Type 0
 FoldsPlan text x t r y =
-    (schema : Schema) (tables : ℕ) (p : Node) → NodeHere x 0 t p → Kept schema text tables p p → Plan-folded schema text tables p t r y
+    (schema : Schema) (tables : ℕ) (p : Node) → NodeHere x 0 t p → Kept schema text tables p p → PlanFolded schema text tables p t r y

@@ -11,99 +11,99 @@ use lib.Dec.{eqb, leb}
 use lib.ListN.{length, take, drop, set, length-set}
 use lib.Seq.{sets, length-sets, set-append_left, set-get_or, get_or-set_other, take-length}
 use Rattle.sheet.specs.Bytes.{byte, word, bytes}
-use Rattle.sheet.specs.Parts.{edition, cells_at, cell-count, record-at}
+use Rattle.sheet.specs.Parts.{edition, cells_at, cell_count, record_at}
 use Rattle.sheet.specs.Check.{Numbers, refusal, check}
 use Rattle.sheet_laws.specs.Accepted.{accepted}
-use Rattle.sheet_laws.specs.Bytes.{bytes-of-digits}
-use Rattle.sheet_laws.specs.Plan.{Bytes, parts-of}
+use Rattle.sheet_laws.specs.Bytes.{bytes_of_digits}
+use Rattle.sheet_laws.specs.Plan.{Bytes, parts_of}
 use Rattle.sheet_laws.specs.Layout.{Parts, parts}
 use Rattle.checker.specs.Checker.{numbers, outcome}
 use Rattle.checker.specs.declared.Answer as Code
-use Rattle.editions.specs.Editions.{origin-bytes, with-origins, in-edition}
-use Rattle.editions.specs.Kept.{length-origins, origin-kept, cell-inside}
-use Rattle.convert.specs.Convert.{origin-in, carried, other-edition, put-out, convert}
+use Rattle.editions.specs.Editions.{origin_bytes, with_origins, in_edition}
+use Rattle.editions.specs.Kept.{length_origins, origin_kept, cell_inside}
+use Rattle.convert.specs.Convert.{origin_in, carried, other_edition, put_out, convert}
 use Rattle.convert.specs.Code.{Carryable}
-use Rattle.convert.specs.Accepted.{stands-for, sides, by_tests}
+use Rattle.convert.specs.Accepted.{stands_for, sides, by_tests}
 
 -- ---- the target
 
 module _ (s : List ℕ) (target : ℕ) where
-  pub own : target ≡ edition s → false ≡ other-edition s target
+  pub own : target ≡ edition s → false ≡ other_edition s target
   own h = sym (ap (λ (b : Bool). not b && (eqb target 1 || eqb target 2)) (eq-eqb target (edition s) h))
 
   module _ (apart : target ≢ edition s) where
-    apart_by : (a : Bool) → eqb target 1 ≡ a → other-edition s target ≡ (a || eqb target 2)
+    apart_by : (a : Bool) → eqb target 1 ≡ a → other_edition s target ≡ (a || eqb target 2)
     apart_by a h = ap₂ (λ (x y : Bool). not x && (y || eqb target 2)) (ne_eqb target (edition s) apart) h
 
-    pub is-1 : target ≡ 1 → true ≡ other-edition s target
-    is-1 h = sym (apart_by true (eq-eqb target 1 h))
+    pub is_1 : target ≡ 1 → true ≡ other_edition s target
+    is_1 h = sym (apart_by true (eq-eqb target 1 h))
 
-    pub not-1 : target ≢ 1 → eqb target 2 ≡ other-edition s target
-    not-1 h = sym (apart_by false (ne_eqb target 1 h))
+    pub not_1 : target ≢ 1 → eqb target 2 ≡ other_edition s target
+    not_1 h = sym (apart_by false (ne_eqb target 1 h))
 
 -- ---- origins
 
-pub origin-1 : (target i : ℕ) → target ≡ 1 → 0 ≡ origin-in target i
-origin-1 target i h = sym (ap (λ (b : Bool). cond b 0 i) (eq-eqb target 1 h))
+pub origin_1 : (target i : ℕ) → target ≡ 1 → 0 ≡ origin_in target i
+origin_1 target i h = sym (ap (λ (b : Bool). cond b 0 i) (eq-eqb target 1 h))
 
-pub origin-2 : (target i : ℕ) → target ≢ 1 → i ≡ origin-in target i
-origin-2 target i h = sym (ap (λ (b : Bool). cond b 0 i) (ne_eqb target 1 h))
+pub origin_2 : (target i : ℕ) → target ≢ 1 → i ≡ origin_in target i
+origin_2 target i h = sym (ap (λ (b : Bool). cond b 0 i) (ne_eqb target 1 h))
 
-pub origin-small : (target i : ℕ) → i < 65536 → origin-in target i < 65536
-origin-small target i h = go (eqb target 1)
+pub origin_small : (target i : ℕ) → i < 65536 → origin_in target i < 65536
+origin_small target i h = go (eqb target 1)
   where
     go : (b : Bool) → cond b 0 i < 65536
     go true = omega arith
     go false = h
 
-pub two-set : (d : List ℕ) (at og : ℕ) → set (set d (at + 2) (og % 256)) (at + 3) (og / 256) ≡ sets d (at + 2) (origin-bytes og)
-two-set d at og = let e : at + 3 ≡ suc (at + 2) = omega arith in ap (λ (n : ℕ). set (set d (at + 2) (og % 256)) n (og / 256)) e
+pub two_set : (d : List ℕ) (at og : ℕ) → set (set d (at + 2) (og % 256)) (at + 3) (og / 256) ≡ sets d (at + 2) (origin_bytes og)
+two_set d at og = let e : at + 3 ≡ suc (at + 2) = omega arith in ap (λ (n : ℕ). set (set d (at + 2) (og % 256)) n (og / 256)) e
 
 -- So many cells are done, and what is left to do gives what all give from the start.
 pub record Going (f : ℕ → ℕ) (at cells : ℕ) (d₀ d : List ℕ) (i : ℕ) : Type 0 where
   pub within : i ≤ cells
-  pub left : with-origins f at i (cells - i) d ≡ with-origins f at 0 cells d₀
+  pub left : with_origins f at i (cells - i) d ≡ with_origins f at 0 cells d₀
 
 pub going_start : (f : ℕ → ℕ) (at cells : ℕ) (d : List ℕ) → Going f at cells d d 0
-going_start f at cells d = record { within = omega arith; left = let e : cells - 0 ≡ cells = omega arith in ap (λ (k : ℕ). with-origins f at 0 k d) e }
+going_start f at cells d = record { within = omega arith; left = let e : cells - 0 ≡ cells = omega arith in ap (λ (k : ℕ). with_origins f at 0 k d) e }
 
-pub going_on : (f : ℕ → ℕ) (at cells : ℕ) (d₀ d d' : List ℕ) (i og : ℕ) → Going f at cells d₀ d i → i < cells → og ≡ f i → d' ≡ sets d (at + i * 16 + 2) (origin-bytes og)
+pub going_on : (f : ℕ → ℕ) (at cells : ℕ) (d₀ d d' : List ℕ) (i og : ℕ) → Going f at cells d₀ d i → i < cells → og ≡ f i → d' ≡ sets d (at + i * 16 + 2) (origin_bytes og)
     → Going f at cells d₀ d' (i + 1)
 going_on f at cells d₀ d d' i og g h e is =
     let k : cells - i ≡ suc (cells - (i + 1)) = omega arith in
     let n : i + 1 ≡ suc i = omega arith in
-    let d-is : d' ≡ sets d (record-at at i + 2) (origin-bytes (f i)) = is ∙ ap (λ (x : ℕ). sets d (at + i * 16 + 2) (origin-bytes x)) e in
-    let step : with-origins f at (suc i) (cells - (i + 1)) d' ≡ with-origins f at i (cells - i) d =
-    ap (with-origins f at (suc i) (cells - (i + 1))) d-is ∙ sym (ap (λ (x : ℕ). with-origins f at i x d) k) in
-    record { within = omega arith; left = ap (λ (x : ℕ). with-origins f at x (cells - (i + 1)) d') n ∙ (step ∙ g.left) }
+    let d_is : d' ≡ sets d (record_at at i + 2) (origin_bytes (f i)) = is ∙ ap (λ (x : ℕ). sets d (at + i * 16 + 2) (origin_bytes x)) e in
+    let step : with_origins f at (suc i) (cells - (i + 1)) d' ≡ with_origins f at i (cells - i) d =
+    ap (with_origins f at (suc i) (cells - (i + 1))) d_is ∙ sym (ap (λ (x : ℕ). with_origins f at i x d) k) in
+    record { within = omega arith; left = ap (λ (x : ℕ). with_origins f at x (cells - (i + 1)) d') n ∙ (step ∙ g.left) }
 
-pub going_done : (f : ℕ → ℕ) (at cells : ℕ) (d₀ d : List ℕ) (i : ℕ) → Going f at cells d₀ d i → cells ≤ i → d ≡ with-origins f at 0 cells d₀
+pub going_done : (f : ℕ → ℕ) (at cells : ℕ) (d₀ d : List ℕ) (i : ℕ) → Going f at cells d₀ d i → cells ≤ i → d ≡ with_origins f at 0 cells d₀
 going_done f at cells d₀ d i g h =
     let z : cells - i ≡ 0 = omega arith in
-    sym (ap (λ (x : ℕ). with-origins f at i x d) z) ∙ g.left
+    sym (ap (λ (x : ℕ). with_origins f at i x d) z) ∙ g.left
 
 -- ---- the sheet in an output
 
 -- Origins are set in front of what stands behind a sheet.
-origins-front : (f : ℕ → ℕ) (at i k : ℕ) (s x : List ℕ) → ((j : ℕ) → i ≤ j → j < i + k → record-at at j + 4 ≤ length s)
-    → with-origins f at i k (s ++ x) ≡ with-origins f at i k s ++ x
-origins-front f at i zero s x h = refl
-origins-front f at i (suc k) s x h =
-    let p = record-at at i + 2 in
+origins_front : (f : ℕ → ℕ) (at i k : ℕ) (s x : List ℕ) → ((j : ℕ) → i ≤ j → j < i + k → record_at at j + 4 ≤ length s)
+    → with_origins f at i k (s ++ x) ≡ with_origins f at i k s ++ x
+origins_front f at i zero s x h = refl
+origins_front f at i (suc k) s x h =
+    let p = record_at at i + 2 in
     let one = set s p (f i % 256) in
     let inside = h i (omega arith) (omega arith) in
     let low : set (s ++ x) p (f i % 256) ≡ one ++ x = set-append_left s x p (f i % 256) (omega arith) in
     let high : set (one ++ x) (suc p) (f i / 256) ≡ set one (suc p) (f i / 256) ++ x = set-append_left one x (suc p) (f i / 256) (omega (arith, length-set s p (f i % 256))) in
-    ap (λ (l : List ℕ). with-origins f at (suc i) k (set l (suc p) (f i / 256))) low
-    ∙ (ap (with-origins f at (suc i) k) high
-    ∙ origins-front f at (suc i) k (sets s p (origin-bytes (f i))) x (λ j a b. omega (arith, h j (omega arith) (omega arith), length-sets s p (origin-bytes (f i)))))
+    ap (λ (l : List ℕ). with_origins f at (suc i) k (set l (suc p) (f i / 256))) low
+    ∙ (ap (with_origins f at (suc i) k) high
+    ∙ origins_front f at (suc i) k (sets s p (origin_bytes (f i))) x (λ j a b. omega (arith, h j (omega arith) (omega arith), length-sets s p (origin_bytes (f i)))))
 
 -- The word of a small number, where the other three bytes are 0 already.
 word_set : (l : List ℕ) (p e : ℕ) → e < 256 → byte l (suc p) ≡ 0 → byte l (suc (suc p)) ≡ 0 → byte l (suc (suc (suc p))) ≡ 0 → set l p e ≡ sets l p (bytes e)
 word_set l p e small a b c =
     let v = set l p e in
     let whole : e + 256 * 0 + 65536 * 0 + 16777216 * 0 ≡ e = omega arith in
-    let digits : bytes e ≡ e ∷ 0 ∷ 0 ∷ 0 ∷ [] = ap bytes (sym whole) ∙ bytes-of-digits e 0 0 0 small (omega arith) (omega arith) (omega arith) in
+    let digits : bytes e ≡ e ∷ 0 ∷ 0 ∷ 0 ∷ [] = ap bytes (sym whole) ∙ bytes_of_digits e 0 0 0 small (omega arith) (omega arith) (omega arith) in
     sym (ap (sets l p) digits
     ∙ (ap (λ (x : List ℕ). set (set x (suc (suc p)) 0) (suc (suc (suc p))) 0) (stays (suc p) (omega arith) a)
     ∙ (ap (λ (x : List ℕ). set x (suc (suc (suc p))) 0) (stays (suc (suc p)) (omega arith) b) ∙ stays (suc (suc (suc p))) (omega arith) c)))
@@ -116,22 +116,22 @@ word_set l p e small a b c =
 
 module _ (s : List ℕ) (target : ℕ) (out : List ℕ) (b : Bytes s) (y : Carryable s target out) where
   p : Parts s
-  p = parts s y.whole.length-is y.known y.whole.parts_are
+  p = parts s y.whole.length_is y.known y.whole.parts_are
 
   pub target_small : target ≤ 2
   target_small = sides s target y.known y.other (λ t e. omega arith) (λ t e. omega arith)
 
   -- the sheet with its origins set
   abbrev w : List ℕ
-  w = with-origins (origin-in target) (cells_at s) 0 (cell-count s) s
+  w = with_origins (origin_in target) (cells_at s) 0 (cell_count s) s
 
-  length-w : length w ≡ length s
-  length-w = length-origins (origin-in target) (cells_at s) 0 (cell-count s) s
+  length_w : length w ≡ length s
+  length_w = length_origins (origin_in target) (cells_at s) 0 (cell_count s) s
 
   -- A byte of the edition word is no cell's.
-  in-word : (q : ℕ) → length s - 8 < q → q < length s → byte w q ≡ byte s q
-  in-word q l u =
-      origin-kept (origin-in target) (cells_at s) 0 (cell-count s) q s (λ j i k. let n = cell-inside s j (omega arith) in (omega arith, omega arith))
+  in_word : (q : ℕ) → length s - 8 < q → q < length s → byte w q ≡ byte s q
+  in_word q l u =
+      origin_kept (origin_in target) (cells_at s) 0 (cell_count s) q s (λ j i k. let n = cell_inside s j (omega arith) in (omega arith, omega arith))
 
   -- The edition word's bytes but the first are 0.
   high_zero : (byte w (suc (length s - 8)) ≡ 0) × ((byte w (suc (suc (length s - 8))) ≡ 0) × (byte w (suc (suc (suc (length s - 8)))) ≡ 0))
@@ -139,28 +139,28 @@ module _ (s : List ℕ) (target : ℕ) (out : List ℕ) (b : Bytes s) (y : Carry
   high_zero =
       let at = length s - 8 in
       let long = p.long in
-      let small = p.edition-small in
+      let small = p.edition_small in
       let e1 : at + 1 ≡ suc at = omega arith in
       let e2 : at + 2 ≡ suc (suc at) = omega arith in
       let e3 : at + 3 ≡ suc (suc (suc at)) = omega arith in
       let z1 : byte s (at + 1) ≡ 0 = omega arith in
       let z2 : byte s (at + 2) ≡ 0 = omega arith in
       let z3 : byte s (at + 3) ≡ 0 = omega arith in (
-        in-word (suc at) (omega arith) (omega arith) ∙ (ap (byte s) (sym e1) ∙ z1),
-        (in-word (suc (suc at)) (omega arith) (omega arith) ∙ (ap (byte s) (sym e2) ∙ z2), in-word (suc (suc (suc at))) (omega arith) (omega arith) ∙ (ap (byte s) (sym e3) ∙ z3)),
+        in_word (suc at) (omega arith) (omega arith) ∙ (ap (byte s) (sym e1) ∙ z1),
+        (in_word (suc (suc at)) (omega arith) (omega arith) ∙ (ap (byte s) (sym e2) ∙ z2), in_word (suc (suc (suc at))) (omega arith) (omega arith) ∙ (ap (byte s) (sym e3) ∙ z3)),
       )
 
-  pub carry-done : (at count : ℕ) (d₁ d₂ : List ℕ) → at ≡ cells_at s → count ≡ cell-count s → d₁ ≡ take (length s) s ++ drop (length s) out
-      → d₂ ≡ with-origins (origin-in target) at 0 count d₁ → set d₂ (length s - 8) target ≡ carried target s ++ drop (length s) out
-  unfolding in-edition
-  carry-done at count d₁ d₂ ea ec e1 e2 =
+  pub carry_done : (at count : ℕ) (d₁ d₂ : List ℕ) → at ≡ cells_at s → count ≡ cell_count s → d₁ ≡ take (length s) s ++ drop (length s) out
+      → d₂ ≡ with_origins (origin_in target) at 0 count d₁ → set d₂ (length s - 8) target ≡ carried target s ++ drop (length s) out
+  unfolding in_edition
+  carry_done at count d₁ d₂ ea ec e1 e2 =
       let x = drop (length s) out in
       let (za, (zb, zc)) = high_zero in
       let copied : d₁ ≡ s ++ x = e1 ∙ ap (λ (l : List ℕ). l ++ x) (take-length s) in
       let marked : d₂ ≡ w ++ x =
-      e2 ∙ (cc (ea, ec, copied) ∙ origins-front (origin-in target) (cells_at s) 0 (cell-count s) s x (λ j i k. omega (arith, cell-inside s j (omega arith)))) in
+      e2 ∙ (cc (ea, ec, copied) ∙ origins_front (origin_in target) (cells_at s) 0 (cell_count s) s x (λ j i k. omega (arith, cell_inside s j (omega arith)))) in
       ap (λ (l : List ℕ). set l (length s - 8) target) marked
-      ∙ (set-append_left w x (length s - 8) target (omega (arith, length-w, p.long))
+      ∙ (set-append_left w x (length s - 8) target (omega (arith, length_w, p.long))
       ∙ ap (λ (l : List ℕ). l ++ x) (word_set w (length s - 8) target (omega (arith, target_small)) za zb zc))
 
 -- ---- the answer at each way out
@@ -169,36 +169,36 @@ module _ (s : List ℕ) (target : ℕ) (out : List ℕ) (a : Code.Answer) (check
   number_is : a.number ≡ (check s).number
   number_is = ap (λ (m : Numbers). m.number) checked
 
-  pub at-check : 1 ≤ a.number → outcome a out ≡ convert s target out
-  at-check h =
+  pub at_check : 1 ≤ a.number → outcome a out ≡ convert s target out
+  at_check h =
       ap (λ (m : Numbers). record { numbers = m; output = out }) checked
-      ∙ sym (by_tests s target out false (other-edition s target) (leb (length s) (length out)) (ne_eqb (check s).number 0 (λ e. omega (arith, number_is, e))) refl refl)
+      ∙ sym (by_tests s target out false (other_edition s target) (leb (length s) (length out)) (ne_eqb (check s).number 0 (λ e. omega (arith, number_is, e))) refl refl)
 
   module _ (zero_is : a.number ≡ 0) where
-    accepted-is : (check s).number ≡ 0
-    accepted-is = sym number_is ∙ zero_is
+    accepted_is : (check s).number ≡ 0
+    accepted_is = sym number_is ∙ zero_is
 
     pub whole_is : Parts s
-    whole_is = let (n, h) = stands-for s accepted-is in parts-of (accepted s n h)
+    whole_is = let (n, h) = stands_for s accepted_is in parts_of (accepted s n h)
 
-    pub carryable : other-edition s target ≡ true → length s ≤ length out → Carryable s target out
+    pub carryable : other_edition s target ≡ true → length s ≤ length out → Carryable s target out
     carryable o room =
-        let (n, h) = stands-for s accepted-is in
+        let (n, h) = stands_for s accepted_is in
         let x = accepted s n h in
-        record { whole = record { length-is = x.length-is; parts_are = x.parts_are }; known = x.edition-is; other = o; room = room }
+        record { whole = record { length_is = x.length_is; parts_are = x.parts_are }; known = x.edition_is; other = o; room = room }
 
-    pub at_target : (r : Code.Answer) → other-edition s target ≡ false → numbers r ≡ refusal 21 0 → outcome r out ≡ convert s target out
+    pub at_target : (r : Code.Answer) → other_edition s target ≡ false → numbers r ≡ refusal 21 0 → outcome r out ≡ convert s target out
     at_target r o e =
         ap (λ (m : Numbers). record { numbers = m; output = out }) e
-        ∙ sym (by_tests s target out true false (leb (length s) (length out)) (eq-eqb (check s).number 0 accepted-is) o refl)
+        ∙ sym (by_tests s target out true false (leb (length s) (length out)) (eq-eqb (check s).number 0 accepted_is) o refl)
 
-    pub at-short : (r : Code.Answer) → other-edition s target ≡ true → length out < length s → numbers r ≡ refusal 15 (length s) → outcome r out ≡ convert s target out
-    at-short r o h e =
+    pub at_short : (r : Code.Answer) → other_edition s target ≡ true → length out < length s → numbers r ≡ refusal 15 (length s) → outcome r out ≡ convert s target out
+    at_short r o h e =
         ap (λ (m : Numbers). record { numbers = m; output = out }) e
-        ∙ sym (by_tests s target out true true false (eq-eqb (check s).number 0 accepted-is) o (lt-leb (length s) (length out) h))
+        ∙ sym (by_tests s target out true true false (eq-eqb (check s).number 0 accepted_is) o (lt-leb (length s) (length out) h))
 
-    pub at-success : (out' : List ℕ) → other-edition s target ≡ true → length s ≤ length out → out' ≡ carried target s ++ drop (length s) out
+    pub at_success : (out' : List ℕ) → other_edition s target ≡ true → length s ≤ length out → out' ≡ carried target s ++ drop (length s) out
         → outcome (record { number = 0; place = 0; length = length s; cells = a.cells; columns = a.columns }) out' ≡ convert s target out
-    at-success out' o h e =
-        let same : outcome (record { number = 0; place = 0; length = length s; cells = a.cells; columns = a.columns }) out' ≡ put-out s target out (check s) true = cc (checked, e) in
-        same ∙ sym (by_tests s target out true true true (eq-eqb (check s).number 0 accepted-is) o (le-leb (length s) (length out) h))
+    at_success out' o h e =
+        let same : outcome (record { number = 0; place = 0; length = length s; cells = a.cells; columns = a.columns }) out' ≡ put_out s target out (check s) true = cc (checked, e) in
+        same ∙ sym (by_tests s target out true true true (eq-eqb (check s).number 0 accepted_is) o (le-leb (length s) (length out) h))

@@ -2,9 +2,9 @@
 ghost use Rattle.std.specs.Prelude.{◌≡◌, ◌++◌, ◌+◌, ◌*◌, ◌≤◌, ◌<◌, length, drop};
 ghost use Rattle.std.proofs.lemmas.List.Edits.{sets};
 ghost use Rattle.checker.specs.Checker.{outcome};
-ghost use Rattle.editions.specs.Editions.{origin-bytes, with-origins};
+ghost use Rattle.editions.specs.Editions.{origin_bytes, with_origins};
 ghost use Rattle.convert.specs.Convert;
-ghost use Rattle.convert.specs.Convert.{origin-in, carried, other-edition};
+ghost use Rattle.convert.specs.Convert.{origin_in, carried, other_edition};
 ghost use Rattle.convert.specs.Code.{Carryable};
 
 use checker::Answer;
@@ -12,7 +12,7 @@ use checker::Answer;
 // The target is not the edition of s, and is one.
 fn is_other(s: &[u8], target: usize) -> bool
     requires { 20 ≤ length s.now }
-    ensures { result ≡ other-edition s.now target }
+    ensures { result ≡ other_edition s.now target }
 {
     if target == layout::word_at(s, s.len() - 8) {
         return false;
@@ -25,7 +25,7 @@ fn is_other(s: &[u8], target: usize) -> bool
 
 // The origin that cell number i is given.
 fn origin_in(target: usize, i: usize) -> usize
-    ensures { result ≡ origin-in target i }
+    ensures { result ≡ origin_in target i }
 {
     if target == 1 { 0 } else { i }
 }
@@ -33,7 +33,7 @@ fn origin_in(target: usize, i: usize) -> usize
 // Bytes 2 and 3 of the cell that starts at byte `at`.
 fn put_origin(origin: usize, out: &mut [u8], at: usize)
     requires { (origin < 65536) × (at + 4 ≤ length out.old) }
-    ensures { out.new ≡ sets out.old (at + 2) (origin-bytes origin) }
+    ensures { out.new ≡ sets out.old (at + 2) (origin_bytes origin) }
 {
     out[at + 2] = (origin % 256) as u8;
     out[at + 3] = (origin / 256) as u8;
@@ -42,7 +42,7 @@ fn put_origin(origin: usize, out: &mut [u8], at: usize)
 // The origins of the cells, so many from byte `at` on.
 fn put_origins(target: usize, cells: usize, out: &mut [u8], at: usize)
     requires { (cells ≤ 2048) × (at + cells * 16 ≤ length out.old) }
-    ensures { out.new ≡ with-origins (origin-in target) at 0 cells out.old }
+    ensures { out.new ≡ with_origins (origin_in target) at 0 cells out.old }
 {
     let mut i: usize = 0;
     while i < cells {

@@ -4,7 +4,7 @@
 ghost use Rattle.std.specs.Prelude.{◌≡◌, ◌-◌, ◌<◌};
 ghost use Rattle.sql.specs.Optimizer.{is_number};
 ghost use Rattle.words.specs.Place.{ExpressionAt};
-ghost use Rattle.column_lookup.specs.Lookup.{found, column-in, equal-cells};
+ghost use Rattle.column_lookup.specs.Lookup.{found, column_in, equal_cells};
 ghost use Rattle.conjuncts.specs.Conjuncts.{OptionalAt, GatheredAt};
 ghost use Rattle.copied_lookups.specs.Copies.{IsLookupOf, ending, FindsLast, CopiesLast, CopiesPair, CopiesConjunct, CopiesEach, LeftAt, PushesLeft, RightAt, PushesRight};
 
@@ -24,7 +24,7 @@ pub enum Place {
 
 // Whether a cell is that of Column c.
 fn is_column(k: cells::Cell, c: u32) -> bool
-    ensures { result ≡ is_number c (found (column-in k)) }
+    ensures { result ≡ is_number c (found (column_in k)) }
 {
     if k.tag == tags::COLUMN {
         return k.a == c;
@@ -34,7 +34,7 @@ fn is_column(k: cells::Cell, c: u32) -> bool
 
 // Whether Equal of operands with these cells is a lookup of column c.
 fn is_equal_lookup(l: cells::Cell, r: cells::Cell, c: u32) -> bool
-    ensures { result ≡ is_number c (found (equal-cells l r)) }
+    ensures { result ≡ is_number c (found (equal_cells l r)) }
 {
     if l.tag < tags::COLUMN {
         return is_column(r, c);

@@ -13,90 +13,90 @@ use Rattle.value.specs.Value.{Truth, False, Unknown, True, truth, datum, integer
 use Rattle.sql.specs.Expression.{Unary, Not, function, IsNull, IsNaN, Identity, Negate, SquareRoot, Binary, logical, And, Or, Equal, GreaterThan, LessThan, Add, Divide, Subtract, Multiply}
 use Rattle.sql.specs.Plan.{Label, unlabelled, unqualified, qualified}
 use Rattle.sheet.specs.Cell.{Cell}
-use Rattle.sheet.specs.Content.{Content, cell-of, marked, constant_cell, column-cell, unary-cell, binary-cell, label-cell, item-cell, key-cell, target-cell, agg-cell, row-cell, aggregate-cell, filter-cell, hash-join-cell, index-lookup-cell, key-lookup-cell, limit-cell, offset-cell, nested-loop-join-cell, nothing-cell, order-cell, projection-cell, remap-cell, scan-cell, values-cell}
-use Rattle.sheet_laws.specs.Fits.{Counts-fit}
+use Rattle.sheet.specs.Content.{Content, cell_of, marked, constant_cell, column_cell, unary_cell, binary_cell, label_cell, item_cell, key_cell, target_cell, agg_cell, row_cell, aggregate_cell, filter_cell, hash_join_cell, index_lookup_cell, key_lookup_cell, limit_cell, offset_cell, nested_loop_join_cell, nothing_cell, order_cell, projection_cell, remap_cell, scan_cell, values_cell}
+use Rattle.sheet_laws.specs.Fits.{CountsFit}
 use Rattle.sheet_laws.specs.Content.{high_part}
 use Rattle.arity.specs.Arity.{children}
 use Rattle.arity.specs.declared.Children.{Children}
-use Rattle.decode.specs.Decode.{part-trees, node-trees, trees}
+use Rattle.decode.specs.Decode.{part_trees, node_trees, trees}
 
 abbrev pub total : Children → ℕ
 total n = n.nodes + n.parts + n.aggs
 
-unary-trees : (o : Unary) → trees (cell-of (unary-cell o)) ≡ 1
+unary_trees : (o : Unary) → trees (cell_of (unary_cell o)) ≡ 1
 unfolding trees
-unary-trees Not = refl
-unary-trees (function IsNull) = refl
-unary-trees (function IsNaN) = refl
-unary-trees (function Identity) = refl
-unary-trees (function Negate) = refl
-unary-trees (function SquareRoot) = refl
+unary_trees Not = refl
+unary_trees (function IsNull) = refl
+unary_trees (function IsNaN) = refl
+unary_trees (function Identity) = refl
+unary_trees (function Negate) = refl
+unary_trees (function SquareRoot) = refl
 
-binary-trees : (o : Binary) → trees (cell-of (binary-cell o)) ≡ 2
+binary_trees : (o : Binary) → trees (cell_of (binary_cell o)) ≡ 2
 unfolding trees
-binary-trees (logical And) = refl
-binary-trees (logical Or) = refl
-binary-trees Equal = refl
-binary-trees (function GreaterThan) = refl
-binary-trees (function LessThan) = refl
-binary-trees (function Add) = refl
-binary-trees (function Divide) = refl
-binary-trees (function Subtract) = refl
-binary-trees (function Multiply) = refl
+binary_trees (logical And) = refl
+binary_trees (logical Or) = refl
+binary_trees Equal = refl
+binary_trees (function GreaterThan) = refl
+binary_trees (function LessThan) = refl
+binary_trees (function Add) = refl
+binary_trees (function Divide) = refl
+binary_trees (function Subtract) = refl
+binary_trees (function Multiply) = refl
 
 -- an IndexLookup's count, behind its column
 counted : {i n : ℕ} → (i < 65536) × (n < 65536) → (i + 65536 * n) / 65536 ≡ 0 + n + 0
 counted {i} {n} h = high_part 65536 i n h.0 ∙ omega arith
 
-pub trees-said : (k : Content) → Counts-fit k → trees (cell-of k) ≡ total (children k)
+pub trees_said : (k : Content) → CountsFit k → trees (cell_of k) ≡ total (children k)
 unfolding trees
-trees-said (constant_cell (truth Unknown)) x = refl
-trees-said (constant_cell (truth False)) x = refl
-trees-said (constant_cell (truth True)) x = refl
-trees-said (constant_cell (datum (integer n))) x = refl
-trees-said (constant_cell (datum (float b))) x = refl
-trees-said (constant_cell (datum (string r s))) x = refl
-trees-said (column-cell i) x = refl
-trees-said (unary-cell o) x = unary-trees o
-trees-said (binary-cell o) x = binary-trees o
-trees-said (label-cell unlabelled) x = refl
-trees-said (label-cell (unqualified n)) x = refl
-trees-said (label-cell (qualified q n)) x = refl
-trees-said (item-cell unlabelled) x = refl
-trees-said (item-cell (unqualified n)) x = refl
-trees-said (item-cell (qualified q n)) x = refl
-trees-said (key-cell d) x = refl
-trees-said (target-cell none) x = refl
-trees-said (target-cell (some i)) x = refl
-trees-said (agg-cell f) x = refl
-trees-said (row-cell n) x = omega arith
-trees-said (aggregate-cell n m) x = refl
-trees-said filter-cell x = refl
-trees-said (hash-join-cell o l r) x = refl
-trees-said (index-lookup-cell t none i n) x = counted x
-trees-said (index-lookup-cell t (some r) i n) x = counted x
-trees-said (key-lookup-cell t none n) x = omega arith
-trees-said (key-lookup-cell t (some r) n) x = omega arith
-trees-said (limit-cell n) x = refl
-trees-said (offset-cell n) x = refl
-trees-said (nested-loop-join-cell false false) x = refl
-trees-said (nested-loop-join-cell false true) x = refl
-trees-said (nested-loop-join-cell true false) x = refl
-trees-said (nested-loop-join-cell true true) x = refl
-trees-said (nothing-cell n) x = omega arith
-trees-said (order-cell n) x = omega arith
-trees-said (projection-cell n) x = omega arith
-trees-said (remap-cell n) x = omega arith
-trees-said (scan-cell false t none) x = refl
-trees-said (scan-cell true t none) x = refl
-trees-said (scan-cell false t (some r)) x = refl
-trees-said (scan-cell true t (some r)) x = refl
-trees-said (values-cell n) x = omega arith
+trees_said (constant_cell (truth Unknown)) x = refl
+trees_said (constant_cell (truth False)) x = refl
+trees_said (constant_cell (truth True)) x = refl
+trees_said (constant_cell (datum (integer n))) x = refl
+trees_said (constant_cell (datum (float b))) x = refl
+trees_said (constant_cell (datum (string r s))) x = refl
+trees_said (column_cell i) x = refl
+trees_said (unary_cell o) x = unary_trees o
+trees_said (binary_cell o) x = binary_trees o
+trees_said (label_cell unlabelled) x = refl
+trees_said (label_cell (unqualified n)) x = refl
+trees_said (label_cell (qualified q n)) x = refl
+trees_said (item_cell unlabelled) x = refl
+trees_said (item_cell (unqualified n)) x = refl
+trees_said (item_cell (qualified q n)) x = refl
+trees_said (key_cell d) x = refl
+trees_said (target_cell none) x = refl
+trees_said (target_cell (some i)) x = refl
+trees_said (agg_cell f) x = refl
+trees_said (row_cell n) x = omega arith
+trees_said (aggregate_cell n m) x = refl
+trees_said filter_cell x = refl
+trees_said (hash_join_cell o l r) x = refl
+trees_said (index_lookup_cell t none i n) x = counted x
+trees_said (index_lookup_cell t (some r) i n) x = counted x
+trees_said (key_lookup_cell t none n) x = omega arith
+trees_said (key_lookup_cell t (some r) n) x = omega arith
+trees_said (limit_cell n) x = refl
+trees_said (offset_cell n) x = refl
+trees_said (nested_loop_join_cell false false) x = refl
+trees_said (nested_loop_join_cell false true) x = refl
+trees_said (nested_loop_join_cell true false) x = refl
+trees_said (nested_loop_join_cell true true) x = refl
+trees_said (nothing_cell n) x = omega arith
+trees_said (order_cell n) x = omega arith
+trees_said (projection_cell n) x = omega arith
+trees_said (remap_cell n) x = omega arith
+trees_said (scan_cell false t none) x = refl
+trees_said (scan_cell true t none) x = refl
+trees_said (scan_cell false t (some r)) x = refl
+trees_said (scan_cell true t (some r)) x = refl
+trees_said (values_cell n) x = omega arith
 
 -- whatever its origin is
-pub marked-trees : (og : ℕ) (k : Content) → Counts-fit k → trees (marked og (cell-of k)) ≡ total (children k)
+pub marked_trees : (og : ℕ) (k : Content) → CountsFit k → trees (marked og (cell_of k)) ≡ total (children k)
 unfolding trees
-marked-trees og k x = trees-said k x
+marked_trees og k x = trees_said k x
 
 -- ---- the branches of the code
 
@@ -113,50 +113,50 @@ module _ (k : Cell) where
   before n m v h = ap (λ (b : Bool). cond b v m) (lt-ltb k.tag n h)
 
   abbrev nodes : ℕ
-  nodes = get_or (node-trees k) (k.tag - 50) 0
+  nodes = get_or (node_trees k) (k.tag - 50) 0
 
-  abbrev from-46 : ℕ
-  from-46 = cond (ltb k.tag 50) 0 nodes
+  abbrev from_46 : ℕ
+  from_46 = cond (ltb k.tag 50) 0 nodes
 
-  abbrev from-40 : ℕ
-  from-40 = cond (ltb k.tag 46) (get_or (part-trees k.a) (k.tag - 40) 0) from-46
+  abbrev from_40 : ℕ
+  from_40 = cond (ltb k.tag 46) (get_or (part_trees k.a) (k.tag - 40) 0) from_46
 
-  abbrev from-30 : ℕ
-  from-30 = cond (ltb k.tag 40) 1 from-40
+  abbrev from_30 : ℕ
+  from_30 = cond (ltb k.tag 40) 1 from_40
 
-  abbrev from-10 : ℕ
-  from-10 = cond (ltb k.tag 30) 2 from-30
+  abbrev from_10 : ℕ
+  from_10 = cond (ltb k.tag 30) 2 from_30
 
-  pub leaf-trees : k.tag < 10 → 0 ≡ trees k
+  pub leaf_trees : k.tag < 10 → 0 ≡ trees k
   unfolding trees
-  leaf-trees h = sym (before 10 from-10 0 h)
+  leaf_trees h = sym (before 10 from_10 0 h)
 
   module _ (h : 10 ≤ k.tag) where
-    pub two-trees : k.tag < 30 → 2 ≡ trees k
+    pub two_trees : k.tag < 30 → 2 ≡ trees k
     unfolding trees
-    two-trees j = sym (behind 10 from-10 0 h ∙ before 30 from-30 2 j)
+    two_trees j = sym (behind 10 from_10 0 h ∙ before 30 from_30 2 j)
 
     module _ (i : 30 ≤ k.tag) where
-      pub one-tree : k.tag < 40 → 1 ≡ trees k
+      pub one_tree : k.tag < 40 → 1 ≡ trees k
       unfolding trees
-      one-tree j = sym (behind 10 from-10 0 h ∙ behind 30 from-30 2 i ∙ before 40 from-40 1 j)
+      one_tree j = sym (behind 10 from_10 0 h ∙ behind 30 from_30 2 i ∙ before 40 from_40 1 j)
 
       module _ (l : 40 ≤ k.tag) where
-        pub parts_said : {r : ℕ} → k.tag < 46 → r ≡ get_or (part-trees k.a) (k.tag - 40) 0 → r ≡ trees k
+        pub parts_said : {r : ℕ} → k.tag < 46 → r ≡ get_or (part_trees k.a) (k.tag - 40) 0 → r ≡ trees k
         unfolding trees
         parts_said j e =
-            e ∙ sym (behind 10 from-10 0 h ∙ behind 30 from-30 2 i ∙ behind 40 from-40 1 l ∙ before 46 from-46 (get_or (part-trees k.a) (k.tag - 40) 0) j)
+            e ∙ sym (behind 10 from_10 0 h ∙ behind 30 from_30 2 i ∙ behind 40 from_40 1 l ∙ before 46 from_46 (get_or (part_trees k.a) (k.tag - 40) 0) j)
 
         module _ (m : 46 ≤ k.tag) where
-          from_all : trees k ≡ from-46
+          from_all : trees k ≡ from_46
           unfolding trees
-          from_all = behind 10 from-10 0 h ∙ behind 30 from-30 2 i ∙ behind 40 from-40 1 l ∙ behind 46 from-46 (get_or (part-trees k.a) (k.tag - 40) 0) m
+          from_all = behind 10 from_10 0 h ∙ behind 30 from_30 2 i ∙ behind 40 from_40 1 l ∙ behind 46 from_46 (get_or (part_trees k.a) (k.tag - 40) 0) m
 
-          pub no-trees : k.tag < 50 → 0 ≡ trees k
-          no-trees j = sym (from_all ∙ before 50 nodes 0 j)
+          pub no_trees : k.tag < 50 → 0 ≡ trees k
+          no_trees j = sym (from_all ∙ before 50 nodes 0 j)
 
-          pub nodes-said : {r : ℕ} → 50 ≤ k.tag → r ≡ get_or (node-trees k) (k.tag - 50) 0 → r ≡ trees k
-          nodes-said j e = e ∙ sym (from_all ∙ behind 50 nodes 0 j)
+          pub nodes_said : {r : ℕ} → 50 ≤ k.tag → r ≡ get_or (node_trees k) (k.tag - 50) 0 → r ≡ trees k
+          nodes_said j e = e ∙ sym (from_all ∙ behind 50 nodes 0 j)
 
-          pub past-trees : 64 ≤ k.tag → 0 ≡ trees k
-          past-trees j = nodes-said (omega arith) (sym (get_or-eq_default (node-trees k) 0 {n = k.tag - 50} (omega arith)))
+          pub past_trees : 64 ≤ k.tag → 0 ≡ trees k
+          past_trees j = nodes_said (omega arith) (sym (get_or-eq_default (node_trees k) 0 {n = k.tag - 50} (omega arith)))

@@ -1,14 +1,14 @@
 // From a sheet to the working form: the cells of an accepted sheet, each over the trees that it asks for, in words.
 ghost use Rattle.std.specs.Prelude.{◌≡◌, ◌-◌, ◌≤◌, ◌<◌, get_or};
-ghost use Rattle.layout.specs.Layout.{as-cell};
-ghost use Rattle.nodes.specs.Trees.{trees-start};
-ghost use Rattle.decode.specs.Decode.{Acceptable, Decodes, part-trees, node-trees, trees, Last, Put};
+ghost use Rattle.layout.specs.Layout.{as_cell};
+ghost use Rattle.nodes.specs.Trees.{trees_start};
+ghost use Rattle.decode.specs.Decode.{Acceptable, Decodes, part_trees, node_trees, trees, Last, Put};
 
 // How many trees the cell k stands over: its operands, or its sources and parts. Tags are told apart by tests: a constant array over all tags would be
 // stored anew at each call, which takes longer than all else that is done for a cell.
 fn trees_of(k: layout::Cell) -> usize
     requires { (k.a < 4294967296) × (k.b < 4294967296) }
-    ensures { result ≡ trees (as-cell k) }
+    ensures { result ≡ trees (as_cell k) }
 {
     if k.tag < tags::BINARY {
         return 0;
@@ -37,7 +37,7 @@ fn trees_of(k: layout::Cell) -> usize
 // 40 Label, 41 Item, 42 Key, 43 Target, 44 Agg, 45 Row.
 fn trees_of_part(tag: u32, a: usize) -> usize
     requires { (40 ≤ tag) × (tag < 46) }
-    ensures { result ≡ get_or (part-trees a) (tag - 40) 0 }
+    ensures { result ≡ get_or (part_trees a) (tag - 40) 0 }
 {
     match tag {
         tags::LABEL => 0,
@@ -52,7 +52,7 @@ fn trees_of_part(tag: u32, a: usize) -> usize
 // 50 Aggregate, 51 Filter, 52 HashJoin, 53 IndexLookup, 54 KeyLookup, 55 Limit, 56 NestedLoopJoin.
 fn trees_to_56(k: layout::Cell) -> usize
     requires { ((50 ≤ k.tag) × (k.tag < 57)) × ((k.a < 4294967296) × (k.b < 4294967296)) }
-    ensures { result ≡ get_or (node-trees (as-cell k)) (k.tag - 50) 0 }
+    ensures { result ≡ get_or (node_trees (as_cell k)) (k.tag - 50) 0 }
 {
     let tag = k.tag;
     match tag {
@@ -69,7 +69,7 @@ fn trees_to_56(k: layout::Cell) -> usize
 // 57 Nothing, 58 Offset, 59 Order, 60 Projection, 61 Remap, 62 Scan, 63 Values.
 fn trees_from_57(k: layout::Cell) -> usize
     requires { ((57 ≤ k.tag) × (k.tag < 64)) × (k.a < 4294967296) }
-    ensures { result ≡ get_or (node-trees (as-cell k)) (k.tag - 50) 0 }
+    ensures { result ≡ get_or (node_trees (as_cell k)) (k.tag - 50) 0 }
 {
     let tag = k.tag;
     match tag {
@@ -87,7 +87,7 @@ fn trees_from_57(k: layout::Cell) -> usize
 // steps that they need.
 fn start_of(x: &[u32], at: usize, k: layout::Cell) -> usize
     requires { Last x.now at k }
-    ensures { result ≡ trees-start x.now (trees (as-cell k)) at }
+    ensures { result ≡ trees_start x.now (trees (as_cell k)) at }
 {
     if k.tag < tags::BINARY {
         return at;

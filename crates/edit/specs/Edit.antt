@@ -6,13 +6,13 @@ use Rattle.std.proofs.Math.Seq.{paste}
 use Rattle.sql.specs.Plan.{Over, Join, Node, over, join}
 use Rattle.sql.specs.Answer.{Answer, done, refused}
 use Rattle.cells.specs.declared.Cell.{Cell}
-use Rattle.cells.specs.Cells.{cell-words, words, sized}
+use Rattle.cells.specs.Cells.{cell_words, words, sized}
 use Rattle.cells.specs.Room.{Short, Wrote}
-use Rattle.words.specs.Words.{node-words}
+use Rattle.words.specs.Words.{node_words}
 
 -- The node p stands there, between the words `pre` and `post`.
 pub record Holds (x : List ℕ) (t lo tail : ℕ) (pre post : List ℕ) (p : Node) : Type 0 where
-  pub whole : take t x ≡ pre ++ (node-words p ++ post)
+  pub whole : take t x ≡ pre ++ (node_words p ++ post)
   pub low : length pre ≡ lo
   pub high : length post ≡ tail
   pub inside : t ≤ length x
@@ -26,9 +26,9 @@ pub record Standing (x : List ℕ) (t lo tail : ℕ) : Type 0 where
 
 -- x has room for `room` cells, and `rest` cells of the plan lie outside the node.
 pub record Shares (x : List ℕ) (lo tail room rest : ℕ) : Type 0 where
-  pub all : length x ≡ cell-words * room
+  pub all : length x ≡ cell_words * room
   pub short : Short x
-  pub outside : lo + tail ≡ cell-words * rest
+  pub outside : lo + tail ≡ cell_words * rest
 
 -- What a function that edits asks for. `Kept p q` says that q is fit to take the place of p, such as that its numbers fit their fields and that it has
 -- as many columns; `Kept p p` says that p is fit to be worked on. Each pass says what it needs there.
@@ -44,7 +44,7 @@ pub record Held (Kept : Node → Node → Type 0) (x : List ℕ) (t lo tail : �
 
 -- The node of a done answer stands between the same words, in the first n words, and is fit; or the answer is refusal 14, and n is past the end.
 abbrev pub Leaves : (Node → Type 0) → List ℕ → ℕ → List ℕ → List ℕ → Answer Node → Type 0
-Leaves Fit x' n pre post (done q) = (n ≤ length x') × ((take n x' ≡ pre ++ (node-words q ++ post)) × Fit q)
+Leaves Fit x' n pre post (done q) = (n ≤ length x') × ((take n x' ≡ pre ++ (node_words q ++ post)) × Fit q)
 Leaves Fit x' n pre post (refused number place) = (length x' < n) × ((number ≡ 14) × (place ≡ 0))
 
 pub record Left (Fit : Node → Type 0) (x' : List ℕ) (n : ℕ) (pre post : List ℕ) (answer : Answer Node) : Type 0 where
@@ -62,10 +62,10 @@ pub record Inherited (Kept : Node → Node → Type 0) : Type 0 where
   pub end : (p q : Node) → Kept p q → Kept q q
   pub through : (p q r : Node) → Kept p q → Kept q r → Kept p r
   pub source : (og : ℕ) (o : Over) (n : Node) → Kept (over og o n) (over og o n) → Kept n n
-  pub with-source : (og : ℕ) (o : Over) (n m : Node) → Kept (over og o n) (over og o n) → Kept n m → Kept (over og o n) (over og o m)
+  pub with_source : (og : ℕ) (o : Over) (n m : Node) → Kept (over og o n) (over og o n) → Kept n m → Kept (over og o n) (over og o m)
   pub left : (og : ℕ) (outer : Bool) (j : Join) (l r : Node) → Kept (join og outer j l r) (join og outer j l r) → Kept l l
   pub right : (og : ℕ) (outer : Bool) (j : Join) (l r : Node) → Kept (join og outer j l r) (join og outer j l r) → Kept r r
-  pub with-sources : (og : ℕ) (outer : Bool) (j : Join) (l r m n : Node) → Kept (join og outer j l r) (join og outer j l r) → Kept l m → Kept r n
+  pub with_sources : (og : ℕ) (outer : Bool) (j : Join) (l r m n : Node) → Kept (join og outer j l r) (join og outer j l r) → Kept l m → Kept r n
       → Kept (join og outer j l r) (join og outer j m n)
 
 -- ---- contracts of the functions that all edits are made of

@@ -1,7 +1,7 @@
 // Edits of a plan in place: the whole plan stands in the first t words of x, the node that is worked on from lo up to t - tail.
 ghost use Rattle.std.specs.Prelude.{◌≡◌, ◌+◌, ◌-◌, ◌≤◌, length};
 ghost use Rattle.edit.specs.Edit.{moved, Replaces, Reseals, ReplacesOwn};
-ghost use Rattle.cells.specs.Cells.{cell-words};
+ghost use Rattle.cells.specs.Cells.{cell_words};
 
 // The words of x from `end` up to t move up, to stand from word `to` on: the last one first, so that none is overwritten before it is moved.
 fn move_up(x: &mut [u32], end: usize, t: usize, to: usize)
@@ -66,7 +66,7 @@ fn replace(x: &mut [u32], y: &mut [u32], n: usize, t: usize, from: usize, tail: 
 
 // The node's cell says how long the node is, after its sources were edited.
 pub fn reseal(x: &mut [u32], t: usize, lo: usize, tail: usize) -> usize
-    requires { (lo + cell-words + tail ≤ t) × (t ≤ length x.old) }
+    requires { (lo + cell_words + tail ≤ t) × (t ≤ length x.old) }
     ensures { Reseals x.old t lo tail result x.new }
 {
     let hi = t - tail;
@@ -89,7 +89,7 @@ pub fn replace_own(
     tail: usize,
 ) -> usize
     requires tail_bound { (own + tail ≤ t) × (t ≤ length x.old) }
-    requires lo_le_own { (lo ≤ own) × (n ≤ length y.old → cell-words ≤ n) }
+    requires lo_le_own { (lo ≤ own) × (n ≤ length y.old → cell_words ≤ n) }
     requires y_len { length y.old ≡ length x.old }
     ensures { ReplacesOwn x.old y.old n t lo own tail result x.new }
 {

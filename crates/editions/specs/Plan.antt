@@ -11,229 +11,229 @@ use Rattle.sql.specs.Answer.{Answer, done, refused, ◌>>=◌}
 use Rattle.sql.specs.Schema.{Schema}
 use Rattle.sql.specs.Plan.{Node, columns, up_to}
 use Rattle.sheet.specs.Bytes.{byte, half}
-use Rattle.sheet.specs.Parts.{tables-at, columns-at, cells_at, edition, said-length, length-ok, edition-ok, parts-ok, table-count, cell-count, record-at, first-failing, bad-record}
-use Rattle.sheet.specs.Cell.{Cell, cell, Tag, unknown, not_carried, carried, tags, tag_of, field-ok, fields-ok, float_ok, origins, cell-ok, bad-cell, bad-number}
+use Rattle.sheet.specs.Parts.{tables_at, columns_at, cells_at, edition, said_length, length_ok, edition_ok, parts_ok, table_count, cell_count, record_at, first_failing, bad_record}
+use Rattle.sheet.specs.Cell.{Cell, cell, Tag, unknown, not_carried, carried, tags, tag_of, field_ok, fields_ok, float_ok, origins, cell_ok, bad_cell, bad_number}
 use Rattle.sheet.specs.Content.{marked}
 use Rattle.sheet.specs.Tree.{read}
-use Rattle.sheet.specs.Check.{text, schema, cells_of, test, unfound, cells-checked, one-plan, in_scope, plan, checked, check}
+use Rattle.sheet.specs.Check.{text, schema, cells_of, test, unfound, cells_checked, one_plan, in_scope, plan, checked, check}
 use Rattle.sheet_laws.specs.Content.{and_left}
 use Rattle.sheet_laws.specs.Layout.{Parts, parts}
 use Rattle.sheet_laws.specs.Plan.{Bytes}
 use Rattle.sheet_laws.specs.Accepted.{accepted}
-use Rattle.origins.specs.Origins.{map-answer}
+use Rattle.origins.specs.Origins.{map_answer}
 use Rattle.origins.specs.Lists.{then_map}
-use Rattle.origins.specs.Unseen.{columns-unseen}
+use Rattle.origins.specs.Unseen.{columns_unseen}
 use Rattle.editions.specs.Editions.{down}
 use Rattle.editions.specs.Law.{zeroed}
-use Rattle.editions.specs.Kept.{same_length, same-tables-at, same-columns-at, same-cells-at, same-said, edition-set, front-stays, cell_set}
-use Rattle.editions.specs.Front.{walks-alike, map-alike, same-front, same_text, same-table-count, same-bad-record, same-schema}
-use Rattle.editions.specs.Unseen.{in-scope-unseen}
-use Rattle.editions.specs.Reading.{one-plan-alike}
+use Rattle.editions.specs.Kept.{same_length, same_tables_at, same_columns_at, same_cells_at, same_said, edition_set, front_stays, cell_set}
+use Rattle.editions.specs.Front.{walks_alike, map_alike, same_front, same_text, same_table_count, same_bad_record, same_schema}
+use Rattle.editions.specs.Unseen.{in_scope_unseen}
+use Rattle.editions.specs.Reading.{one_plan_alike}
 
 -- ---- tests in turn
 
-test-alike : {A : Type 0} (u : A → A) (t : Bool) (number : ℕ) (x y : Answer A) → (t ≡ true → x ≡ map-answer u y) → test t number x ≡ map-answer u (test t number y)
-test-alike u true number x y k = k refl
-test-alike u false number x y k = refl
+test_alike : {A : Type 0} (u : A → A) (t : Bool) (number : ℕ) (x y : Answer A) → (t ≡ true → x ≡ map_answer u y) → test t number x ≡ map_answer u (test t number y)
+test_alike u true number x y k = k refl
+test_alike u false number x y k = refl
 
-unfound-alike : {A : Type 0} (u : A → A) (o : Option ℕ) (number : ℕ) (x y : Answer A) → (o ≡ none → x ≡ map-answer u y) → unfound o number x ≡ map-answer u (unfound o number y)
-unfound-alike u none number x y k = k refl
-unfound-alike u (some place) number x y k = refl
+unfound_alike : {A : Type 0} (u : A → A) (o : Option ℕ) (number : ℕ) (x y : Answer A) → (o ≡ none → x ≡ map_answer u y) → unfound o number x ≡ map_answer u (unfound o number y)
+unfound_alike u none number x y k = k refl
+unfound_alike u (some place) number x y k = refl
 
-map-after : {A B : Type 0} (u : A → B) (f : ℕ → A) (xs : List ℕ) → map (λ i. u (f i)) xs ≡ map u (map f xs)
-map-after u f [] = refl
-map-after u f (x ∷ xs) = ap (λ ys. u (f x) ∷ ys) (map-after u f xs)
+map_after : {A B : Type 0} (u : A → B) (f : ℕ → A) (xs : List ℕ) → map (λ i. u (f i)) xs ≡ map u (map f xs)
+map_after u f [] = refl
+map_after u f (x ∷ xs) = ap (λ ys. u (f x) ∷ ys) (map_after u f xs)
 
 -- what a walk finds is one of the places walked over
-found_inside : (ok : ℕ → Bool) (i k p : ℕ) → first-failing ok i k ≡ some p → p < i + k
-unfolding first-failing
+found_inside : (ok : ℕ → Bool) (i k p : ℕ) → first_failing ok i k ≡ some p → p < i + k
+unfolding first_failing
 found_inside ok i zero p h = absurd (let z : ◌≡◌ {A = ℕ} 0 1 = cc in omega arith)
 found_inside ok i (suc k) p h = go (ok i) h (λ q. found_inside ok (suc i) k p q)
   where
-    go : (t : Bool) → ◌≡◌ {A = Option ℕ} (elim t [ true ↦ first-failing ok (suc i) k | false ↦ some i ]) (some p) → (first-failing ok (suc i) k ≡ some p → p < suc i + k) → p < i + suc k
+    go : (t : Bool) → ◌≡◌ {A = Option ℕ} (elim t [ true ↦ first_failing ok (suc i) k | false ↦ some i ]) (some p) → (first_failing ok (suc i) k ≡ some p → p < suc i + k) → p < i + suc k
     go true e later = omega (arith, later e)
     go false e later = let z : i ≡ p = cc in omega arith
 
 -- ---- a cell
 
-fields-alike : (bytes tables : ℕ) (c : Cell) → c.origin < 65536 → (t : Tag) → fields-ok 1 bytes tables (marked 0 c) t ≡ fields-ok 65536 bytes tables c t
-fields-alike bytes tables c h unknown = refl
-fields-alike bytes tables c h not_carried = refl
-fields-alike bytes tables c h (carried flags x y z) =
+fields_alike : (bytes tables : ℕ) (c : Cell) → c.origin < 65536 → (t : Tag) → fields_ok 1 bytes tables (marked 0 c) t ≡ fields_ok 65536 bytes tables c t
+fields_alike bytes tables c h unknown = refl
+fields_alike bytes tables c h not_carried = refl
+fields_alike bytes tables c h (carried flags x y z) =
     sym (ap (λ (t : Bool). ltb c.flag flags
-    && (t && (field-ok bytes tables c.flag x c.a && (field-ok bytes tables c.flag y c.b && field-ok bytes tables c.flag z c.c)))) (lt-ltb c.origin 65536 h))
+    && (t && (field_ok bytes tables c.flag x c.a && (field_ok bytes tables c.flag y c.b && field_ok bytes tables c.flag z c.c)))) (lt-ltb c.origin 65536 h))
 
 -- With origin 0 a cell passes its test in edition 1 if and only if it passes it in edition 2 with its own, whatever that is.
-cell-alike : (bytes tables : ℕ) (c : Cell) → c.origin < 65536 → cell-ok 1 bytes tables (marked 0 c) ≡ cell-ok 65536 bytes tables c
-unfolding cell-ok tag_of
-cell-alike bytes tables c h = ap (λ (t : Bool). t && float_ok c) (fields-alike bytes tables c h (get_or tags c.tag unknown))
+cell_alike : (bytes tables : ℕ) (c : Cell) → c.origin < 65536 → cell_ok 1 bytes tables (marked 0 c) ≡ cell_ok 65536 bytes tables c
+unfolding cell_ok tag_of
+cell_alike bytes tables c h = ap (λ (t : Bool). t && float_ok c) (fields_alike bytes tables c h (get_or tags c.tag unknown))
 
 -- what is left to check behind the edition, behind the parts and behind the records
-abbrev from-cells : List ℕ → Answer Node
-from-cells s = one-plan (cell-count s) (read (text s) 0 (cells_of s) []) >>= in_scope (schema s)
+abbrev from_cells : List ℕ → Answer Node
+from_cells s = one_plan (cell_count s) (read (text s) 0 (cells_of s) []) >>= in_scope (schema s)
 
-abbrev from-records : List ℕ → Answer Node
-from-records s = unfound (bad-record s) 5 (cells-checked s (bad-cell s) (from-cells s))
+abbrev from_records : List ℕ → Answer Node
+from_records s = unfound (bad_record s) 5 (cells_checked s (bad_cell s) (from_cells s))
 
 abbrev from_parts : List ℕ → Answer Node
-from_parts s = test (parts-ok s) 4 (from-records s)
+from_parts s = test (parts_ok s) 4 (from_records s)
 
 module _ (s : List ℕ) (b : Bytes s) (two : edition s ≡ 2) where
   abbrev d : List ℕ
   d = down s
 
-  pub down-length : length d ≡ length s
-  down-length = same_length 1 (λ i. 0) s
+  pub down_length : length d ≡ length s
+  down_length = same_length 1 (λ i. 0) s
 
-  length-alike : length-ok d ≡ length-ok s
-  unfolding length-ok
-  length-alike = go (leb 20 (length s)) refl
+  length_alike : length_ok d ≡ length_ok s
+  unfolding length_ok
+  length_alike = go (leb 20 (length s)) refl
     where
       go : (t : Bool) → leb 20 (length s) ≡ t
-          → (leb 20 (length d) && (leb (length d) 45332 && eqb (said-length d) (length d))) ≡ (leb 20 (length s) && (leb (length s) 45332 && eqb (said-length s) (length s)))
-      go true e = cc (down-length, same-said 1 (λ i. 0) s (leb-true 20 (length s) e))
-      go false e = let x : leb 20 (length d) ≡ false = ap (leb 20) down-length ∙ e in rw (x, e) refl
+          → (leb 20 (length d) && (leb (length d) 45332 && eqb (said_length d) (length d))) ≡ (leb 20 (length s) && (leb (length s) 45332 && eqb (said_length s) (length s)))
+      go true e = cc (down_length, same_said 1 (λ i. 0) s (leb-true 20 (length s) e))
+      go false e = let x : leb 20 (length d) ≡ false = ap (leb 20) down_length ∙ e in rw (x, e) refl
 
-  edition-known : edition-ok s ≡ true
-  unfolding edition-ok
-  edition-known = ap (λ (e : ℕ). eqb e 1 || eqb e 2) two
+  edition_known : edition_ok s ≡ true
+  unfolding edition_ok
+  edition_known = ap (λ (e : ℕ). eqb e 1 || eqb e 2) two
 
-  module _ (l : length-ok s ≡ true) where
+  module _ (l : length_ok s ≡ true) where
     long : 20 ≤ length s
-    unfolding length-ok
+    unfolding length_ok
     long = leb-true 20 (length s) (and_left (leb 20 (length s)) _ l)
 
     -- Taken down, a sheet is of edition 1.
-    pub down-edition : edition d ≡ 1
-    down-edition = edition-set 1 (λ i. 0) s long (omega arith)
+    pub down_edition : edition d ≡ 1
+    down_edition = edition_set 1 (λ i. 0) s long (omega arith)
 
-    down-known : edition-ok d ≡ true
-    unfolding edition-ok
-    down-known = ap (λ (e : ℕ). eqb e 1 || eqb e 2) down-edition
+    down_known : edition_ok d ≡ true
+    unfolding edition_ok
+    down_known = ap (λ (e : ℕ). eqb e 1 || eqb e 2) down_edition
 
-    pub down-tables-at : tables-at d ≡ tables-at s
-    down-tables-at = same-tables-at 1 (λ i. 0) s long
+    pub down_tables_at : tables_at d ≡ tables_at s
+    down_tables_at = same_tables_at 1 (λ i. 0) s long
 
-    pub down-columns-at : columns-at d ≡ columns-at s
-    down-columns-at = same-columns-at 1 (λ i. 0) s long
+    pub down_columns_at : columns_at d ≡ columns_at s
+    down_columns_at = same_columns_at 1 (λ i. 0) s long
 
-    pub down-cells-at : cells_at d ≡ cells_at s
-    down-cells-at = same-cells-at 1 (λ i. 0) s long
+    pub down_cells_at : cells_at d ≡ cells_at s
+    down_cells_at = same_cells_at 1 (λ i. 0) s long
 
-    parts-alike : parts-ok d ≡ parts-ok s
-    unfolding parts-ok
-    parts-alike = cc (down-tables-at, down-columns-at, down-cells-at, down-length)
+    parts_alike : parts_ok d ≡ parts_ok s
+    unfolding parts_ok
+    parts_alike = cc (down_tables_at, down_columns_at, down_cells_at, down_length)
 
-    pub down-count : cell-count d ≡ cell-count s
-    down-count = cc (down-length, down-cells-at)
+    pub down_count : cell_count d ≡ cell_count s
+    down_count = cc (down_length, down_cells_at)
 
-    module _ (k : parts-ok s ≡ true) where
+    module _ (k : parts_ok s ≡ true) where
       p : Parts s
-      p = parts s l edition-known k
+      p = parts s l edition_known k
 
       front : (i : ℕ) → i < cells_at s → byte d i ≡ byte s i
-      front i h = front-stays 1 (λ i. 0) s long i h (omega (arith, p.cells))
+      front i h = front_stays 1 (λ i. 0) s long i h (omega (arith, p.cells))
 
-      pub down-front : take (cells_at d) d ≡ take (cells_at s) s
-      down-front = same-front s d p down-length down-tables-at down-columns-at down-cells-at front
+      pub down_front : take (cells_at d) d ≡ take (cells_at s) s
+      down_front = same_front s d p down_length down_tables_at down_columns_at down_cells_at front
 
-      down-text : text d ≡ text s
-      down-text = same_text s d p down-length down-tables-at down-columns-at down-cells-at front
+      down_text : text d ≡ text s
+      down_text = same_text s d p down_length down_tables_at down_columns_at down_cells_at front
 
-      down-table-count : table-count d ≡ table-count s
-      down-table-count = same-table-count s d p down-length down-tables-at down-columns-at down-cells-at front
+      down_table_count : table_count d ≡ table_count s
+      down_table_count = same_table_count s d p down_length down_tables_at down_columns_at down_cells_at front
 
-      down-records : bad-record d ≡ bad-record s
-      down-records = same-bad-record s d p down-length down-tables-at down-columns-at down-cells-at front
+      down_records : bad_record d ≡ bad_record s
+      down_records = same_bad_record s d p down_length down_tables_at down_columns_at down_cells_at front
 
-      pub down-schema : bad-record s ≡ none → schema d ≡ schema s
-      down-schema = same-schema s d p down-length down-tables-at down-columns-at down-cells-at front
+      pub down_schema : bad_record s ≡ none → schema d ≡ schema s
+      down_schema = same_schema s d p down_length down_tables_at down_columns_at down_cells_at front
 
       -- ---- cells
 
-      down-cell : (i : ℕ) → i < cell-count s → cell d i ≡ marked 0 (cell s i)
-      down-cell i h = cell_set 1 (λ i. 0) s long i h
+      down_cell : (i : ℕ) → i < cell_count s → cell d i ≡ marked 0 (cell s i)
+      down_cell i h = cell_set 1 (λ i. 0) s long i h
 
       -- Taken down, a sheet has the same cells with origin 0.
-      pub down-cells : cells_of d ≡ map (marked 0) (cells_of s)
+      pub down_cells : cells_of d ≡ map (marked 0) (cells_of s)
       unfolding cells_of
-      down-cells =
-          ap (λ (n : ℕ). map (cell d) (up_to 0 n)) down-count
-          ∙ (map-alike (cell d) (λ i. marked 0 (cell s i)) 0 (cell-count s) (λ j x y. down-cell j (omega arith)) ∙ map-after (marked 0) (cell s) (up_to 0 (cell-count s)))
+      down_cells =
+          ap (λ (n : ℕ). map (cell d) (up_to 0 n)) down_count
+          ∙ (map_alike (cell d) (λ i. marked 0 (cell s i)) 0 (cell_count s) (λ j x y. down_cell j (omega arith)) ∙ map_after (marked 0) (cell s) (up_to 0 (cell_count s)))
 
-      origin-small : (i : ℕ) → (cell s i).origin < 65536
+      origin_small : (i : ℕ) → (cell s i).origin < 65536
       unfolding cell half
-      origin-small i = let at = record-at (cells_at s) i + 2 in omega (arith, b at, b (at + 1))
+      origin_small i = let at = record_at (cells_at s) i + 2 in omega (arith, b at, b (at + 1))
 
-      cell-ok-alike : (i : ℕ) → i < cell-count s → cell-ok (origins d) (tables-at d) (table-count d) (cell d i) ≡ cell-ok (origins s) (tables-at s) (table-count s) (cell s i)
-      cell-ok-alike i h =
-          let one : origins d ≡ 1 = ap (λ (e : ℕ). cond (eqb e 1) 1 65536) down-edition in
+      cell_ok_alike : (i : ℕ) → i < cell_count s → cell_ok (origins d) (tables_at d) (table_count d) (cell d i) ≡ cell_ok (origins s) (tables_at s) (table_count s) (cell s i)
+      cell_ok_alike i h =
+          let one : origins d ≡ 1 = ap (λ (e : ℕ). cond (eqb e 1) 1 65536) down_edition in
           let all : origins s ≡ 65536 = ap (λ (e : ℕ). cond (eqb e 1) 1 65536) two in
-          let to : cell-ok (origins d) (tables-at d) (table-count d) (cell d i) ≡ cell-ok 1 (tables-at s) (table-count s) (marked 0 (cell s i)) =
-          cc (one, down-tables-at, down-table-count, down-cell i h) in
-          to ∙ (cell-alike (tables-at s) (table-count s) (cell s i) (origin-small i) ∙ sym (ap (λ (o : ℕ). cell-ok o (tables-at s) (table-count s) (cell s i)) all))
+          let to : cell_ok (origins d) (tables_at d) (table_count d) (cell d i) ≡ cell_ok 1 (tables_at s) (table_count s) (marked 0 (cell s i)) =
+          cc (one, down_tables_at, down_table_count, down_cell i h) in
+          to ∙ (cell_alike (tables_at s) (table_count s) (cell s i) (origin_small i) ∙ sym (ap (λ (o : ℕ). cell_ok o (tables_at s) (table_count s) (cell s i)) all))
 
-      down-bad-cell : bad-cell d ≡ bad-cell s
-      unfolding bad-cell
-      down-bad-cell =
-          ap (first-failing (λ i. cell-ok (origins d) (tables-at d) (table-count d) (cell d i)) 0) down-count
-          ∙ walks-alike (λ i. cell-ok (origins d) (tables-at d) (table-count d) (cell d i)) (λ i. cell-ok (origins s) (tables-at s) (table-count s) (cell s i)) 0 (cell-count s)
-          (λ j x y. cell-ok-alike j (omega arith))
+      down_bad_cell : bad_cell d ≡ bad_cell s
+      unfolding bad_cell
+      down_bad_cell =
+          ap (first_failing (λ i. cell_ok (origins d) (tables_at d) (table_count d) (cell d i)) 0) down_count
+          ∙ walks_alike (λ i. cell_ok (origins d) (tables_at d) (table_count d) (cell d i)) (λ i. cell_ok (origins s) (tables_at s) (table_count s) (cell s i)) 0 (cell_count s)
+          (λ j x y. cell_ok_alike j (omega arith))
 
-      bad-inside : (q : ℕ) → bad-cell s ≡ some q → q < cell-count s
-      unfolding bad-cell
-      bad-inside q h = omega (arith, found_inside (λ i. cell-ok (origins s) (tables-at s) (table-count s) (cell s i)) 0 (cell-count s) q h)
+      bad_inside : (q : ℕ) → bad_cell s ≡ some q → q < cell_count s
+      unfolding bad_cell
+      bad_inside q h = omega (arith, found_inside (λ i. cell_ok (origins s) (tables_at s) (table_count s) (cell s i)) 0 (cell_count s) q h)
 
       -- refusal 6 or 7 at the same place
-      cells-checked-alike : (x y : Answer Node) → (o : Option ℕ) → bad-cell s ≡ o → x ≡ map-answer zeroed y → cells-checked d o x ≡ map-answer zeroed (cells-checked s o y)
-      cells-checked-alike x y none e k = k
-      cells-checked-alike x y (some q) e k = ap (λ (c : Cell). refused (bad-number (tag_of c.tag)) q) (down-cell q (bad-inside q e))
+      cells_checked_alike : (x y : Answer Node) → (o : Option ℕ) → bad_cell s ≡ o → x ≡ map_answer zeroed y → cells_checked d o x ≡ map_answer zeroed (cells_checked s o y)
+      cells_checked_alike x y none e k = k
+      cells_checked_alike x y (some q) e k = ap (λ (c : Cell). refused (bad_number (tag_of c.tag)) q) (down_cell q (bad_inside q e))
 
-      cells-step : bad-record s ≡ none → from-cells d ≡ map-answer zeroed (from-cells s)
-      cells-step r =
-          let same : one-plan (cell-count d) (read (text d) 0 (cells_of d) []) ≡ one-plan (cell-count s) (read (text s) 0 (map (marked 0) (cells_of s)) []) = cc (down-count, down-text, down-cells) in
-          then_map zeroed zeroed (in_scope (schema s)) (in_scope (schema d)) (one-plan (cell-count s) (read (text s) 0 (cells_of s) [])) (one-plan (cell-count d) (read (text d) 0 (cells_of d) []))
-          (same ∙ one-plan-alike (λ og. 0) (cell-count s) (text s) (cells_of s))
-          (λ n. ap (λ (t : Schema). in_scope t (zeroed n)) (down-schema r) ∙ in-scope-unseen (λ og. 0) (schema s) n)
+      cells_step : bad_record s ≡ none → from_cells d ≡ map_answer zeroed (from_cells s)
+      cells_step r =
+          let same : one_plan (cell_count d) (read (text d) 0 (cells_of d) []) ≡ one_plan (cell_count s) (read (text s) 0 (map (marked 0) (cells_of s)) []) = cc (down_count, down_text, down_cells) in
+          then_map zeroed zeroed (in_scope (schema s)) (in_scope (schema d)) (one_plan (cell_count s) (read (text s) 0 (cells_of s) [])) (one_plan (cell_count d) (read (text d) 0 (cells_of d) []))
+          (same ∙ one_plan_alike (λ og. 0) (cell_count s) (text s) (cells_of s))
+          (λ n. ap (λ (t : Schema). in_scope t (zeroed n)) (down_schema r) ∙ in_scope_unseen (λ og. 0) (schema s) n)
 
-      records-step : from-records d ≡ map-answer zeroed (from-records s)
-      records-step =
-          ap₂ (λ (x y : Option ℕ). unfound x 5 (cells-checked d y (from-cells d))) down-records down-bad-cell
-          ∙ unfound-alike zeroed (bad-record s) 5 (cells-checked d (bad-cell s) (from-cells d)) (cells-checked s (bad-cell s) (from-cells s))
-          (λ r. cells-checked-alike (from-cells d) (from-cells s) (bad-cell s) refl (cells-step r))
+      records_step : from_records d ≡ map_answer zeroed (from_records s)
+      records_step =
+          ap₂ (λ (x y : Option ℕ). unfound x 5 (cells_checked d y (from_cells d))) down_records down_bad_cell
+          ∙ unfound_alike zeroed (bad_record s) 5 (cells_checked d (bad_cell s) (from_cells d)) (cells_checked s (bad_cell s) (from_cells s))
+          (λ r. cells_checked_alike (from_cells d) (from_cells s) (bad_cell s) refl (cells_step r))
 
-    parts-step : from_parts d ≡ map-answer zeroed (from_parts s)
-    parts-step =
-        ap (λ (t : Bool). test t 4 (from-records d)) parts-alike ∙ test-alike zeroed (parts-ok s) 4 (from-records d) (from-records s) (λ k. records-step k)
+    parts_step : from_parts d ≡ map_answer zeroed (from_parts s)
+    parts_step =
+        ap (λ (t : Bool). test t 4 (from_records d)) parts_alike ∙ test_alike zeroed (parts_ok s) 4 (from_records d) (from_records s) (λ k. records_step k)
 
-    edition-step : test (edition-ok d) 3 (from_parts d) ≡ map-answer zeroed (test (edition-ok s) 3 (from_parts s))
-    edition-step =
-        ap (λ (t : Bool). test t 3 (from_parts d)) (down-known ∙ sym edition-known)
-        ∙ test-alike zeroed (edition-ok s) 3 (from_parts d) (from_parts s) (λ k. parts-step)
+    edition_step : test (edition_ok d) 3 (from_parts d) ≡ map_answer zeroed (test (edition_ok s) 3 (from_parts s))
+    edition_step =
+        ap (λ (t : Bool). test t 3 (from_parts d)) (down_known ∙ sym edition_known)
+        ∙ test_alike zeroed (edition_ok s) 3 (from_parts d) (from_parts s) (λ k. parts_step)
 
   -- The plan that the sheet taken down stands for, or its refusal.
-  pub plan-down : plan d ≡ map-answer zeroed (plan s)
+  pub plan_down : plan d ≡ map_answer zeroed (plan s)
   unfolding plan
-  plan-down =
-      ap (λ (t : Bool). test t 2 (test (edition-ok d) 3 (from_parts d))) length-alike
-      ∙ test-alike zeroed (length-ok s) 2 (test (edition-ok d) 3 (from_parts d)) (test (edition-ok s) 3 (from_parts s)) (λ l. edition-step l)
+  plan_down =
+      ap (λ (t : Bool). test t 2 (test (edition_ok d) 3 (from_parts d))) length_alike
+      ∙ test_alike zeroed (length_ok s) 2 (test (edition_ok d) 3 (from_parts d)) (test (edition_ok s) 3 (from_parts s)) (λ l. edition_step l)
 
   -- what the proof of a success needs
   module _ (n : Node) (h : plan s ≡ done n) where
-    pub accepted-schema : schema d ≡ schema s
-    accepted-schema = let a = accepted s n h in down-schema a.length-is a.parts_are a.records-are
+    pub accepted_schema : schema d ≡ schema s
+    accepted_schema = let a = accepted s n h in down_schema a.length_is a.parts_are a.records_are
 
-    checked-alike : checked d (done (zeroed n)) ≡ checked s (done n)
-    checked-alike =
+    checked_alike : checked d (done (zeroed n)) ≡ checked s (done n)
+    checked_alike =
         let a = accepted s n h in
-        let c : cell-count d ≡ cell-count s = down-count a.length-is in
-        let k : columns (schema d) (zeroed n) ≡ columns (schema s) n = ap (λ (t : Schema). columns t (zeroed n)) accepted-schema ∙ columns-unseen (λ og. 0) (schema s) n in
+        let c : cell_count d ≡ cell_count s = down_count a.length_is in
+        let k : columns (schema d) (zeroed n) ≡ columns (schema s) n = ap (λ (t : Schema). columns t (zeroed n)) accepted_schema ∙ columns_unseen (λ og. 0) (schema s) n in
         cc (c, k)
 
-  pub check-down : check d ≡ check s
+  pub check_down : check d ≡ check s
   unfolding check
-  check-down = ap (checked d) plan-down ∙ go (plan s) refl
+  check_down = ap (checked d) plan_down ∙ go (plan s) refl
     where
-      go : (r : Answer Node) → plan s ≡ r → checked d (map-answer zeroed r) ≡ checked s r
-      go (done n) h = checked-alike n h
+      go : (r : Answer Node) → plan s ≡ r → checked d (map_answer zeroed r) ≡ checked s r
+      go (done n) h = checked_alike n h
       go (refused number place) h = refl

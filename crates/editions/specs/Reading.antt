@@ -9,12 +9,12 @@ use Rattle.std.proofs.Math.Option.{Option, none, some}
 use Rattle.std.proofs.Math.ListN.{get_or-map}
 use Rattle.sql.specs.Expression.{Marked, Expression, constant, column, unary, binary}
 use Rattle.sql.specs.Plan.{Label, Node}
-use Rattle.sql.specs.Optimizer.{map-optional}
+use Rattle.sql.specs.Optimizer.{map_optional}
 use Rattle.sheet.specs.Cell.{Cell}
-use Rattle.sheet.specs.Content.{Content, Reader, readers, content-of, marked, constant_cell, column-cell, unary-cell, binary-cell, label-cell, item-cell, key-cell, target-cell, agg-cell, row-cell, aggregate-cell, filter-cell, hash-join-cell, index-lookup-cell, key-lookup-cell, limit-cell, offset-cell, nested-loop-join-cell, nothing-cell, order-cell, projection-cell, remap-cell, scan-cell, values-cell}
-use Rattle.sheet.specs.Tree.{Tree, expression-tree, label-tree, item-tree, key-tree, target-tree, agg-tree, row-tree, node-tree, bind, an-expression, value_of, a-constant, a-label, an_item, a_key, a-target, an-agg, a-row, a-node, Stack, pop, children, child, if-any, reduce, after, Read, lacking, stack, read}
-use Rattle.sheet.specs.Check.{sole-node, one-plan}
-use Rattle.origins.specs.Origins.{map-origins, map-mark, map_row, map-part, map-aggregate, map-node-origins, map-answer}
+use Rattle.sheet.specs.Content.{Content, Reader, readers, content_of, marked, constant_cell, column_cell, unary_cell, binary_cell, label_cell, item_cell, key_cell, target_cell, agg_cell, row_cell, aggregate_cell, filter_cell, hash_join_cell, index_lookup_cell, key_lookup_cell, limit_cell, offset_cell, nested_loop_join_cell, nothing_cell, order_cell, projection_cell, remap_cell, scan_cell, values_cell}
+use Rattle.sheet.specs.Tree.{Tree, expression_tree, label_tree, item_tree, key_tree, target_tree, agg_tree, row_tree, node_tree, bind, an_expression, value_of, a_constant, a_label, an_item, a_key, a_target, an_agg, a_row, a_node, Stack, pop, children, child, if_any, reduce, after, Read, lacking, stack, read}
+use Rattle.sheet.specs.Check.{sole_node, one_plan}
+use Rattle.origins.specs.Origins.{map_origins, map_mark, map_row, map_part, map_aggregate, map_node_origins, map_answer}
 use Rattle.sound.specs.Origins.{remarked}
 
 -- ---- what a cell says
@@ -23,89 +23,89 @@ use Rattle.sound.specs.Origins.{remarked}
 abbrev blindfold : Reader → Reader
 blindfold r text c = r text (marked 0 c)
 
-all-blind : map blindfold readers ≡ readers
-all-blind = refl
+all_blind : map blindfold readers ≡ readers
+all_blind = refl
 
-content-zero : (text : List ℕ) (c : Cell) → content-of text c ≡ get_or readers c.tag (λ t k. none) text (marked 0 c)
-unfolding content-of
-content-zero text c =
-    ap (λ (rs : List Reader). get_or rs c.tag (λ t k. none) text c) (sym all-blind) ∙ ap (λ (r : Reader). r text c) (get_or-map blindfold readers c.tag (λ t k. none))
+content_zero : (text : List ℕ) (c : Cell) → content_of text c ≡ get_or readers c.tag (λ t k. none) text (marked 0 c)
+unfolding content_of
+content_zero text c =
+    ap (λ (rs : List Reader). get_or rs c.tag (λ t k. none) text c) (sym all_blind) ∙ ap (λ (r : Reader). r text c) (get_or-map blindfold readers c.tag (λ t k. none))
 
-content-blind : (text : List ℕ) (c : Cell) (og : ℕ) → content-of text (marked og c) ≡ content-of text c
-content-blind text c og = content-zero text (marked og c) ∙ sym (content-zero text c)
+content_blind : (text : List ℕ) (c : Cell) (og : ℕ) → content_of text (marked og c) ≡ content_of text c
+content_blind text c og = content_zero text (marked og c) ∙ sym (content_zero text c)
 
-by-tree : (P : Tree → Type 0) → ((x : Expression) → P (expression-tree x)) → ((x : Marked Label) → P (label-tree x)) → ((x : Expression × Label × ℕ) → P (item-tree x))
-    → ((x : Expression × Bool × ℕ) → P (key-tree x)) → ((x : Marked (Option ℕ)) → P (target-tree x)) → ((x : ℕ × Expression × ℕ) → P (agg-tree x))
-    → ((x : Marked (List Expression)) → P (row-tree x)) → ((x : Node) → P (node-tree x)) → (t : Tree) → P t
-by-tree P e l i k t g r n (expression-tree x) = e x
-by-tree P e l i k t g r n (label-tree x) = l x
-by-tree P e l i k t g r n (item-tree x) = i x
-by-tree P e l i k t g r n (key-tree x) = k x
-by-tree P e l i k t g r n (target-tree x) = t x
-by-tree P e l i k t g r n (agg-tree x) = g x
-by-tree P e l i k t g r n (row-tree x) = r x
-by-tree P e l i k t g r n (node-tree x) = n x
+by_tree : (P : Tree → Type 0) → ((x : Expression) → P (expression_tree x)) → ((x : Marked Label) → P (label_tree x)) → ((x : Expression × Label × ℕ) → P (item_tree x))
+    → ((x : Expression × Bool × ℕ) → P (key_tree x)) → ((x : Marked (Option ℕ)) → P (target_tree x)) → ((x : ℕ × Expression × ℕ) → P (agg_tree x))
+    → ((x : Marked (List Expression)) → P (row_tree x)) → ((x : Node) → P (node_tree x)) → (t : Tree) → P t
+by_tree P e l i k t g r n (expression_tree x) = e x
+by_tree P e l i k t g r n (label_tree x) = l x
+by_tree P e l i k t g r n (item_tree x) = i x
+by_tree P e l i k t g r n (key_tree x) = k x
+by_tree P e l i k t g r n (target_tree x) = t x
+by_tree P e l i k t g r n (agg_tree x) = g x
+by_tree P e l i k t g r n (row_tree x) = r x
+by_tree P e l i k t g r n (node_tree x) = n x
 
 module _ (h : ℕ → ℕ) where
   abbrev E : Expression → Expression
-  E = map-origins h
+  E = map_origins h
 
   abbrev M : Node → Node
-  M = map-node-origins h
+  M = map_node_origins h
 
-  abbrev map-tree : Tree → Tree
-  map-tree (expression-tree e) = expression-tree (E e)
-  map-tree (label-tree l) = label-tree (map-mark h l)
-  map-tree (item-tree i) = item-tree (map-part h i)
-  map-tree (key-tree k) = key-tree (map-part h k)
-  map-tree (target-tree t) = target-tree (map-mark h t)
-  map-tree (agg-tree a) = agg-tree (map-aggregate h a)
-  map-tree (row-tree es) = row-tree (map_row h es)
-  map-tree (node-tree n) = node-tree (M n)
+  abbrev map_tree : Tree → Tree
+  map_tree (expression_tree e) = expression_tree (E e)
+  map_tree (label_tree l) = label_tree (map_mark h l)
+  map_tree (item_tree i) = item_tree (map_part h i)
+  map_tree (key_tree k) = key_tree (map_part h k)
+  map_tree (target_tree t) = target_tree (map_mark h t)
+  map_tree (agg_tree a) = agg_tree (map_aggregate h a)
+  map_tree (row_tree es) = row_tree (map_row h es)
+  map_tree (node_tree n) = node_tree (M n)
 
   abbrev S : Stack → Stack
-  S = map map-tree
+  S = map map_tree
 
   abbrev OS : Option Stack → Option Stack
-  OS = map-optional S
+  OS = map_optional S
 
   -- ---- a tree as a child of a sort
 
   abbrev Alike : {A : Type 0} → (A → A) → (Tree → Option A) → Type 0
-  Alike u sort = (t : Tree) → sort (map-tree t) ≡ map-optional u (sort t)
+  Alike u sort = (t : Tree) → sort (map_tree t) ≡ map_optional u (sort t)
 
-  expression-alike : Alike E an-expression
-  expression-alike = by-tree (λ t. an-expression (map-tree t) ≡ map-optional E (an-expression t)) (λ x. refl) (λ x. refl) (λ x. refl) (λ x. refl) (λ x. refl) (λ x. refl) (λ x. refl) (λ x. refl)
+  expression_alike : Alike E an_expression
+  expression_alike = by_tree (λ t. an_expression (map_tree t) ≡ map_optional E (an_expression t)) (λ x. refl) (λ x. refl) (λ x. refl) (λ x. refl) (λ x. refl) (λ x. refl) (λ x. refl) (λ x. refl)
 
-  value-alike : (e : Expression) → value_of (E e) ≡ map-optional (map-mark h) (value_of e)
-  value-alike (constant og v) = refl
-  value-alike (column og i) = refl
-  value-alike (unary og o x) = refl
-  value-alike (binary og o l r) = refl
+  value_alike : (e : Expression) → value_of (E e) ≡ map_optional (map_mark h) (value_of e)
+  value_alike (constant og v) = refl
+  value_alike (column og i) = refl
+  value_alike (unary og o x) = refl
+  value_alike (binary og o l r) = refl
 
-  constant-alike : Alike (map-mark h) a-constant
-  constant-alike = by-tree (λ t. a-constant (map-tree t) ≡ map-optional (map-mark h) (a-constant t)) value-alike (λ x. refl) (λ x. refl) (λ x. refl) (λ x. refl) (λ x. refl) (λ x. refl) (λ x. refl)
+  constant_alike : Alike (map_mark h) a_constant
+  constant_alike = by_tree (λ t. a_constant (map_tree t) ≡ map_optional (map_mark h) (a_constant t)) value_alike (λ x. refl) (λ x. refl) (λ x. refl) (λ x. refl) (λ x. refl) (λ x. refl) (λ x. refl)
 
-  label-alike : Alike (map-mark h) a-label
-  label-alike = by-tree (λ t. a-label (map-tree t) ≡ map-optional (map-mark h) (a-label t)) (λ x. refl) (λ x. refl) (λ x. refl) (λ x. refl) (λ x. refl) (λ x. refl) (λ x. refl) (λ x. refl)
+  label_alike : Alike (map_mark h) a_label
+  label_alike = by_tree (λ t. a_label (map_tree t) ≡ map_optional (map_mark h) (a_label t)) (λ x. refl) (λ x. refl) (λ x. refl) (λ x. refl) (λ x. refl) (λ x. refl) (λ x. refl) (λ x. refl)
 
-  item-alike : Alike (map-part h) an_item
-  item-alike = by-tree (λ t. an_item (map-tree t) ≡ map-optional (map-part h) (an_item t)) (λ x. refl) (λ x. refl) (λ x. refl) (λ x. refl) (λ x. refl) (λ x. refl) (λ x. refl) (λ x. refl)
+  item_alike : Alike (map_part h) an_item
+  item_alike = by_tree (λ t. an_item (map_tree t) ≡ map_optional (map_part h) (an_item t)) (λ x. refl) (λ x. refl) (λ x. refl) (λ x. refl) (λ x. refl) (λ x. refl) (λ x. refl) (λ x. refl)
 
-  key-alike : Alike (map-part h) a_key
-  key-alike = by-tree (λ t. a_key (map-tree t) ≡ map-optional (map-part h) (a_key t)) (λ x. refl) (λ x. refl) (λ x. refl) (λ x. refl) (λ x. refl) (λ x. refl) (λ x. refl) (λ x. refl)
+  key_alike : Alike (map_part h) a_key
+  key_alike = by_tree (λ t. a_key (map_tree t) ≡ map_optional (map_part h) (a_key t)) (λ x. refl) (λ x. refl) (λ x. refl) (λ x. refl) (λ x. refl) (λ x. refl) (λ x. refl) (λ x. refl)
 
-  target-alike : Alike (map-mark h) a-target
-  target-alike = by-tree (λ t. a-target (map-tree t) ≡ map-optional (map-mark h) (a-target t)) (λ x. refl) (λ x. refl) (λ x. refl) (λ x. refl) (λ x. refl) (λ x. refl) (λ x. refl) (λ x. refl)
+  target_alike : Alike (map_mark h) a_target
+  target_alike = by_tree (λ t. a_target (map_tree t) ≡ map_optional (map_mark h) (a_target t)) (λ x. refl) (λ x. refl) (λ x. refl) (λ x. refl) (λ x. refl) (λ x. refl) (λ x. refl) (λ x. refl)
 
-  agg-alike : Alike (map-aggregate h) an-agg
-  agg-alike = by-tree (λ t. an-agg (map-tree t) ≡ map-optional (map-aggregate h) (an-agg t)) (λ x. refl) (λ x. refl) (λ x. refl) (λ x. refl) (λ x. refl) (λ x. refl) (λ x. refl) (λ x. refl)
+  agg_alike : Alike (map_aggregate h) an_agg
+  agg_alike = by_tree (λ t. an_agg (map_tree t) ≡ map_optional (map_aggregate h) (an_agg t)) (λ x. refl) (λ x. refl) (λ x. refl) (λ x. refl) (λ x. refl) (λ x. refl) (λ x. refl) (λ x. refl)
 
-  row-alike : Alike (map_row h) a-row
-  row-alike = by-tree (λ t. a-row (map-tree t) ≡ map-optional (map_row h) (a-row t)) (λ x. refl) (λ x. refl) (λ x. refl) (λ x. refl) (λ x. refl) (λ x. refl) (λ x. refl) (λ x. refl)
+  row_alike : Alike (map_row h) a_row
+  row_alike = by_tree (λ t. a_row (map_tree t) ≡ map_optional (map_row h) (a_row t)) (λ x. refl) (λ x. refl) (λ x. refl) (λ x. refl) (λ x. refl) (λ x. refl) (λ x. refl) (λ x. refl)
 
-  node_alike : Alike M a-node
-  node_alike = by-tree (λ t. a-node (map-tree t) ≡ map-optional M (a-node t)) (λ x. refl) (λ x. refl) (λ x. refl) (λ x. refl) (λ x. refl) (λ x. refl) (λ x. refl) (λ x. refl)
+  node_alike : Alike M a_node
+  node_alike = by_tree (λ t. a_node (map_tree t) ≡ map_optional M (a_node t)) (λ x. refl) (λ x. refl) (λ x. refl) (λ x. refl) (λ x. refl) (λ x. refl) (λ x. refl) (λ x. refl)
 
   -- ---- children taken off the stack
 
@@ -113,84 +113,84 @@ module _ (h : ℕ → ℕ) where
     abbrev both : List A × Stack → List A × Stack
     both p = (map u p.0, S p.1)
 
-    pop-alike : (n : ℕ) (later : List A) (st : Stack) → pop sort n (map u later) (S st) ≡ map-optional both (pop sort n later st)
+    pop_alike : (n : ℕ) (later : List A) (st : Stack) → pop sort n (map u later) (S st) ≡ map_optional both (pop sort n later st)
     unfolding pop
-    pop-alike zero later st = refl
-    pop-alike (suc n) later [] = refl
-    pop-alike (suc n) later (t ∷ st) =
-        ap (λ (o : Option A). elim o [ none ↦ none | some a ↦ pop sort n (a ∷ map u later) (S st) ]) (k t) ∙ go (sort t) (λ a. pop-alike n (a ∷ later) st)
+    pop_alike zero later st = refl
+    pop_alike (suc n) later [] = refl
+    pop_alike (suc n) later (t ∷ st) =
+        ap (λ (o : Option A). elim o [ none ↦ none | some a ↦ pop sort n (a ∷ map u later) (S st) ]) (k t) ∙ go (sort t) (λ a. pop_alike n (a ∷ later) st)
       where
-        go : (o : Option A) → ((a : A) → pop sort n (u a ∷ map u later) (S st) ≡ map-optional both (pop sort n (a ∷ later) st))
-            → ◌≡◌ {A = Option (List A × Stack)} (elim (map-optional u o) [ none ↦ none | some a ↦ pop sort n (a ∷ map u later) (S st) ])
-            (map-optional both (elim o [ none ↦ none | some a ↦ pop sort n (a ∷ later) st ]))
+        go : (o : Option A) → ((a : A) → pop sort n (u a ∷ map u later) (S st) ≡ map_optional both (pop sort n (a ∷ later) st))
+            → ◌≡◌ {A = Option (List A × Stack)} (elim (map_optional u o) [ none ↦ none | some a ↦ pop sort n (a ∷ map u later) (S st) ])
+            (map_optional both (elim o [ none ↦ none | some a ↦ pop sort n (a ∷ later) st ]))
         go none ih = refl
         go (some a) ih = ih a
 
-    children-alike : (n : ℕ) (st : Stack) (f g : List A → Stack → Option Stack) → ((xs : List A) (rest : Stack) → g (map u xs) (S rest) ≡ OS (f xs rest))
+    children_alike : (n : ℕ) (st : Stack) (f g : List A → Stack → Option Stack) → ((xs : List A) (rest : Stack) → g (map u xs) (S rest) ≡ OS (f xs rest))
         → children sort n (S st) g ≡ OS (children sort n st f)
-    children-alike n st f g e = ap (λ (o : Option (List A × Stack)). bind o (λ p. g p.0 p.1)) (pop-alike n [] st) ∙ go (pop sort n [] st)
+    children_alike n st f g e = ap (λ (o : Option (List A × Stack)). bind o (λ p. g p.0 p.1)) (pop_alike n [] st) ∙ go (pop sort n [] st)
       where
-        go : (o : Option (List A × Stack)) → bind (map-optional both o) (λ p. g p.0 p.1) ≡ OS (bind o (λ p. f p.0 p.1))
+        go : (o : Option (List A × Stack)) → bind (map_optional both o) (λ p. g p.0 p.1) ≡ OS (bind o (λ p. f p.0 p.1))
         go none = refl
         go (some p) = e p.0 p.1
 
-    child-alike : (st : Stack) (f g : A → Stack → Option Stack) → ((a : A) (rest : Stack) → g (u a) (S rest) ≡ OS (f a rest)) → child sort (S st) g ≡ OS (child sort st f)
-    child-alike [] f g e = refl
-    child-alike (t ∷ st) f g e = ap (λ (o : Option A). bind o (λ a. g a (S st))) (k t) ∙ go (sort t)
+    child_alike : (st : Stack) (f g : A → Stack → Option Stack) → ((a : A) (rest : Stack) → g (u a) (S rest) ≡ OS (f a rest)) → child sort (S st) g ≡ OS (child sort st f)
+    child_alike [] f g e = refl
+    child_alike (t ∷ st) f g e = ap (λ (o : Option A). bind o (λ a. g a (S st))) (k t) ∙ go (sort t)
       where
-        go : (o : Option A) → bind (map-optional u o) (λ a. g a (S st)) ≡ OS (bind o (λ a. f a st))
+        go : (o : Option A) → bind (map_optional u o) (λ a. g a (S st)) ≡ OS (bind o (λ a. f a st))
         go none = refl
         go (some a) = e a st
 
-  if-any-alike : (b : Bool) (st : Stack) (f g : Option Expression → Stack → Option Stack)
-      → ((o : Option Expression) (rest : Stack) → g (map-optional E o) (S rest) ≡ OS (f o rest)) → if-any b (S st) g ≡ OS (if-any b st f)
-  if-any-alike false st f g e = e none st
-  if-any-alike true st f g e = child-alike E an-expression expression-alike st (λ x rest. f (some x) rest) (λ x rest. g (some x) rest) (λ x rest. e (some x) rest)
+  if_any_alike : (b : Bool) (st : Stack) (f g : Option Expression → Stack → Option Stack)
+      → ((o : Option Expression) (rest : Stack) → g (map_optional E o) (S rest) ≡ OS (f o rest)) → if_any b (S st) g ≡ OS (if_any b st f)
+  if_any_alike false st f g e = e none st
+  if_any_alike true st f g e = child_alike E an_expression expression_alike st (λ x rest. f (some x) rest) (λ x rest. g (some x) rest) (λ x rest. e (some x) rest)
 
   -- ---- a cell
 
-  reduce-alike : (og : ℕ) (k : Content) (st : Stack) → reduce (h og) k (S st) ≡ OS (reduce og k st)
+  reduce_alike : (og : ℕ) (k : Content) (st : Stack) → reduce (h og) k (S st) ≡ OS (reduce og k st)
   unfolding reduce
-  reduce-alike og (constant_cell v) st = refl
-  reduce-alike og (column-cell i) st = refl
-  reduce-alike og (unary-cell o) st = child-alike E an-expression expression-alike st _ _ (λ x rest. refl)
-  reduce-alike og (binary-cell o) st =
-      child-alike E an-expression expression-alike st _ _ (λ r below. child-alike E an-expression expression-alike below _ _ (λ l rest. refl))
-  reduce-alike og (label-cell l) st = refl
-  reduce-alike og (item-cell l) st = child-alike E an-expression expression-alike st _ _ (λ e rest. refl)
-  reduce-alike og (key-cell d) st = child-alike E an-expression expression-alike st _ _ (λ e rest. refl)
-  reduce-alike og (target-cell t) st = refl
-  reduce-alike og (agg-cell f) st = child-alike E an-expression expression-alike st _ _ (λ e rest. refl)
-  reduce-alike og (row-cell n) st = children-alike E an-expression expression-alike n st _ _ (λ es rest. refl)
-  reduce-alike og (aggregate-cell n m) st =
-      children-alike (map-aggregate h) an-agg agg-alike m st _ _
-      (λ gs below. children-alike E an-expression expression-alike n below _ _ (λ es low. child-alike M a-node node_alike low _ _ (λ s rest. refl)))
-  reduce-alike og filter-cell st =
-      child-alike E an-expression expression-alike st _ _ (λ e below. child-alike M a-node node_alike below _ _ (λ s rest. refl))
-  reduce-alike og (hash-join-cell o i j) st = child-alike M a-node node_alike st _ _ (λ r below. child-alike M a-node node_alike below _ _ (λ l rest. refl))
-  reduce-alike og (index-lookup-cell t al i n) st = children-alike (map-mark h) a-constant constant-alike n st _ _ (λ vs rest. refl)
-  reduce-alike og (key-lookup-cell t al n) st = children-alike (map-mark h) a-constant constant-alike n st _ _ (λ vs rest. refl)
-  reduce-alike og (limit-cell n) st = child-alike M a-node node_alike st _ _ (λ s rest. refl)
-  reduce-alike og (offset-cell n) st = child-alike M a-node node_alike st _ _ (λ s rest. refl)
-  reduce-alike og (nested-loop-join-cell p o) st =
-      if-any-alike p st _ _ (λ e below. child-alike M a-node node_alike below _ _ (λ r low. child-alike M a-node node_alike low _ _ (λ l rest. refl)))
-  reduce-alike og (nothing-cell n) st = children-alike (map-mark h) a-label label-alike n st _ _ (λ ls rest. refl)
-  reduce-alike og (order-cell n) st =
-      children-alike (map-part h) a_key key-alike n st _ _ (λ ks below. child-alike M a-node node_alike below _ _ (λ s rest. refl))
-  reduce-alike og (projection-cell n) st =
-      children-alike (map-part h) an_item item-alike n st _ _ (λ is below. child-alike M a-node node_alike below _ _ (λ s rest. refl))
-  reduce-alike og (remap-cell n) st =
-      children-alike (map-mark h) a-target target-alike n st _ _ (λ ts below. child-alike M a-node node_alike below _ _ (λ s rest. refl))
-  reduce-alike og (scan-cell f t al) st = if-any-alike f st _ _ (λ e rest. refl)
-  reduce-alike og (values-cell n) st = children-alike (map_row h) a-row row-alike n st _ _ (λ rs rest. refl)
+  reduce_alike og (constant_cell v) st = refl
+  reduce_alike og (column_cell i) st = refl
+  reduce_alike og (unary_cell o) st = child_alike E an_expression expression_alike st _ _ (λ x rest. refl)
+  reduce_alike og (binary_cell o) st =
+      child_alike E an_expression expression_alike st _ _ (λ r below. child_alike E an_expression expression_alike below _ _ (λ l rest. refl))
+  reduce_alike og (label_cell l) st = refl
+  reduce_alike og (item_cell l) st = child_alike E an_expression expression_alike st _ _ (λ e rest. refl)
+  reduce_alike og (key_cell d) st = child_alike E an_expression expression_alike st _ _ (λ e rest. refl)
+  reduce_alike og (target_cell t) st = refl
+  reduce_alike og (agg_cell f) st = child_alike E an_expression expression_alike st _ _ (λ e rest. refl)
+  reduce_alike og (row_cell n) st = children_alike E an_expression expression_alike n st _ _ (λ es rest. refl)
+  reduce_alike og (aggregate_cell n m) st =
+      children_alike (map_aggregate h) an_agg agg_alike m st _ _
+      (λ gs below. children_alike E an_expression expression_alike n below _ _ (λ es low. child_alike M a_node node_alike low _ _ (λ s rest. refl)))
+  reduce_alike og filter_cell st =
+      child_alike E an_expression expression_alike st _ _ (λ e below. child_alike M a_node node_alike below _ _ (λ s rest. refl))
+  reduce_alike og (hash_join_cell o i j) st = child_alike M a_node node_alike st _ _ (λ r below. child_alike M a_node node_alike below _ _ (λ l rest. refl))
+  reduce_alike og (index_lookup_cell t al i n) st = children_alike (map_mark h) a_constant constant_alike n st _ _ (λ vs rest. refl)
+  reduce_alike og (key_lookup_cell t al n) st = children_alike (map_mark h) a_constant constant_alike n st _ _ (λ vs rest. refl)
+  reduce_alike og (limit_cell n) st = child_alike M a_node node_alike st _ _ (λ s rest. refl)
+  reduce_alike og (offset_cell n) st = child_alike M a_node node_alike st _ _ (λ s rest. refl)
+  reduce_alike og (nested_loop_join_cell p o) st =
+      if_any_alike p st _ _ (λ e below. child_alike M a_node node_alike below _ _ (λ r low. child_alike M a_node node_alike low _ _ (λ l rest. refl)))
+  reduce_alike og (nothing_cell n) st = children_alike (map_mark h) a_label label_alike n st _ _ (λ ls rest. refl)
+  reduce_alike og (order_cell n) st =
+      children_alike (map_part h) a_key key_alike n st _ _ (λ ks below. child_alike M a_node node_alike below _ _ (λ s rest. refl))
+  reduce_alike og (projection_cell n) st =
+      children_alike (map_part h) an_item item_alike n st _ _ (λ is below. child_alike M a_node node_alike below _ _ (λ s rest. refl))
+  reduce_alike og (remap_cell n) st =
+      children_alike (map_mark h) a_target target_alike n st _ _ (λ ts below. child_alike M a_node node_alike below _ _ (λ s rest. refl))
+  reduce_alike og (scan_cell f t al) st = if_any_alike f st _ _ (λ e rest. refl)
+  reduce_alike og (values_cell n) st = children_alike (map_row h) a_row row_alike n st _ _ (λ rs rest. refl)
 
-  after-alike : (text : List ℕ) (c : Cell) (st : Stack) → after text (remarked h c) (S st) ≡ OS (after text c st)
-  after-alike text c st =
-      ap (λ (o : Option Content). bind o (λ k. reduce (h c.origin) k (S st))) (content-blind text c (h c.origin)) ∙ go (content-of text c)
+  after_alike : (text : List ℕ) (c : Cell) (st : Stack) → after text (remarked h c) (S st) ≡ OS (after text c st)
+  after_alike text c st =
+      ap (λ (o : Option Content). bind o (λ k. reduce (h c.origin) k (S st))) (content_blind text c (h c.origin)) ∙ go (content_of text c)
     where
       go : (o : Option Content) → bind o (λ k. reduce (h c.origin) k (S st)) ≡ OS (bind o (λ k. reduce c.origin k st))
       go none = refl
-      go (some k) = reduce-alike c.origin k st
+      go (some k) = reduce_alike c.origin k st
 
   -- ---- all cells
 
@@ -202,7 +202,7 @@ module _ (h : ℕ → ℕ) where
   unfolding read
   read_alike text i [] st = refl
   read_alike text i (c ∷ cs) st =
-      ap (λ (o : Option Stack). elim o [ none ↦ lacking i | some next ↦ read text (suc i) (map (remarked h) cs) next ]) (after-alike text c st)
+      ap (λ (o : Option Stack). elim o [ none ↦ lacking i | some next ↦ read text (suc i) (map (remarked h) cs) next ]) (after_alike text c st)
       ∙ go (after text c st) (λ next. read_alike text (suc i) cs next)
     where
       go : (o : Option Stack) → ((next : Stack) → read text (suc i) (map (remarked h) cs) (S next) ≡ map_read (read text (suc i) cs next))
@@ -211,22 +211,22 @@ module _ (h : ℕ → ℕ) where
       go none ih = refl
       go (some next) ih = ih next
 
-  sole-alike : (count : ℕ) (st : Stack) → sole-node count (S st) ≡ map-answer M (sole-node count st)
-  sole-alike count [] = refl
-  sole-alike count (node-tree n ∷ []) = refl
-  sole-alike count (node-tree n ∷ t ∷ st) = refl
-  sole-alike count (expression-tree e ∷ st) = refl
-  sole-alike count (label-tree l ∷ st) = refl
-  sole-alike count (item-tree i ∷ st) = refl
-  sole-alike count (key-tree k ∷ st) = refl
-  sole-alike count (target-tree t ∷ st) = refl
-  sole-alike count (agg-tree a ∷ st) = refl
-  sole-alike count (row-tree es ∷ st) = refl
+  sole_alike : (count : ℕ) (st : Stack) → sole_node count (S st) ≡ map_answer M (sole_node count st)
+  sole_alike count [] = refl
+  sole_alike count (node_tree n ∷ []) = refl
+  sole_alike count (node_tree n ∷ t ∷ st) = refl
+  sole_alike count (expression_tree e ∷ st) = refl
+  sole_alike count (label_tree l ∷ st) = refl
+  sole_alike count (item_tree i ∷ st) = refl
+  sole_alike count (key_tree k ∷ st) = refl
+  sole_alike count (target_tree t ∷ st) = refl
+  sole_alike count (agg_tree a ∷ st) = refl
+  sole_alike count (row_tree es ∷ st) = refl
 
   -- The plan that the cells stand for, or refusal 8 with its place.
-  pub one-plan-alike : (count : ℕ) (text : List ℕ) (cs : List Cell) → one-plan count (read text 0 (map (remarked h) cs) []) ≡ map-answer M (one-plan count (read text 0 cs []))
-  one-plan-alike count text cs = ap (one-plan count) (read_alike text 0 cs []) ∙ go (read text 0 cs [])
+  pub one_plan_alike : (count : ℕ) (text : List ℕ) (cs : List Cell) → one_plan count (read text 0 (map (remarked h) cs) []) ≡ map_answer M (one_plan count (read text 0 cs []))
+  one_plan_alike count text cs = ap (one_plan count) (read_alike text 0 cs []) ∙ go (read text 0 cs [])
     where
-      go : (r : Read) → one-plan count (map_read r) ≡ map-answer M (one-plan count r)
+      go : (r : Read) → one_plan count (map_read r) ≡ map_answer M (one_plan count r)
       go (lacking i) = refl
-      go (stack st) = sole-alike count st
+      go (stack st) = sole_alike count st

@@ -10,37 +10,37 @@ use lib.Dec.{eqb}
 use mathlib.Core.List.{List, [], ◌∷◌, ◌++◌, append_assoc, append-nil}
 use lib.ListN.{length, take, drop, get_or, set, length-append, length-drop, take-append-drop}
 use lib.Seq.{length-take-le, get_or-take, get_or-drop, drop-drop, paste, paste-zero, paste-suc}
-use Rattle.sql.specs.Plan.{Node, node-size}
+use Rattle.sql.specs.Plan.{Node, node_size}
 use Rattle.sheet.specs.Bytes.{bytes}
-use Rattle.sheet.specs.Parts.{edition, table-count, tables-at, columns-at, cells_at}
+use Rattle.sheet.specs.Parts.{edition, table_count, tables_at, columns_at, cells_at}
 use Rattle.sheet.specs.Cell as Sheet
 use Rattle.sheet.specs.Cells.{cells}
 use Rattle.sheet.specs.Check.{text}
-use Rattle.sheet.specs.Write.{cell-bytes, cells-bytes, trailer, sheet-with, write}
+use Rattle.sheet.specs.Write.{cell_bytes, cells_bytes, trailer, sheet_with, write}
 use Rattle.sheet_laws.specs.Fits.{All}
-use Rattle.sheet_laws.specs.Size.{node-length}
-use Rattle.sheet_laws.specs.Bytes.{length-cell-bytes}
+use Rattle.sheet_laws.specs.Size.{node_length}
+use Rattle.sheet_laws.specs.Bytes.{length_cell_bytes}
 use Rattle.layout.specs.Layout.{Laid}
 use Rattle.layout.specs.declared.Parts.{Parts}
-use Rattle.layout.proofs.Laws.{text-is, columns-start, cells-start}
+use Rattle.layout.proofs.Laws.{text_is, columns_start, cells_start}
 use Rattle.cells.specs.declared.Cell.{Cell}
-use Rattle.cells.specs.Cells.{cell-words, cell_at}
+use Rattle.cells.specs.Cells.{cell_words, cell_at}
 use Rattle.cells.specs.Room.{Wrote}
-use Rattle.cells.proofs.Laws.{part_in, part-is, wrote-up}
-use Rattle.words.specs.Words.{node-words}
+use Rattle.cells.proofs.Laws.{part_in, part_is, wrote_up}
+use Rattle.words.specs.Words.{node_words}
 use Rattle.words.specs.Place.{NodeHere}
 use Rattle.words.proofs.Sizes.{words_long}
-use Rattle.encode.specs.Encode.{written, as-cell, cells_in, Small, CellsAt, trailer-of, Lengths, Encodable, Encodes}
-use Rattle.encode.proofs.Written.{written_none, chain, length-bytes}
-use Rattle.encode.proofs.Says.{node-cells, node-small}
+use Rattle.encode.specs.Encode.{written, as_cell, cells_in, Small, CellsAt, trailer_of, Lengths, Encodable, Encodes}
+use Rattle.encode.proofs.Written.{written_none, chain, length_bytes}
+use Rattle.encode.proofs.Says.{node_cells, node_small}
 
 -- ---- bytes copied
 
 pub copy_start : (d s : List ℕ) → d ≡ paste d 0 s 0
 copy_start d s = paste-zero d 0 s
 
-pub copy-on : (d₀ s d : List ℕ) (i : ℕ) → i < length d₀ → i < length s → d ≡ paste d₀ 0 s i → set d i (get_or s i 0) ≡ paste d₀ 0 s (i + 1)
-copy-on d₀ s d i h j e =
+pub copy_on : (d₀ s d : List ℕ) (i : ℕ) → i < length d₀ → i < length s → d ≡ paste d₀ 0 s i → set d i (get_or s i 0) ≡ paste d₀ 0 s (i + 1)
+copy_on d₀ s d i h j e =
     let f : 0 + i ≡ i = omega arith in
     rw (add-one i) (ap (λ (l : List ℕ). set l i (get_or s i 0)) e ∙ ap (λ (n : ℕ). set (paste d₀ 0 s i) n (get_or s i 0)) (sym f) ∙ paste-suc d₀ 0 s i 0 (omega arith) j)
 
@@ -51,14 +51,14 @@ copy_done d₀ s d i n h f e =
 
 -- ---- cells
 
-pub length-cells-bytes : (ks : List Sheet.Cell) → length (cells-bytes ks) ≡ 16 * length ks
-unfolding cells-bytes
-length-cells-bytes [] = refl
-length-cells-bytes (k ∷ ks) = length-append (cell-bytes k) (cells-bytes ks) ∙ omega (arith, length-cell-bytes k, length-cells-bytes ks)
+pub length_cells_bytes : (ks : List Sheet.Cell) → length (cells_bytes ks) ≡ 16 * length ks
+unfolding cells_bytes
+length_cells_bytes [] = refl
+length_cells_bytes (k ∷ ks) = length-append (cell_bytes k) (cells_bytes ks) ∙ omega (arith, length_cell_bytes k, length_cells_bytes ks)
 
 -- the cell that seven words say, and the rest
-seven : (l : List ℕ) → cell-words ≤ length l
-    → cells_in l ≡ record { tag = get_or l 1 0; flag = get_or l 2 0; origin = get_or l 0 0; a = get_or l 3 0; b = get_or l 4 0; c = get_or l 5 0 } ∷ cells_in (drop cell-words l)
+seven : (l : List ℕ) → cell_words ≤ length l
+    → cells_in l ≡ record { tag = get_or l 1 0; flag = get_or l 2 0; origin = get_or l 0 0; a = get_or l 3 0; b = get_or l 4 0; c = get_or l 5 0 } ∷ cells_in (drop cell_words l)
 unfolding cells_in
 seven (o ∷ t ∷ f ∷ a ∷ b ∷ c ∷ n ∷ w) h = refl
 seven [] h = absurd (omega arith)
@@ -69,24 +69,24 @@ seven (o ∷ t ∷ f ∷ a ∷ []) h = absurd (omega arith)
 seven (o ∷ t ∷ f ∷ a ∷ b ∷ []) h = absurd (omega arith)
 seven (o ∷ t ∷ f ∷ a ∷ b ∷ c ∷ []) h = absurd (omega arith)
 
-module _ (x : List ℕ) (n i : ℕ) (h : i + cell-words ≤ n) (long : n ≤ length x) where
-  word : (p j : ℕ) → p ≡ i + j → j < cell-words → get_or (drop i (take n x)) j 0 ≡ get_or x p 0
+module _ (x : List ℕ) (n i : ℕ) (h : i + cell_words ≤ n) (long : n ≤ length x) where
+  word : (p j : ℕ) → p ≡ i + j → j < cell_words → get_or (drop i (take n x)) j 0 ≡ get_or x p 0
   word p j e k = get_or-drop i (take n x) j 0 ∙ get_or-take n x (i + j) 0 (omega arith) ∙ ap (λ (m : ℕ). get_or x m 0) (sym e)
 
-  pub next-cell : cells_in (drop i (take n x)) ≡ as-cell (cell_at x (i + cell-words)) ∷ cells_in (drop (i + cell-words) (take n x))
-  next-cell =
+  pub next_cell : cells_in (drop i (take n x)) ≡ as_cell (cell_at x (i + cell_words)) ∷ cells_in (drop (i + cell_words) (take n x))
+  next_cell =
       let l = drop i (take n x) in
       let e : length l ≡ n - i = length-drop i (take n x) ∙ ap (λ (m : ℕ). m - i) (length-take-le n x long) in
       seven l (omega arith)
-      ∙ rw (word (i + cell-words - cell-words) 0 (omega arith) (omega arith), word (i + cell-words - 6) 1 (omega arith) (omega arith), word (i + cell-words - 5) 2 (omega arith) (omega arith), word (i + cell-words - 4) 3 (omega arith) (omega arith), word (i + cell-words - 3) 4 (omega arith) (omega arith), word (i + cell-words - 2) 5 (omega arith) (omega arith), drop-drop cell-words i (take n x))
+      ∙ rw (word (i + cell_words - cell_words) 0 (omega arith) (omega arith), word (i + cell_words - 6) 1 (omega arith) (omega arith), word (i + cell_words - 5) 2 (omega arith) (omega arith), word (i + cell_words - 4) 3 (omega arith) (omega arith), word (i + cell_words - 3) 4 (omega arith) (omega arith), word (i + cell_words - 2) 5 (omega arith) (omega arith), drop-drop cell_words i (take n x))
 
 -- The cells from word i on are still to be written, from byte `to` on.
 pub record Going (x : List ℕ) (n : ℕ) (d₀ : List ℕ) (at : ℕ) (d : List ℕ) (to i : ℕ) : Type 0 where
   pub before : List ℕ
   pub is : d ≡ written d₀ at before
   pub so_far : to ≡ at + length before
-  pub both : before ++ cells-bytes (cells_in (drop i (take n x))) ≡ cells-bytes (cells_in (take n x))
-  pub whole : n ≡ i + cell-words * length (cells_in (drop i (take n x)))
+  pub both : before ++ cells_bytes (cells_in (drop i (take n x))) ≡ cells_bytes (cells_in (take n x))
+  pub whole : n ≡ i + cell_words * length (cells_in (drop i (take n x)))
   pub small : All Small (cells_in (drop i (take n x)))
   pub room : to + 16 * length (cells_in (drop i (take n x))) ≤ length d₀
   pub inside : n ≤ length x
@@ -105,45 +105,45 @@ going_start {x} {n} {d} {at} c =
     }
 
 module _ {x : List ℕ} {n : ℕ} {d₀ : List ℕ} {at : ℕ} {d : List ℕ} {to i : ℕ} (g : Going x n d₀ at d to i) where
-  pub cell-inside : i < n → (i + cell-words ≤ n) × (n ≤ length x)
-  cell-inside h = (omega (arith, g.whole), g.inside)
+  pub cell_inside : i < n → (i + cell_words ≤ n) × (n ≤ length x)
+  cell_inside h = (omega (arith, g.whole), g.inside)
 
-  module _ (h : i < n) {k : Cell} (e : k ≡ cell_at x (i + cell-words)) where
+  module _ (h : i < n) {k : Cell} (e : k ≡ cell_at x (i + cell_words)) where
     rest : List Sheet.Cell
-    rest = cells_in (drop (i + cell-words) (take n x))
+    rest = cells_in (drop (i + cell_words) (take n x))
 
-    next : cells_in (drop i (take n x)) ≡ as-cell k ∷ rest
+    next : cells_in (drop i (take n x)) ≡ as_cell k ∷ rest
     unfolding rest
-    next = next-cell x n i (cell-inside h).0 g.inside ∙ ap (λ (c : Cell). as-cell c ∷ cells_in (drop (i + cell-words) (take n x))) (sym e)
+    next = next_cell x n i (cell_inside h).0 g.inside ∙ ap (λ (c : Cell). as_cell c ∷ cells_in (drop (i + cell_words) (take n x))) (sym e)
 
-    pub cell_room : length d ≡ length d₀ → (to + 16 ≤ length d) × Small (as-cell k)
+    pub cell_room : length d ≡ length d₀ → (to + 16 ≤ length d) × Small (as_cell k)
     cell_room f =
         let s = subst (λ (ks : List Sheet.Cell). All Small ks) next g.small in
         (omega (arith, g.room, ap length next), s.0)
 
-    pub going_on : {to' : ℕ} {d' : List ℕ} → (to' ≡ to + 16) × (d' ≡ written d to (cell-bytes (as-cell k))) → Going x n d₀ at d' to' (i + cell-words)
-    unfolding rest cells-bytes
+    pub going_on : {to' : ℕ} {d' : List ℕ} → (to' ≡ to + 16) × (d' ≡ written d to (cell_bytes (as_cell k))) → Going x n d₀ at d' to' (i + cell_words)
+    unfolding rest cells_bytes
     going_on {to'} {d'} (f, q) =
-        let c = cell-bytes (as-cell k) in
+        let c = cell_bytes (as_cell k) in
         let s = subst (λ (ks : List Sheet.Cell). All Small ks) next g.small in
         let m = ap length next in
         record {
           before = g.before ++ c;
           is = chain d₀ at g.before c (omega (arith, g.room, g.so_far)) g.so_far g.is q;
-          so_far = omega (arith, g.so_far, length-append g.before c, length-cell-bytes (as-cell k));
-          both = append_assoc g.before c (cells-bytes rest) ∙ ap (λ (ks : List Sheet.Cell). g.before ++ cells-bytes ks) (sym next) ∙ g.both;
+          so_far = omega (arith, g.so_far, length-append g.before c, length_cell_bytes (as_cell k));
+          both = append_assoc g.before c (cells_bytes rest) ∙ ap (λ (ks : List Sheet.Cell). g.before ++ cells_bytes ks) (sym next) ∙ g.both;
           whole = omega (arith, g.whole);
           small = s.1;
           room = omega (arith, g.room);
           inside = g.inside;
         }
 
-  pub going_done : n ≤ i → (to ≡ at + 16 * length (cells_in (take n x))) × (d ≡ written d₀ at (cells-bytes (cells_in (take n x))))
-  unfolding cells-bytes
+  pub going_done : n ≤ i → (to ≡ at + 16 * length (cells_in (take n x))) × (d ≡ written d₀ at (cells_bytes (cells_in (take n x))))
+  unfolding cells_bytes
   going_done h =
       let e = none_left (cells_in (drop i (take n x))) (omega (arith, g.whole)) in
-      let f : g.before ≡ cells-bytes (cells_in (take n x)) = sym (append-nil g.before) ∙ ap (λ (ks : List Sheet.Cell). g.before ++ cells-bytes ks) (sym e) ∙ g.both in
-      (omega (arith, g.so_far, ap length f, length-cells-bytes (cells_in (take n x))), g.is ∙ ap (written d₀ at) f)
+      let f : g.before ≡ cells_bytes (cells_in (take n x)) = sym (append-nil g.before) ∙ ap (λ (ks : List Sheet.Cell). g.before ++ cells_bytes ks) (sym e) ∙ g.both in
+      (omega (arith, g.so_far, ap length f, length_cells_bytes (cells_in (take n x))), g.is ∙ ap (written d₀ at) f)
     where
       none_left : (ks : List Sheet.Cell) → length ks ≡ 0 → ks ≡ []
       none_left [] e = refl
@@ -152,106 +152,106 @@ module _ {x : List ℕ} {n : ℕ} {d₀ : List ℕ} {at : ℕ} {d : List ℕ} {t
 -- ---- the whole sheet
 
 -- Every origin that a sheet has is a number of 2 bytes.
-origins-small : (s : List ℕ) (ks : List Sheet.Cell) → All (λ c. c.origin < Sheet.origins s) ks → All (λ c. c.origin < 65536) ks
-origins-small s [] h = tt
-origins-small s (k ∷ ks) h = (few (eqb (edition s) 1) h.0, origins-small s ks h.1)
+origins_small : (s : List ℕ) (ks : List Sheet.Cell) → All (λ c. c.origin < Sheet.origins s) ks → All (λ c. c.origin < 65536) ks
+origins_small s [] h = tt
+origins_small s (k ∷ ks) h = (few (eqb (edition s) 1) h.0, origins_small s ks h.1)
   where
     few : {og : ℕ} (b : Bool) → og < cond b 1 65536 → og < 65536
     few true h = omega arith
     few false h = h
 
 module _ {x : List ℕ} {n : ℕ} (m : Node) (u : NodeHere x 0 n m) where
-  words_are : take n x ≡ node-words m
-  words_are = let e : n - 0 ≡ n = omega arith in ap (λ (k : ℕ). take k x) (sym e) ∙ part-is u.part
+  words_are : take n x ≡ node_words m
+  words_are = let e : n - 0 ≡ n = omega arith in ap (λ (k : ℕ). take k x) (sym e) ∙ part_is u.part
 
   cells_are : cells_in (take n x) ≡ cells m
-  cells_are = ap cells_in words_are ∙ node-cells m
+  cells_are = ap cells_in words_are ∙ node_cells m
 
-  long : n ≡ cell-words * length (cells m)
-  long = omega (arith, u.part.high, words_long m, node-length m)
+  long : n ≡ cell_words * length (cells m)
+  long = omega (arith, u.part.high, words_long m, node_length m)
 
 module _ (s : List ℕ) {p : Parts} (l : Laid s p) where
-  start-long : length (take (cells_at s) s) ≡ cells_at s
-  start-long = length-take-le (cells_at s) s (omega (arith, l.cells-end, cells-start l))
+  start_long : length (take (cells_at s) s) ≡ cells_at s
+  start_long = length-take-le (cells_at s) s (omega (arith, l.cells_end, cells_start l))
 
-  trailer-is : (total : ℕ) → trailer-of p (edition s) total ≡ trailer s total
+  trailer_is : (total : ℕ) → trailer_of p (edition s) total ≡ trailer s total
   unfolding trailer
-  trailer-is total = rw (text-is l, columns-start l, cells-start l)
+  trailer_is total = rw (text_is l, columns_start l, cells_start l)
 
-  write-long : (m : Node) → length (write s m) ≡ p.cells.at + 16 * length (cells m) + 20
-  unfolding write sheet-with trailer
-  write-long m =
+  write_long : (m : Node) → length (write s m) ≡ p.cells.at + 16 * length (cells m) + 20
+  unfolding write sheet_with trailer
+  write_long m =
       let total = cells_at s + 16 * length (cells m) + 20 in
-      let b = length-bytes in
+      let b = length_bytes in
       omega (
         arith,
-        cells-start l,
-        start-long,
-        length-append (take (cells_at s) s) (cells-bytes (cells m) ++ trailer s total),
-        length-append (cells-bytes (cells m)) (trailer s total),
-        length-cells-bytes (cells m),
-        length-append (bytes (tables-at s)) (bytes (columns-at s) ++ (bytes (cells_at s) ++ (bytes (edition s) ++ bytes total))),
-        length-append (bytes (columns-at s)) (bytes (cells_at s) ++ (bytes (edition s) ++ bytes total)),
+        cells_start l,
+        start_long,
+        length-append (take (cells_at s) s) (cells_bytes (cells m) ++ trailer s total),
+        length-append (cells_bytes (cells m)) (trailer s total),
+        length_cells_bytes (cells m),
+        length-append (bytes (tables_at s)) (bytes (columns_at s) ++ (bytes (cells_at s) ++ (bytes (edition s) ++ bytes total))),
+        length-append (bytes (columns_at s)) (bytes (cells_at s) ++ (bytes (edition s) ++ bytes total)),
         length-append (bytes (cells_at s)) (bytes (edition s) ++ bytes total),
         length-append (bytes (edition s)) (bytes total),
-        b (tables-at s),
-        b (columns-at s),
+        b (tables_at s),
+        b (columns_at s),
         b (cells_at s),
         b (edition s),
         b total,
       )
 
-  write-is : (m : Node) → take (cells_at s) s ++ (cells-bytes (cells m) ++ trailer s (cells_at s + 16 * length (cells m) + 20)) ≡ write s m
-  unfolding write sheet-with
-  write-is m = refl
+  write_is : (m : Node) → take (cells_at s) s ++ (cells_bytes (cells m) ++ trailer s (cells_at s + 16 * length (cells m) + 20)) ≡ write s m
+  unfolding write sheet_with
+  write_is m = refl
 
-  pub lengths : (n : ℕ) → Lengths s n (p.cells.at + 16 * (n / cell-words) + 20)
+  pub lengths : (n : ℕ) → Lengths s n (p.cells.at + 16 * (n / cell_words) + 20)
   lengths n m e =
-      let f : n ≡ cell-words * length (cells m) = sym e ∙ omega (arith, words_long m, node-length m) in
-      let g : n / cell-words ≡ length (cells m) = ap (λ (k : ℕ). k / cell-words) f ∙ mul-div_cancel_left (length (cells m)) (omega arith) in
-      omega (arith, write-long m)
+      let f : n ≡ cell_words * length (cells m) = sym e ∙ omega (arith, words_long m, node_length m) in
+      let g : n / cell_words ≡ length (cells m) = ap (λ (k : ℕ). k / cell_words) f ∙ mul-div_cancel_left (length (cells m)) (omega arith) in
+      omega (arith, write_long m)
 
   module _ {x : List ℕ} {n : ℕ} {d : List ℕ} (e : Encodable s x n d) where
-    pub room-start : (p.cells.at ≤ length s) × (p.cells.at ≤ length d)
-    room-start = (omega (arith, l.cells-end), omega (arith, e.room, write-long e.node))
+    pub room_start : (p.cells.at ≤ length s) × (p.cells.at ≤ length d)
+    room_start = (omega (arith, l.cells_end), omega (arith, e.room, write_long e.node))
 
-    pub room-cells : {d₁ : List ℕ} {first : ℕ} → length d₁ ≡ length d → first ≡ p.cells.at → CellsAt x n d₁ first
-    room-cells q f =
+    pub room_cells : {d₁ : List ℕ} {first : ℕ} → length d₁ ≡ length d → first ≡ p.cells.at → CellsAt x n d₁ first
+    room_cells q f =
         let c = cells_are e.node e.here in
         record {
           inside = (part_in e.here.part).1;
-          whole = long e.node e.here ∙ ap (λ (ks : List Sheet.Cell). cell-words * length ks) (sym c);
-          small = rw c (node-small (text s) (length (text s)) (table-count s) e.node e.fits (origins-small s (cells e.node) e.origins-are));
-          room = omega (arith, e.room, write-long e.node, ap length c);
+          whole = long e.node e.here ∙ ap (λ (ks : List Sheet.Cell). cell_words * length ks) (sym c);
+          small = rw c (node_small (text s) (length (text s)) (table_count s) e.node e.fits (origins_small s (cells e.node) e.origins_are));
+          room = omega (arith, e.room, write_long e.node, ap length c);
         }
 
-    pub room-trailer : (d₂ : List ℕ) {first last : ℕ} → length d₂ ≡ length d → first ≡ p.cells.at → last ≡ first + 16 * length (cells_in (take n x)) → last + 20 ≤ length d₂
-    room-trailer d₂ q f g = omega (arith, e.room, write-long e.node, ap length (cells_are e.node e.here))
+    pub room_trailer : (d₂ : List ℕ) {first last : ℕ} → length d₂ ≡ length d → first ≡ p.cells.at → last ≡ first + 16 * length (cells_in (take n x)) → last + 20 ≤ length d₂
+    room_trailer d₂ q f g = omega (arith, e.room, write_long e.node, ap length (cells_are e.node e.here))
 
     pub encodes : {d₁ d₂ d₃ : List ℕ} {first last said r : ℕ} → (first ≡ p.cells.at) × (d₁ ≡ written d 0 (take p.cells.at s))
-        → (last ≡ first + 16 * length (cells_in (take n x))) × (d₂ ≡ written d₁ first (cells-bytes (cells_in (take n x))))
-        → said ≡ edition s → (r ≡ last + 20) × (d₃ ≡ written d₂ last (trailer-of p said (last + 20)))
+        → (last ≡ first + 16 * length (cells_in (take n x))) × (d₂ ≡ written d₁ first (cells_bytes (cells_in (take n x))))
+        → said ≡ edition s → (r ≡ last + 20) × (d₃ ≡ written d₂ last (trailer_of p said (last + 20)))
         → Encodes s x n d r d₃
     encodes {d₁} {d₂} {d₃} {first} {last} {said} {r} (f, p₁) (g, p₂) o (h, p₃) m u =
         let ks = cells m in
         let c = cells_are m u in
-        let start : take p.cells.at s ≡ take (cells_at s) s = ap (λ (k : ℕ). take k s) (cells-start l) in
-        let total : last + 20 ≡ cells_at s + 16 * length ks + 20 = omega (arith, cells-start l, ap length c) in
+        let start : take p.cells.at s ≡ take (cells_at s) s = ap (λ (k : ℕ). take k s) (cells_start l) in
+        let total : last + 20 ≡ cells_at s + 16 * length ks + 20 = omega (arith, cells_start l, ap length c) in
         let q₁ : d₁ ≡ written d 0 (take (cells_at s) s) = p₁ ∙ ap (written d 0) start in
-        let q₂ : d₂ ≡ written d₁ first (cells-bytes ks) = p₂ ∙ ap (λ (js : List Sheet.Cell). written d₁ first (cells-bytes js)) c in
-        let q₃ : d₃ ≡ written d₂ last (trailer s (cells_at s + 16 * length ks + 20)) = p₃ ∙ ap (λ (k : ℕ). written d₂ last (trailer-of p k (last + 20))) o ∙ ap (λ (k : ℕ). written d₂ last (trailer-of p (edition s) k)) total ∙ ap (written d₂ last) (trailer-is (cells_at s + 16 * length ks + 20)) in
-        let e₁ : first ≡ 0 + length (take (cells_at s) s) = omega (arith, start-long, cells-start l) in
-        let x₂ = chain d 0 (take (cells_at s) s) (cells-bytes ks) (omega arith) e₁ q₁ q₂ in
-        let e₂ : last ≡ 0 + length (take (cells_at s) s ++ cells-bytes ks) = omega (arith, length-append (take (cells_at s) s) (cells-bytes ks), length-cells-bytes ks, ap length c) in
-        let x₃ = chain d 0 (take (cells_at s) s ++ cells-bytes ks) (trailer s (cells_at s + 16 * length ks + 20)) (omega arith) e₂ x₂ q₃ in
-        let same : (take (cells_at s) s ++ cells-bytes ks) ++ trailer s (cells_at s + 16 * length ks + 20) ≡ write s m = append_assoc (take (cells_at s) s) (cells-bytes ks) (trailer s (cells_at s + 16 * length ks + 20)) ∙ write-is m in
+        let q₂ : d₂ ≡ written d₁ first (cells_bytes ks) = p₂ ∙ ap (λ (js : List Sheet.Cell). written d₁ first (cells_bytes js)) c in
+        let q₃ : d₃ ≡ written d₂ last (trailer s (cells_at s + 16 * length ks + 20)) = p₃ ∙ ap (λ (k : ℕ). written d₂ last (trailer_of p k (last + 20))) o ∙ ap (λ (k : ℕ). written d₂ last (trailer_of p (edition s) k)) total ∙ ap (written d₂ last) (trailer_is (cells_at s + 16 * length ks + 20)) in
+        let e₁ : first ≡ 0 + length (take (cells_at s) s) = omega (arith, start_long, cells_start l) in
+        let x₂ = chain d 0 (take (cells_at s) s) (cells_bytes ks) (omega arith) e₁ q₁ q₂ in
+        let e₂ : last ≡ 0 + length (take (cells_at s) s ++ cells_bytes ks) = omega (arith, length-append (take (cells_at s) s) (cells_bytes ks), length_cells_bytes ks, ap length c) in
+        let x₃ = chain d 0 (take (cells_at s) s ++ cells_bytes ks) (trailer s (cells_at s + 16 * length ks + 20)) (omega arith) e₂ x₂ q₃ in
+        let same : (take (cells_at s) s ++ cells_bytes ks) ++ trailer s (cells_at s + 16 * length ks + 20) ≡ write s m = append_assoc (take (cells_at s) s) (cells_bytes ks) (trailer s (cells_at s + 16 * length ks + 20)) ∙ write_is m in
         let z : 0 + length (write s m) ≡ length (write s m) = omega arith in
-        (omega (arith, write-long m, cells-start l, ap length c), x₃ ∙ ap (written d 0) same ∙ ap (λ (k : ℕ). write s m ++ drop k d) z)
+        (omega (arith, write_long m, cells_start l, ap length c), x₃ ∙ ap (written d 0) same ∙ ap (λ (k : ℕ). write s m ++ drop k d) z)
 
 -- ---- for callers: where a plan stands that was written from the start of a slice
 
-pub first-node : {x : List ℕ} {n : ℕ} (m : Node) → n ≤ length x → take n x ≡ node-words m → NodeHere x 0 n m
-first-node {x} {n} m h e =
+pub first_node : {x : List ℕ} {n : ℕ} (m : Node) → n ≤ length x → take n x ≡ node_words m → NodeHere x 0 n m
+first_node {x} {n} m h e =
     record {
       part = record {
         before = [];
@@ -262,5 +262,5 @@ first-node {x} {n} m h e =
       };
     }
 
-pub written-node : {x x' : List ℕ} {n : ℕ} (m : Node) → length x' ≡ length x → n ≤ length x → Wrote x 0 (node-words m) n x' → NodeHere x' 0 n m
-written-node m e h w = let j = wrote-up w h in first-node m (omega arith) (w.is h).1
+pub written_node : {x x' : List ℕ} {n : ℕ} (m : Node) → length x' ≡ length x → n ≤ length x → Wrote x 0 (node_words m) n x' → NodeHere x' 0 n m
+written_node m e h w = let j = wrote_up w h in first_node m (omega arith) (w.is h).1

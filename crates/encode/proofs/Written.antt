@@ -8,11 +8,11 @@ use mathlib.Core.List.{List, [], ◌∷◌, ◌++◌, append_assoc, append-nil}
 use lib.ListN.{length, take, drop, set, length-append, take-append-drop}
 use lib.Seq.{length-take-le, take_at, drop-append-add, drop-drop, sets-eq}
 use Rattle.sheet.specs.Bytes.{bytes}
-use Rattle.sheet.specs.Write.{cell-bytes}
-use Rattle.sheet_laws.specs.Bytes.{bytes-of-digits}
+use Rattle.sheet.specs.Write.{cell_bytes}
+use Rattle.sheet_laws.specs.Bytes.{bytes_of_digits}
 use Rattle.layout.specs.declared.Parts.{Parts}
 use Rattle.cells.specs.declared.Cell.{Cell}
-use Rattle.encode.specs.Encode.{written, as-cell, Small, trailer-of}
+use Rattle.encode.specs.Encode.{written, as_cell, Small, trailer_of}
 
 pub written_none : (d : List ℕ) (at : ℕ) → d ≡ written d at []
 written_none d at =
@@ -43,21 +43,21 @@ put4 d at a b c e h =
     let e3 : at + 3 ≡ suc (suc (suc at)) = omega arith in
     rw (e1, e2, e3) (sets-eq (a ∷ b ∷ c ∷ e ∷ []) d at h ∙ append_assoc (take at d) (a ∷ b ∷ c ∷ e ∷ []) (drop (at + 4) d))
 
-pub put-bytes : (d : List ℕ) (at w : ℕ) → at + 4 ≤ length d
+pub put_bytes : (d : List ℕ) (at w : ℕ) → at + 4 ≤ length d
     → set (set (set (set d at (w % 256)) (at + 1) (w / 256 % 256)) (at + 2) (w / 65536 % 256)) (at + 3) (w / 16777216 % 256) ≡ written d at (bytes w)
 unfolding bytes
-put-bytes d at w h = put4 d at (w % 256) (w / 256 % 256) (w / 65536 % 256) (w / 16777216 % 256) h
+put_bytes d at w h = put4 d at (w % 256) (w / 256 % 256) (w / 65536 % 256) (w / 16777216 % 256) h
 
-pub length-bytes : (w : ℕ) → length (bytes w) ≡ 4
+pub length_bytes : (w : ℕ) → length (bytes w) ≡ 4
 unfolding bytes
-length-bytes w = refl
+length_bytes w = refl
 
 -- two numbers, one after the other
 two : (d : List ℕ) (at m : ℕ) (v : List ℕ) (k w : ℕ) {d₁ d₂ : List ℕ} → at + 4 ≤ length d → length v ≡ k → m ≡ at + k → d₁ ≡ written d at v → d₂ ≡ written d₁ m (bytes w)
     → (length (v ++ bytes w) ≡ k + 4) × (d₂ ≡ written d at (v ++ bytes w))
 two d at m v k w h l e p q =
     let f : m ≡ at + length v = omega arith in
-    let g : length (v ++ bytes w) ≡ k + 4 = omega (arith, length-append v (bytes w), length-bytes w) in
+    let g : length (v ++ bytes w) ≡ k + 4 = omega (arith, length-append v (bytes w), length_bytes w) in
     (g, chain d at v (bytes w) (omega arith) f p q)
 
 -- the head of a cell
@@ -66,43 +66,43 @@ head t f og h k j =
     let d = mod-add-div og 256 in
     let l = mod-lt og {m = 256} (omega arith) in
     let e : t + 256 * f + 65536 * og ≡ t + 256 * f + 65536 * (og % 256) + 16777216 * (og / 256) = omega arith in
-    ap bytes e ∙ bytes-of-digits t f (og % 256) (og / 256) h k l (omega arith)
+    ap bytes e ∙ bytes_of_digits t f (og % 256) (og / 256) h k l (omega arith)
 
-cell-is : (k : Cell) → cell-bytes (as-cell k) ≡ k.tag ∷ k.flag ∷ k.origin % 256 ∷ k.origin / 256 ∷ (bytes k.a ++ (bytes k.b ++ bytes k.c))
-unfolding cell-bytes
-cell-is k = refl
+cell_is : (k : Cell) → cell_bytes (as_cell k) ≡ k.tag ∷ k.flag ∷ k.origin % 256 ∷ k.origin / 256 ∷ (bytes k.a ++ (bytes k.b ++ bytes k.c))
+unfolding cell_bytes
+cell_is k = refl
 
-pub cell-put : (d : List ℕ) (at : ℕ) (k : Cell) {a b c r : ℕ} {d₁ d₂ d₃ d₄ : List ℕ} → at + 16 ≤ length d → Small (as-cell k)
+pub cell_put : (d : List ℕ) (at : ℕ) (k : Cell) {a b c r : ℕ} {d₁ d₂ d₃ d₄ : List ℕ} → at + 16 ≤ length d → Small (as_cell k)
     → (a ≡ at + 4) × (d₁ ≡ written d at (bytes (k.tag + 256 * k.flag + 65536 * k.origin)))
     → (b ≡ a + 4) × (d₂ ≡ written d₁ a (bytes k.a))
     → (c ≡ b + 4) × (d₃ ≡ written d₂ b (bytes k.b))
     → (r ≡ c + 4) × (d₄ ≡ written d₃ c (bytes k.c))
-    → (r ≡ at + 16) × (d₄ ≡ written d at (cell-bytes (as-cell k)))
-cell-put d at k {a = a} {b = b} {c = c} room small (ea, p) (eb, q) (ec, s) (er, t) =
+    → (r ≡ at + 16) × (d₄ ≡ written d at (cell_bytes (as_cell k)))
+cell_put d at k {a = a} {b = b} {c = c} room small (ea, p) (eb, q) (ec, s) (er, t) =
     let w = bytes (k.tag + 256 * k.flag + 65536 * k.origin) in
-    let (l1, x1) = two d at a w 4 k.a (omega arith) (length-bytes (k.tag + 256 * k.flag + 65536 * k.origin)) ea p q in
+    let (l1, x1) = two d at a w 4 k.a (omega arith) (length_bytes (k.tag + 256 * k.flag + 65536 * k.origin)) ea p q in
     let (l2, x2) = two d at b (w ++ bytes k.a) 8 k.b (omega arith) l1 (omega arith) x1 s in
     let (l3, x3) = two d at c ((w ++ bytes k.a) ++ bytes k.b) 12 k.c (omega arith) l2 (omega arith) x2 t in
-    let e : ((w ++ bytes k.a) ++ bytes k.b) ++ bytes k.c ≡ cell-bytes (as-cell k) =
+    let e : ((w ++ bytes k.a) ++ bytes k.b) ++ bytes k.c ≡ cell_bytes (as_cell k) =
     ap (λ (l : List ℕ). ((l ++ bytes k.a) ++ bytes k.b) ++ bytes k.c) (head k.tag k.flag k.origin small.tag small.flag small.origin)
-    ∙ ap (λ (l : List ℕ). k.tag ∷ k.flag ∷ k.origin % 256 ∷ k.origin / 256 ∷ l) (append_assoc (bytes k.a) (bytes k.b) (bytes k.c)) ∙ sym (cell-is k) in
+    ∙ ap (λ (l : List ℕ). k.tag ∷ k.flag ∷ k.origin % 256 ∷ k.origin / 256 ∷ l) (append_assoc (bytes k.a) (bytes k.b) (bytes k.c)) ∙ sym (cell_is k) in
     (omega arith, x3 ∙ ap (written d at) e)
 
-pub trailer-put : (d : List ℕ) (at : ℕ) (p : Parts) (edition : ℕ) {a b c e r : ℕ} {d₁ d₂ d₃ d₄ d₅ : List ℕ} → at + 20 ≤ length d
+pub trailer_put : (d : List ℕ) (at : ℕ) (p : Parts) (edition : ℕ) {a b c e r : ℕ} {d₁ d₂ d₃ d₄ d₅ : List ℕ} → at + 20 ≤ length d
     → (a ≡ at + 4) × (d₁ ≡ written d at (bytes p.tables.at))
     → (b ≡ a + 4) × (d₂ ≡ written d₁ a (bytes p.columns.at))
     → (c ≡ b + 4) × (d₃ ≡ written d₂ b (bytes p.cells.at))
     → (e ≡ c + 4) × (d₄ ≡ written d₃ c (bytes edition))
     → (r ≡ e + 4) × (d₅ ≡ written d₄ e (bytes (e + 4)))
-    → (r ≡ at + 20) × (d₅ ≡ written d at (trailer-of p edition (at + 20)))
-trailer-put d at p edition {a = a} {b = b} {c = c} {e = e} room (ea, x) (eb, y) (ec, z) (ee, s) (er, t) =
+    → (r ≡ at + 20) × (d₅ ≡ written d at (trailer_of p edition (at + 20)))
+trailer_put d at p edition {a = a} {b = b} {c = c} {e = e} room (ea, x) (eb, y) (ec, z) (ee, s) (er, t) =
     let w = bytes p.tables.at in
     let v = bytes p.columns.at in
     let u = bytes p.cells.at in
-    let (l1, x1) = two d at a w 4 p.columns.at (omega arith) (length-bytes p.tables.at) ea x y in
+    let (l1, x1) = two d at a w 4 p.columns.at (omega arith) (length_bytes p.tables.at) ea x y in
     let (l2, x2) = two d at b (w ++ v) 8 p.cells.at (omega arith) l1 (omega arith) x1 z in
     let (l3, x3) = two d at c ((w ++ v) ++ u) 12 edition (omega arith) l2 (omega arith) x2 s in
     let (l4, x4) = two d at e (((w ++ v) ++ u) ++ bytes edition) 16 (e + 4) (omega arith) l3 (omega arith) x3 t in
     let total : e + 4 ≡ at + 20 = omega arith in
-    let f : (((w ++ v) ++ u) ++ bytes edition) ++ bytes (e + 4) ≡ trailer-of p edition (at + 20) = rw total (simp append_assoc) in
+    let f : (((w ++ v) ++ u) ++ bytes edition) ++ bytes (e + 4) ≡ trailer_of p edition (at + 20) = rw total (simp append_assoc) in
     (omega arith, x4 ∙ ap (written d at) f)

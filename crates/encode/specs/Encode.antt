@@ -2,25 +2,25 @@
 use Rattle.std.specs.Prelude.{ℕ, ◌+◌, ◌*◌, ◌≤◌, ◌<◌, ◌≡◌, List, [], ◌∷◌, ◌++◌, length, take, drop}
 use Rattle.sql.specs.Plan.{Node}
 use Rattle.sheet.specs.Bytes.{bytes}
-use Rattle.sheet.specs.Parts.{table-count}
+use Rattle.sheet.specs.Parts.{table_count}
 use Rattle.sheet.specs.Cell as Sheet
 use Rattle.sheet.specs.Check.{text}
-use Rattle.sheet.specs.Write.{cells-bytes, write}
-use Rattle.sheet_laws.specs.Fits.{All, Fits, Origins-below}
+use Rattle.sheet.specs.Write.{cells_bytes, write}
+use Rattle.sheet_laws.specs.Fits.{All, Fits, OriginsBelow}
 use Rattle.layout.specs.Layout.{Whole}
 use Rattle.layout.specs.declared.Parts.{Parts}
 use Rattle.cells.specs.declared.Cell.{Cell}
-use Rattle.words.specs.Words.{node-words}
+use Rattle.words.specs.Words.{node_words}
 use Rattle.words.specs.Place.{NodeHere}
-use Rattle.cells.specs.Cells.{cell-words}
+use Rattle.cells.specs.Cells.{cell_words}
 
 -- d with w from byte `at` on
 abbrev pub written : (d : List ℕ) (at : ℕ) (w : List ℕ) → List ℕ
 written d at w = take at d ++ (w ++ drop (at + length w) d)
 
 -- a cell of the working form as one of a sheet
-abbrev pub as-cell : Cell → Sheet.Cell
-as-cell k = record { tag = k.tag; flag = k.flag; origin = k.origin; a = k.a; b = k.b; c = k.c }
+abbrev pub as_cell : Cell → Sheet.Cell
+as_cell k = record { tag = k.tag; flag = k.flag; origin = k.origin; a = k.a; b = k.b; c = k.c }
 
 -- The cells that words say, seven words a cell: the last, its size, is not in a sheet.
 unfoldable pub cells_in : List ℕ → List Sheet.Cell
@@ -42,32 +42,32 @@ pub record Small (k : Sheet.Cell) : Type 0 where
 -- The first n words of x are cells that can stand in a sheet, and d has room for them from byte `at` on.
 pub record CellsAt (x : List ℕ) (n : ℕ) (d : List ℕ) (at : ℕ) : Type 0 where
   pub inside : n ≤ length x
-  pub whole : n ≡ cell-words * length (cells_in (take n x))
+  pub whole : n ≡ cell_words * length (cells_in (take n x))
   pub small : All Small (cells_in (take n x))
   pub room : at + 16 * length (cells_in (take n x)) ≤ length d
 
 -- the trailer of a sheet of this edition and so many bytes with these parts
-abbrev pub trailer-of : Parts → (edition total : ℕ) → List ℕ
-trailer-of p edition total = bytes p.tables.at ++ (bytes p.columns.at ++ (bytes p.cells.at ++ (bytes edition ++ bytes total)))
+abbrev pub trailer_of : Parts → (edition total : ℕ) → List ℕ
+trailer_of p edition total = bytes p.tables.at ++ (bytes p.columns.at ++ (bytes p.cells.at ++ (bytes edition ++ bytes total)))
 
 -- ---- contracts
 
 -- Some plan has n words.
 pub record PlanLong (n : ℕ) : Type 0 where
   pub node : Node
-  pub long : length (node-words node) ≡ n
+  pub long : length (node_words node) ≡ n
 
 -- r is the number of bytes of the sheet that any plan of n words is written as.
 abbrev pub Lengths : (s : List ℕ) (n r : ℕ) → Type 0
-Lengths s n r = (m : Node) → length (node-words m) ≡ n → r ≡ length (write s m)
+Lengths s n r = (m : Node) → length (node_words m) ≡ n → r ≡ length (write s m)
 
 -- Some plan that can stand in a sheet like s is what the first n words of x say, and d is long enough for that sheet.
 pub record Encodable (s x : List ℕ) (n : ℕ) (d : List ℕ) : Type 0 where
   pub whole : Whole s
   pub node : Node
   pub here : NodeHere x 0 n node
-  pub fits : Fits (text s) (table-count s) node
-  pub origins-are : Origins-below (Sheet.origins s) node
+  pub fits : Fits (text s) (table_count s) node
+  pub origins_are : OriginsBelow (Sheet.origins s) node
   pub room : length (write s node) ≤ length d
 
 -- The first r bytes of d' are the sheet that the plan is written as, and those after it are as in d.

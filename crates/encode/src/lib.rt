@@ -1,10 +1,10 @@
 // From the working form to a sheet: the text and the records of the sheet handed in, the cells of the plan, and the trailer.
 ghost use Rattle.std.specs.Prelude.{◌≡◌, ◌+◌, ◌*◌, ◌≤◌, ◌<◌, length, take};
 ghost use Rattle.sheet.specs.Bytes.{bytes};
-ghost use Rattle.sheet.specs.Write.{cell-bytes, cells-bytes};
+ghost use Rattle.sheet.specs.Write.{cell_bytes, cells_bytes};
 ghost use Rattle.layout.specs.Layout.{Whole};
-ghost use Rattle.cells.specs.Room.{most-words};
-ghost use Rattle.encode.specs.Encode.{written, as-cell, cells_in, trailer-of, Small, CellsAt, PlanLong, Lengths, Encodable, Encodes};
+ghost use Rattle.cells.specs.Room.{most_words};
+ghost use Rattle.encode.specs.Encode.{written, as_cell, cells_in, trailer_of, Small, CellsAt, PlanLong, Lengths, Encodable, Encodes};
 
 // The 4 bytes of a number.
 pub fn put_word(out: &mut [u8], at: usize, w: usize) -> usize
@@ -20,8 +20,8 @@ pub fn put_word(out: &mut [u8], at: usize, w: usize) -> usize
 
 // The 16 bytes of a cell: tag, flag and origin are one number.
 fn put_cell(out: &mut [u8], at: usize, k: cells::Cell) -> usize
-    requires { (at + 16 ≤ length out.old) × Small (as-cell k) }
-    ensures { (result ≡ at + 16) × (out.new ≡ written out.old at (cell-bytes (as-cell k))) }
+    requires { (at + 16 ≤ length out.old) × Small (as_cell k) }
+    ensures { (result ≡ at + 16) × (out.new ≡ written out.old at (cell_bytes (as_cell k))) }
 {
     let a = put_word(
         out,
@@ -36,7 +36,7 @@ fn put_cell(out: &mut [u8], at: usize, k: cells::Cell) -> usize
 // The cells that the first n words of x say, without their sizes.
 fn put_cells(x: &[u32], n: usize, out: &mut [u8], at: usize) -> usize
     requires { CellsAt x.now n out.old at }
-    ensures { (result ≡ at + 16 * length (cells_in (take n x.now))) × (out.new ≡ written out.old at (cells-bytes (cells_in (take n x.now)))) }
+    ensures { (result ≡ at + 16 * length (cells_in (take n x.now))) × (out.new ≡ written out.old at (cells_bytes (cells_in (take n x.now)))) }
 {
     let mut to = at;
     let mut i: usize = 0;
@@ -64,7 +64,7 @@ fn put_start(s: &[u8], n: usize, out: &mut [u8]) -> usize
 // The trailer of a sheet of this edition that ends with it.
 fn put_trailer(out: &mut [u8], at: usize, p: layout::Parts, edition: usize) -> usize
     requires { at + 20 ≤ length out.old }
-    ensures { (result ≡ at + 20) × (out.new ≡ written out.old at (trailer-of p edition (at + 20))) }
+    ensures { (result ≡ at + 20) × (out.new ≡ written out.old at (trailer_of p edition (at + 20))) }
 {
     let a = put_word(out, at, p.tables.at);
     let b = put_word(out, a, p.columns.at);
@@ -75,7 +75,7 @@ fn put_trailer(out: &mut [u8], at: usize, p: layout::Parts, edition: usize) -> u
 
 // How many bytes the sheet has that a plan of n words is written as.
 pub fn encoded_length(s: &[u8], n: usize) -> usize
-    requires whole { Whole s.now × (n ≤ most-words) }
+    requires whole { Whole s.now × (n ≤ most_words) }
     requires plan_long { PlanLong n }
     ensures { Lengths s.now n result }
 {

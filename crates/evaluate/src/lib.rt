@@ -4,7 +4,7 @@ ghost use Rattle.value.specs.Meaning.{meaning};
 ghost use Rattle.sheet.specs.Cell.{wide};
 ghost use Rattle.sheet.specs.Content.{constant_cell};
 ghost use Rattle.words.specs.Words.{cell};
-ghost use Rattle.evaluate.specs.Evaluate.{of-halves, ConstantCell, Reads, UnaryTag, BinaryTag, EvaluatesUnary, EvaluatesBinary};
+ghost use Rattle.evaluate.specs.Evaluate.{of_halves, ConstantCell, Reads, UnaryTag, BinaryTag, EvaluatesUnary, EvaluatesBinary};
 
 use cells::Cell;
 use value::{Result, Value};
@@ -52,7 +52,7 @@ fn joined(low: u32, high: u32) -> u64
 
 // The cell with this tag, the halves of a number of 64 bits, and this origin.
 fn constant(tag: u32, bits: u64, origin: u32) -> Cell
-    ensures { result ≡ of-halves origin tag bits }
+    ensures { result ≡ of_halves origin tag bits }
 {
     Cell {
         origin,

@@ -20,7 +20,7 @@ fn each_source(
 ) -> usize
     requires pass_at { PassAt tables.now x.old t lo tail }
     requires buffers { Buffers x.old y.old z.old w.old }
-    ensures { Passes (λ room schema. Room.each-source room schema (Room.push-filters-from room schema n)) tables.now x.old t lo tail result x.new }
+    ensures { Passes (λ room schema. Room.each_source room schema (Room.push_filters_from room schema n)) tables.now x.old t lo tail result x.new }
 {
     let count = nodes::source_count(x, lo, t - tail);
     if count == 0 {
@@ -61,7 +61,7 @@ fn push_source(
 ) -> usize
     requires pass_at { PassAt tables.now x.old t lo tail }
     requires buffers { Buffers x.old y.old z.old w.old }
-    ensures { Passes (λ room schema. Room.push-filters-from room schema n) tables.now x.old t lo tail result x.new }
+    ensures { Passes (λ room schema. Room.push_filters_from room schema n) tables.now x.old t lo tail result x.new }
 {
     if t - tail - lo == cells::CELL_WORDS {
         return t;
@@ -85,7 +85,7 @@ fn push_filters_from(
 ) -> usize
     requires pass_at { PassAt tables.now x.old t lo tail }
     requires buffers { Buffers x.old y.old z.old w.old }
-    ensures { Passes (λ room schema. Room.push-filters-from room schema n) tables.now x.old t lo tail result x.new }
+    ensures { Passes (λ room schema. Room.push_filters_from room schema n) tables.now x.old t lo tail result x.new }
 {
     let deep = chain::descend(x, n, lo, t - tail);
     if deep.left == 0 {

@@ -7,28 +7,28 @@ use mathlib.Core.Path.{◌≡◌, refl, sym, ap, ◌∙◌, subst}
 use mathlib.Core.List.{List, [], ◌∷◌, ◌++◌}
 use lib.ListN.{get_or}
 use Rattle.sql.specs.Schema.{Schema}
-use Rattle.sql.specs.Expression.{Expression, ands, is-column-lookup}
-use Rattle.sql.specs.Optimizer.{Found, with-index, found_here, find-lookup}
-use Rattle.cells.specs.Cells.{cell-words, tag_at, start-at}
+use Rattle.sql.specs.Expression.{Expression, ands, is_column_lookup}
+use Rattle.sql.specs.Optimizer.{Found, with_index, found_here, find_lookup}
+use Rattle.cells.specs.Cells.{cell_words, tag_at, start_at}
 use Rattle.words.specs.Words.{root}
 use Rattle.words.specs.Place.{ExpressionHere}
-use Rattle.words.proofs.Expressions.{tag, by-binary, root-tag, here_in, here-left, here-right}
+use Rattle.words.proofs.Expressions.{tag, by_binary, root_tag, here_in, here_left, here_right}
 use Rattle.column_lookup.specs.declared.Lookup.{Lookup}
 use Rattle.column_lookup.specs.declared.Lookup.TheVariants as Lookup
 use Rattle.column_lookup.specs.Lookup.{found, LooksUp}
-use Rattle.conjuncts.proofs.Lists.{ands-and, ands-one}
+use Rattle.conjuncts.proofs.Lists.{ands_and, ands_one}
 use Rattle.first_lookup.specs.declared.FoundLookup.{FoundLookup}
 use Rattle.first_lookup.specs.declared.FoundLookup.TheVariants.{At, None}
-use Rattle.first_lookup.specs.First.{Marks, with-mark, first-here, first-marked, Stands, FindsFirst, by-mark, FindsOne}
+use Rattle.first_lookup.specs.First.{Marks, with_mark, first_here, first_marked, Stands, FindsFirst, by_mark, FindsOne}
 
 -- the first of two lists' lookups, with what remains of both lists
 abbrev after : List Expression → List Expression → Option Found → Option Found → Option Found
-after xs ys (some f) g = some (record { column-number = f.column-number; conjunct = f.conjunct; remaining = f.remaining ++ ys })
+after xs ys (some f) g = some (record { column_number = f.column_number; conjunct = f.conjunct; remaining = f.remaining ++ ys })
 after xs ys none none = none
-after xs ys none (some g) = some (record { column-number = g.column-number; conjunct = g.conjunct; remaining = xs ++ g.remaining })
+after xs ys none (some g) = some (record { column_number = g.column_number; conjunct = g.conjunct; remaining = xs ++ g.remaining })
 
 step : (e : Expression) (xs ys : List Expression) (w : Option ℕ) (f g : Option Found)
-    → first-here e (xs ++ ys) w (after xs ys f g) ≡ after (e ∷ xs) ys (first-here e xs w f) g
+    → first_here e (xs ++ ys) w (after xs ys f g) ≡ after (e ∷ xs) ys (first_here e xs w f) g
 step e xs ys (some c) f g = refl
 step e xs ys none (some f) g = refl
 step e xs ys none none none = refl
@@ -38,24 +38,24 @@ none_before : (ys : List Expression) (g : Option Found) → g ≡ after [] ys no
 none_before ys none = refl
 none_before ys (some g) = refl
 
-first-append : (marks : List Bool) (xs ys : List Expression) → first-marked marks (xs ++ ys) ≡ after xs ys (first-marked marks xs) (first-marked marks ys)
-first-append marks [] ys = none_before ys (first-marked marks ys)
-first-append marks (x ∷ xs) ys =
-    let w = with-mark marks (is-column-lookup x) in
-    ap (first-here x (xs ++ ys) w) (first-append marks xs ys) ∙ step x xs ys w (first-marked marks xs) (first-marked marks ys)
+first_append : (marks : List Bool) (xs ys : List Expression) → first_marked marks (xs ++ ys) ≡ after xs ys (first_marked marks xs) (first_marked marks ys)
+first_append marks [] ys = none_before ys (first_marked marks ys)
+first_append marks (x ∷ xs) ys =
+    let w = with_mark marks (is_column_lookup x) in
+    ap (first_here x (xs ++ ys) w) (first_append marks xs ys) ∙ step x xs ys w (first_marked marks xs) (first_marked marks ys)
 
--- ---- Where the marks are a table's, the first lookup of a marked column is the one that find-lookup finds.
+-- ---- Where the marks are a table's, the first lookup of a marked column is the one that find_lookup finds.
 module _ (schema : Schema) (table : ℕ) (marks : List Bool) (m : Marks schema table marks) where
-  with-is : (o : Option ℕ) → with-index schema table o ≡ with-mark marks o
-  with-is none = refl
-  with-is (some c) = ap (λ (t : Bool). cond t (some c) none) (m c)
+  with_is : (o : Option ℕ) → with_index schema table o ≡ with_mark marks o
+  with_is none = refl
+  with_is (some c) = ap (λ (t : Bool). cond t (some c) none) (m c)
 
-  pub first-is : (es : List Expression) → find-lookup schema table es ≡ first-marked marks es
-  first-is [] = refl
-  first-is (e ∷ es) =
-      let o = is-column-lookup e in
-      ap (found_here schema table e es (with-index schema table o)) (first-is es)
-      ∙ ap (λ (w : Option ℕ). first-here e es w (first-marked marks es)) (with-is o)
+  pub first_is : (es : List Expression) → find_lookup schema table es ≡ first_marked marks es
+  first_is [] = refl
+  first_is (e ∷ es) =
+      let o = is_column_lookup e in
+      ap (found_here schema table e es (with_index schema table o)) (first_is es)
+      ∙ ap (λ (w : Option ℕ). first_here e es w (first_marked marks es)) (with_is o)
 
 -- ---- of two operands
 
@@ -77,55 +77,55 @@ later s lo hi mid None xs ys none none h k = k
 later s lo hi mid None xs ys none (some g) h k = k
 
 module _ (marks : List Bool) {s : List ℕ} {lo hi : ℕ} where
-  module _ {mid : ℕ} (st : mid ≡ start-at s (hi - cell-words)) (h : tag_at s hi ≡ 10) where
+  module _ {mid : ℕ} (st : mid ≡ start_at s (hi - cell_words)) (h : tag_at s hi ≡ 10) where
     in_two : (q : FoundLookup)
-        → ((l r : Expression) → ExpressionHere s lo mid l → ExpressionHere s mid (hi - cell-words) r → Stands s lo hi q (after (ands l) (ands r) (first-marked marks (ands l)) (first-marked marks (ands r))))
+        → ((l r : Expression) → ExpressionHere s lo mid l → ExpressionHere s mid (hi - cell_words) r → Stands s lo hi q (after (ands l) (ands r) (first_marked marks (ands l)) (first_marked marks (ands r))))
         → FindsFirst marks s lo hi q
-    in_two q f e u = by-binary (λ e. ExpressionHere s lo hi e → tag (root e) ≡ 10 → Stands s lo hi q (first-marked marks (ands e)))
-        (λ og o l r t z. subst (λ (p : Option Found). Stands s lo hi q p) (sym (ap (first-marked marks) (ands-and og o l r z) ∙ first-append marks (ands l) (ands r)))
-        (f l r (here-left st og o l r t) (here-right st og o l r t)))
-        e (omega (arith, root-tag e u)) (omega (arith, root-tag e u)) u (sym (root-tag e u) ∙ h)
+    in_two q f e u = by_binary (λ e. ExpressionHere s lo hi e → tag (root e) ≡ 10 → Stands s lo hi q (first_marked marks (ands e)))
+        (λ og o l r t z. subst (λ (p : Option Found). Stands s lo hi q p) (sym (ap (first_marked marks) (ands_and og o l r z) ∙ first_append marks (ands l) (ands r)))
+        (f l r (here_left st og o l r t) (here_right st og o l r t)))
+        e (omega (arith, root_tag e u)) (omega (arith, root_tag e u)) u (sym (root_tag e u) ∙ h)
 
-    pub first-earlier : {r : FoundLookup} {a b c : ℕ} → r ≡ At a b c → FindsFirst marks s lo mid r → FindsFirst marks s lo hi (At a b c)
-    first-earlier {r} {a} {b} {c} q f = in_two (At a b c) (λ x y u v.
-        earlier s lo hi a b c (ands x) (ands y) (first-marked marks (ands x)) (first-marked marks (ands y))
-        (wider s lo hi (omega arith) (omega (arith, here_in y v)) (At a b c) (first-marked marks (ands x))
-        (subst (λ (p : FoundLookup). Stands s lo mid p (first-marked marks (ands x))) q (f x u))))
+    pub first_earlier : {r : FoundLookup} {a b c : ℕ} → r ≡ At a b c → FindsFirst marks s lo mid r → FindsFirst marks s lo hi (At a b c)
+    first_earlier {r} {a} {b} {c} q f = in_two (At a b c) (λ x y u v.
+        earlier s lo hi a b c (ands x) (ands y) (first_marked marks (ands x)) (first_marked marks (ands y))
+        (wider s lo hi (omega arith) (omega (arith, here_in y v)) (At a b c) (first_marked marks (ands x))
+        (subst (λ (p : FoundLookup). Stands s lo mid p (first_marked marks (ands x))) q (f x u))))
 
-    pub first-later : {r : FoundLookup} (q : FoundLookup) → r ≡ None → FindsFirst marks s lo mid r → FindsFirst marks s mid (hi - cell-words) q → FindsFirst marks s lo hi q
-    first-later q z f g = in_two q (λ x y u v.
-        later s lo hi mid q (ands x) (ands y) (first-marked marks (ands x)) (first-marked marks (ands y))
-        (subst (λ (p : FoundLookup). Stands s lo mid p (first-marked marks (ands x))) z (f x u))
-        (wider s lo hi (omega (arith, here_in x u)) (omega arith) q (first-marked marks (ands y)) (g y v)))
+    pub first_later : {r : FoundLookup} (q : FoundLookup) → r ≡ None → FindsFirst marks s lo mid r → FindsFirst marks s mid (hi - cell_words) q → FindsFirst marks s lo hi q
+    first_later q z f g = in_two q (λ x y u v.
+        later s lo hi mid q (ands x) (ands y) (first_marked marks (ands x)) (first_marked marks (ands y))
+        (subst (λ (p : FoundLookup). Stands s lo mid p (first_marked marks (ands x))) z (f x u))
+        (wider s lo hi (omega (arith, here_in x u)) (omega arith) q (first_marked marks (ands y)) (g y v)))
 
   -- ---- of one conjunct
 
   module _ (e : Expression) (u : ExpressionHere s lo hi e) where
-    marked : (c : ℕ) (t : Bool) → Stands s lo hi (cond t (At lo hi c) None) (first-here e [] (cond t (some c) none) none)
+    marked : (c : ℕ) (t : Bool) → Stands s lo hi (cond t (At lo hi c) None) (first_here e [] (cond t (some c) none) none)
     marked c true = ((omega arith, omega arith), (refl, u))
     marked c false = tt
 
-    one-stands : (o : Option ℕ) → Stands s lo hi (by-mark marks lo hi o) (first-here e [] (with-mark marks o) none)
-    one-stands none = tt
-    one-stands (some c) = marked c (get_or marks c false)
+    one_stands : (o : Option ℕ) → Stands s lo hi (by_mark marks lo hi o) (first_here e [] (with_mark marks o) none)
+    one_stands none = tt
+    one_stands (some c) = marked c (get_or marks c false)
 
   pub first_one : (tag_at s hi ≡ 10 → ⊥) → {r : FoundLookup} → FindsOne marks s lo hi r → FindsFirst marks s lo hi r
-  first_one h {r} f e u = subst (λ (xs : List Expression). Stands s lo hi r (first-marked marks xs)) (sym (ands-one e (λ z. h (root-tag e u ∙ z))))
-      (subst (λ (q : FoundLookup). Stands s lo hi q (first-here e [] (with-mark marks (is-column-lookup e)) none)) (sym (f e u))
-      (one-stands e u (is-column-lookup e)))
+  first_one h {r} f e u = subst (λ (xs : List Expression). Stands s lo hi r (first_marked marks xs)) (sym (ands_one e (λ z. h (root_tag e u ∙ z))))
+      (subst (λ (q : FoundLookup). Stands s lo hi q (first_here e [] (with_mark marks (is_column_lookup e)) none)) (sym (f e u))
+      (one_stands e u (is_column_lookup e)))
 
   -- ---- by the lookup's column
 
   pub one_none : {r : Lookup} → r ≡ Lookup.None → LooksUp s lo hi r → FindsOne marks s lo hi None
-  one_none q f e u = ap (λ (x : Lookup). by-mark marks lo hi (found x)) (sym q) ∙ ap (by-mark marks lo hi) (f e u)
+  one_none q f e u = ap (λ (x : Lookup). by_mark marks lo hi (found x)) (sym q) ∙ ap (by_mark marks lo hi) (f e u)
 
   module _ {r : Lookup} {c : ℕ} (q : r ≡ Lookup.Column c) (f : LooksUp s lo hi r) {b : Bool} (k : b ≡ get_or marks c false) where
-    one-by : {t : Bool} → b ≡ t → FindsOne marks s lo hi (cond t (At lo hi c) None)
-    one-by z e u = ap (λ (t : Bool). cond t (At lo hi c) None) (sym z ∙ k)
-        ∙ (ap (λ (x : Lookup). by-mark marks lo hi (found x)) (sym q) ∙ ap (by-mark marks lo hi) (f e u))
+    one_by : {t : Bool} → b ≡ t → FindsOne marks s lo hi (cond t (At lo hi c) None)
+    one_by z e u = ap (λ (t : Bool). cond t (At lo hi c) None) (sym z ∙ k)
+        ∙ (ap (λ (x : Lookup). by_mark marks lo hi (found x)) (sym q) ∙ ap (by_mark marks lo hi) (f e u))
 
-    pub one-marked : b ≡ true → FindsOne marks s lo hi (At lo hi c)
-    one-marked z = one-by z
+    pub one_marked : b ≡ true → FindsOne marks s lo hi (At lo hi c)
+    one_marked z = one_by z
 
-    pub one-unmarked : b ≡ false → FindsOne marks s lo hi None
-    one-unmarked z = one-by z
+    pub one_unmarked : b ≡ false → FindsOne marks s lo hi None
+    one_unmarked z = one_by z

@@ -6,138 +6,138 @@ use mathlib.Core.Option.{Option, none, some}
 use mathlib.Core.Path.{◌≡◌, refl, sym, ap, ◌∙◌, subst}
 use mathlib.Core.List.{List, [], ◌∷◌, ◌++◌}
 use lib.ListN.{length, get_or}
-use Rattle.sql.specs.Expression.{Expression, ands, is-column-lookup, shift-column-down}
-use Rattle.sql.specs.Optimizer.{Found, cons-if}
-use Rattle.cells.specs.Cells.{cell-words, tag_at, start-at}
+use Rattle.sql.specs.Expression.{Expression, ands, is_column_lookup, shift_column_down}
+use Rattle.sql.specs.Optimizer.{Found, cons_if}
+use Rattle.cells.specs.Cells.{cell_words, tag_at, start_at}
 use Rattle.words.specs.Words.{root}
 use Rattle.words.specs.Place.{ExpressionHere, ExpressionAt}
-use Rattle.words.proofs.Expressions.{tag, by-binary, root-tag, here-left, here-right}
+use Rattle.words.proofs.Expressions.{tag, by_binary, root_tag, here_left, here_right}
 use Rattle.conjuncts.specs.Conjuncts.{GatheredAt, Appends, AppendsEach}
-use Rattle.conjuncts.proofs.Lists.{ands-and, ands-one, shift_none}
-use Rattle.conjuncts.proofs.Appending.{appends-none, appends-then, gathered-more}
+use Rattle.conjuncts.proofs.Lists.{ands_and, ands_one, shift_none}
+use Rattle.conjuncts.proofs.Appending.{appends_none, appends_then, gathered_more}
 use Rattle.first_lookup.specs.declared.FoundLookup.{FoundLookup}
 use Rattle.first_lookup.specs.declared.FoundLookup.TheVariants.{At, None}
 use Rattle.first_lookup.specs.declared.Rest.{Rest}
-use Rattle.first_lookup.specs.First.{is-marked, with-mark, first-here, first-marked, by-mark, FindsOne, remaining, meets, Left, LeavesOne, Leaves}
+use Rattle.first_lookup.specs.First.{is_marked, with_mark, first_here, first_marked, by_mark, FindsOne, remaining, meets, Left, LeavesOne, Leaves}
 
-no-some : {A B : Type 0} {a : A} → none ≡ some a → B
-no-some h = absurd (let z : ◌≡◌ {A = ℕ} 0 1 = cc in omega arith)
+no_some : {A B : Type 0} {a : A} → none ≡ some a → B
+no_some h = absurd (let z : ◌≡◌ {A = ℕ} 0 1 = cc in omega arith)
 
 no_place : {B : Type 0} {a b c : ℕ} → None ≡ At a b c → B
 no_place h = absurd (let z : ◌≡◌ {A = ℕ} 0 1 = cc in omega arith)
 
 -- ---- lists
 
-cons-append : (t : Bool) (x : Expression) (xs ys : List Expression) → cons-if t x (xs ++ ys) ≡ cons-if t x xs ++ ys
-cons-append true x xs ys = refl
-cons-append false x xs ys = refl
+cons_append : (t : Bool) (x : Expression) (xs ys : List Expression) → cons_if t x (xs ++ ys) ≡ cons_if t x xs ++ ys
+cons_append true x xs ys = refl
+cons_append false x xs ys = refl
 
-remaining-append : (marks : List Bool) (met : Bool) (xs ys : List Expression) → remaining marks met (xs ++ ys) ≡ remaining marks met xs ++ remaining marks (meets marks met xs) ys
-remaining-append marks met [] ys = refl
-remaining-append marks met (x ∷ xs) ys =
-    let b = is-marked marks (is-column-lookup x) in
-    ap (cons-if (met || not b) x) (remaining-append marks (met || b) xs ys)
-    ∙ cons-append (met || not b) x (remaining marks (met || b) xs) (remaining marks (meets marks (met || b) xs) ys)
+remaining_append : (marks : List Bool) (met : Bool) (xs ys : List Expression) → remaining marks met (xs ++ ys) ≡ remaining marks met xs ++ remaining marks (meets marks met xs) ys
+remaining_append marks met [] ys = refl
+remaining_append marks met (x ∷ xs) ys =
+    let b = is_marked marks (is_column_lookup x) in
+    ap (cons_if (met || not b) x) (remaining_append marks (met || b) xs ys)
+    ∙ cons_append (met || not b) x (remaining marks (met || b) xs) (remaining marks (meets marks (met || b) xs) ys)
 
-meets-append : (marks : List Bool) (met : Bool) (xs ys : List Expression) → meets marks met (xs ++ ys) ≡ meets marks (meets marks met xs) ys
-meets-append marks met [] ys = refl
-meets-append marks met (x ∷ xs) ys = meets-append marks (met || is-marked marks (is-column-lookup x)) xs ys
+meets_append : (marks : List Bool) (met : Bool) (xs ys : List Expression) → meets marks met (xs ++ ys) ≡ meets marks (meets marks met xs) ys
+meets_append marks met [] ys = refl
+meets_append marks met (x ∷ xs) ys = meets_append marks (met || is_marked marks (is_column_lookup x)) xs ys
 
-all-remain : (marks : List Bool) (es : List Expression) → remaining marks true es ≡ es
-all-remain marks [] = refl
-all-remain marks (e ∷ es) = ap (λ l. e ∷ l) (all-remain marks es)
+all_remain : (marks : List Bool) (es : List Expression) → remaining marks true es ≡ es
+all_remain marks [] = refl
+all_remain marks (e ∷ es) = ap (λ l. e ∷ l) (all_remain marks es)
 
 -- ---- What remains is what the first lookup leaves.
 module _ (marks : List Bool) where
-  unfound : (e : Expression) (es : List Expression) (f : Found) (g : Option Found) → first-marked marks es ≡ g
-      → ((h : Found) → first-marked marks es ≡ some h → remaining marks false es ≡ h.remaining)
-      → first-here e es none g ≡ some f → e ∷ remaining marks false es ≡ f.remaining
-  unfound e es f none q ih k = no-some k
+  unfound : (e : Expression) (es : List Expression) (f : Found) (g : Option Found) → first_marked marks es ≡ g
+      → ((h : Found) → first_marked marks es ≡ some h → remaining marks false es ≡ h.remaining)
+      → first_here e es none g ≡ some f → e ∷ remaining marks false es ≡ f.remaining
+  unfound e es f none q ih k = no_some k
   unfound e es f (some h) q ih k =
-      let z : ◌≡◌ {A = Found} (record { column-number = h.column-number; conjunct = h.conjunct; remaining = e ∷ h.remaining }) f = cc in
+      let z : ◌≡◌ {A = Found} (record { column_number = h.column_number; conjunct = h.conjunct; remaining = e ∷ h.remaining }) f = cc in
       ap (λ l. e ∷ l) (ih h q) ∙ ap (λ (x : Found). x.remaining) z
 
-  by-test : (e : Expression) (es : List Expression) (f : Found) (c : ℕ) (t : Bool)
-      → ((h : Found) → first-marked marks es ≡ some h → remaining marks false es ≡ h.remaining)
-      → first-here e es (cond t (some c) none) (first-marked marks es) ≡ some f
-      → cons-if (false || not t) e (remaining marks (false || t) es) ≡ f.remaining
-  by-test e es f c true ih k =
-      let z : ◌≡◌ {A = Found} (record { column-number = c; conjunct = e; remaining = es }) f = cc in all-remain marks es ∙ ap (λ (x : Found). x.remaining) z
-  by-test e es f c false ih k = unfound e es f (first-marked marks es) refl ih k
+  by_test : (e : Expression) (es : List Expression) (f : Found) (c : ℕ) (t : Bool)
+      → ((h : Found) → first_marked marks es ≡ some h → remaining marks false es ≡ h.remaining)
+      → first_here e es (cond t (some c) none) (first_marked marks es) ≡ some f
+      → cons_if (false || not t) e (remaining marks (false || t) es) ≡ f.remaining
+  by_test e es f c true ih k =
+      let z : ◌≡◌ {A = Found} (record { column_number = c; conjunct = e; remaining = es }) f = cc in all_remain marks es ∙ ap (λ (x : Found). x.remaining) z
+  by_test e es f c false ih k = unfound e es f (first_marked marks es) refl ih k
 
-  by-lookup : (e : Expression) (es : List Expression) (f : Found) (o : Option ℕ)
-      → ((h : Found) → first-marked marks es ≡ some h → remaining marks false es ≡ h.remaining)
-      → first-here e es (with-mark marks o) (first-marked marks es) ≡ some f
-      → cons-if (false || not (is-marked marks o)) e (remaining marks (false || is-marked marks o) es) ≡ f.remaining
-  by-lookup e es f none ih k = unfound e es f (first-marked marks es) refl ih k
-  by-lookup e es f (some c) ih k = by-test e es f c (get_or marks c false) ih k
+  by_lookup : (e : Expression) (es : List Expression) (f : Found) (o : Option ℕ)
+      → ((h : Found) → first_marked marks es ≡ some h → remaining marks false es ≡ h.remaining)
+      → first_here e es (with_mark marks o) (first_marked marks es) ≡ some f
+      → cons_if (false || not (is_marked marks o)) e (remaining marks (false || is_marked marks o) es) ≡ f.remaining
+  by_lookup e es f none ih k = unfound e es f (first_marked marks es) refl ih k
+  by_lookup e es f (some c) ih k = by_test e es f c (get_or marks c false) ih k
 
-  pub remaining-is : (es : List Expression) (f : Found) → first-marked marks es ≡ some f → remaining marks false es ≡ f.remaining
-  remaining-is [] f k = no-some k
-  remaining-is (e ∷ es) f k = by-lookup e es f (is-column-lookup e) (remaining-is es) k
+  pub remaining_is : (es : List Expression) (f : Found) → first_marked marks es ≡ some f → remaining marks false es ≡ f.remaining
+  remaining_is [] f k = no_some k
+  remaining_is (e ∷ es) f k = by_lookup e es f (is_column_lookup e) (remaining_is es) k
 
 -- ---- of two operands, and of one conjunct
 
 module _ (new : ℕ) (marks : List Bool) (met : Bool) {s : List ℕ} {lo hi : ℕ} {d : List ℕ} {from at : ℕ} where
-  pub leaves-and : {mid : ℕ} → mid ≡ start-at s (hi - cell-words) → tag_at s hi ≡ 10 → {p r : Rest} {d₁ d₂ : List ℕ} → length d₁ ≡ length d
-      → Leaves new marks met s lo mid d from at p d₁ → Leaves new marks p.met s mid (hi - cell-words) d₁ from p.at r d₂ → Leaves new marks met s lo hi d from at r d₂
-  leaves-and st h {p} {r} {d₁} {d₂} k f g e u = by-binary (λ e. ExpressionHere s lo hi e → tag (root e) ≡ 10 → Left new d from at (remaining marks met (ands e)) (meets marks met (ands e)) r d₂)
+  pub leaves_and : {mid : ℕ} → mid ≡ start_at s (hi - cell_words) → tag_at s hi ≡ 10 → {p r : Rest} {d₁ d₂ : List ℕ} → length d₁ ≡ length d
+      → Leaves new marks met s lo mid d from at p d₁ → Leaves new marks p.met s mid (hi - cell_words) d₁ from p.at r d₂ → Leaves new marks met s lo hi d from at r d₂
+  leaves_and st h {p} {r} {d₁} {d₂} k f g e u = by_binary (λ e. ExpressionHere s lo hi e → tag (root e) ≡ 10 → Left new d from at (remaining marks met (ands e)) (meets marks met (ands e)) r d₂)
       (λ og o x y t z.
-      let a = f x (here-left st og o x y t) in
-      let b = subst (λ (i : Bool). Left new d₁ from p.at (remaining marks i (ands y)) (meets marks i (ands y)) r d₂) a.meeting (g y (here-right st og o x y t)) in
-      subst (λ (xs : List Expression). Left new d from at (remaining marks met xs) (meets marks met xs) r d₂) (sym (ands-and og o x y z))
+      let a = f x (here_left st og o x y t) in
+      let b = subst (λ (i : Bool). Left new d₁ from p.at (remaining marks i (ands y)) (meets marks i (ands y)) r d₂) a.meeting (g y (here_right st og o x y t)) in
+      subst (λ (xs : List Expression). Left new d from at (remaining marks met xs) (meets marks met xs) r d₂) (sym (ands_and og o x y z))
       (record {
-        appends = subst (λ (l : List Expression). Appends new d from at l r.at d₂) (sym (remaining-append marks met (ands x) (ands y)))
-            (appends-then k new (remaining marks met (ands x)) (remaining marks (meets marks met (ands x)) (ands y)) a.appends b.appends);
-        meeting = b.meeting ∙ sym (meets-append marks met (ands x) (ands y));
+        appends = subst (λ (l : List Expression). Appends new d from at l r.at d₂) (sym (remaining_append marks met (ands x) (ands y)))
+            (appends_then k new (remaining marks met (ands x)) (remaining marks (meets marks met (ands x)) (ands y)) a.appends b.appends);
+        meeting = b.meeting ∙ sym (meets_append marks met (ands x) (ands y));
       }))
-      e (omega (arith, root-tag e u)) (omega (arith, root-tag e u)) u (sym (root-tag e u) ∙ h)
+      e (omega (arith, root_tag e u)) (omega (arith, root_tag e u)) u (sym (root_tag e u) ∙ h)
 
-  pub leaves-one : (tag_at s hi ≡ 10 → ⊥) → {r : Rest} {d' : List ℕ} → LeavesOne new marks met s lo hi d from at r d' → Leaves new marks met s lo hi d from at r d'
-  leaves-one h {r} {d'} f e u = subst (λ (xs : List Expression). Left new d from at (remaining marks met xs) (meets marks met xs) r d')
-      (sym (ands-one e (λ z. h (root-tag e u ∙ z)))) (f e u)
+  pub leaves_one : (tag_at s hi ≡ 10 → ⊥) → {r : Rest} {d' : List ℕ} → LeavesOne new marks met s lo hi d from at r d' → Leaves new marks met s lo hi d from at r d'
+  leaves_one h {r} {d'} f e u = subst (λ (xs : List Expression). Left new d from at (remaining marks met xs) (meets marks met xs) r d')
+      (sym (ands_one e (λ z. h (root_tag e u ∙ z)))) (f e u)
 
-  appended : {m : ℕ} {d' : List ℕ} → AppendsEach new (λ e. shift-column-down 0 e ∷ []) s lo hi d from at m d' → (e : Expression) → ExpressionHere s lo hi e → Appends new d from at (e ∷ []) m d'
+  appended : {m : ℕ} {d' : List ℕ} → AppendsEach new (λ e. shift_column_down 0 e ∷ []) s lo hi d from at m d' → (e : Expression) → ExpressionHere s lo hi e → Appends new d from at (e ∷ []) m d'
   appended {m} {d'} w e u = subst (λ (x : Expression). Appends new d from at (x ∷ []) m d') (shift_none e) (w e u)
 
-  pub met-before : met ≡ true → {m : ℕ} {d' : List ℕ} → AppendsEach new (λ e. shift-column-down 0 e ∷ []) s lo hi d from at m d'
+  pub met_before : met ≡ true → {m : ℕ} {d' : List ℕ} → AppendsEach new (λ e. shift_column_down 0 e ∷ []) s lo hi d from at m d'
       → LeavesOne new marks met s lo hi d from at (record { at = m; met = true }) d'
-  met-before z {m} {d'} w e u = subst (λ (i : Bool). Left new d from at (remaining marks i (e ∷ [])) (meets marks i (e ∷ [])) (record { at = m; met = true }) d') (sym z)
+  met_before z {m} {d'} w e u = subst (λ (i : Bool). Left new d from at (remaining marks i (e ∷ [])) (meets marks i (e ∷ [])) (record { at = m; met = true }) d') (sym z)
       (record { appends = appended w e u; meeting = refl })
 
   module _ (z : met ≡ false) {r : FoundLookup} (f : FindsOne marks s lo hi r) where
-    by-mark-of : {t : Bool} {m : ℕ} {d' : List ℕ} → ((e : Expression) → ExpressionHere s lo hi e → is-marked marks (is-column-lookup e) ≡ t)
-        → ((e : Expression) → ExpressionHere s lo hi e → Appends new d from at (cons-if (not t) e []) m d') → LeavesOne new marks met s lo hi d from at (record { at = m; met = t }) d'
-    by-mark-of {t} {m} {d'} g w e u = subst (λ (i : Bool). Left new d from at (remaining marks i (e ∷ [])) (meets marks i (e ∷ [])) (record { at = m; met = t }) d') (sym z)
+    by_mark_of : {t : Bool} {m : ℕ} {d' : List ℕ} → ((e : Expression) → ExpressionHere s lo hi e → is_marked marks (is_column_lookup e) ≡ t)
+        → ((e : Expression) → ExpressionHere s lo hi e → Appends new d from at (cons_if (not t) e []) m d') → LeavesOne new marks met s lo hi d from at (record { at = m; met = t }) d'
+    by_mark_of {t} {m} {d'} g w e u = subst (λ (i : Bool). Left new d from at (remaining marks i (e ∷ [])) (meets marks i (e ∷ [])) (record { at = m; met = t }) d') (sym z)
         (record {
-          appends = subst (λ (i : Bool). Appends new d from at (cons-if (not i) e []) m d') (sym (g e u)) (w e u);
+          appends = subst (λ (i : Bool). Appends new d from at (cons_if (not i) e []) m d') (sym (g e u)) (w e u);
           meeting = sym (g e u);
         })
 
-    pub met-here : {a b c : ℕ} → r ≡ At a b c → LeavesOne new marks met s lo hi d from at (record { at = at; met = true }) d
-    met-here {a} {b} {c} q = by-mark-of (λ e u. marked (is-column-lookup e) (sym (f e u) ∙ q)) (λ e u. appends-none new)
+    pub met_here : {a b c : ℕ} → r ≡ At a b c → LeavesOne new marks met s lo hi d from at (record { at = at; met = true }) d
+    met_here {a} {b} {c} q = by_mark_of (λ e u. marked (is_column_lookup e) (sym (f e u) ∙ q)) (λ e u. appends_none new)
       where
         test : (i : ℕ) (t : Bool) → cond t (At lo hi i) None ≡ At a b c → t ≡ true
         test i true k = refl
         test i false k = no_place k
 
-        marked : (o : Option ℕ) → by-mark marks lo hi o ≡ At a b c → is-marked marks o ≡ true
+        marked : (o : Option ℕ) → by_mark marks lo hi o ≡ At a b c → is_marked marks o ≡ true
         marked none k = no_place k
         marked (some i) k = test i (get_or marks i false) k
 
-    pub not-met : r ≡ None → {m : ℕ} {d' : List ℕ} → AppendsEach new (λ e. shift-column-down 0 e ∷ []) s lo hi d from at m d'
+    pub not_met : r ≡ None → {m : ℕ} {d' : List ℕ} → AppendsEach new (λ e. shift_column_down 0 e ∷ []) s lo hi d from at m d'
         → LeavesOne new marks met s lo hi d from at (record { at = m; met = false }) d'
-    not-met q w = by-mark-of (λ e u. unmarked (is-column-lookup e) (sym (f e u) ∙ q)) (appended w)
+    not_met q w = by_mark_of (λ e u. unmarked (is_column_lookup e) (sym (f e u) ∙ q)) (appended w)
       where
         test : (i : ℕ) (t : Bool) → cond t (At lo hi i) None ≡ None → t ≡ false
         test i true k = no_place (sym k)
         test i false k = refl
 
-        unmarked : (o : Option ℕ) → by-mark marks lo hi o ≡ None → is-marked marks o ≡ false
+        unmarked : (o : Option ℕ) → by_mark marks lo hi o ≡ None → is_marked marks o ≡ false
         unmarked none k = refl
         unmarked (some i) k = test i (get_or marks i false) k
 
 -- What the call for the left operand left, as the call for the right one asks for it.
-pub left-gathered : (new : ℕ) (marks : List Bool) (met : Bool) {s : List ℕ} {lo hi : ℕ} {d : List ℕ} {from at : ℕ} {r : Rest} {d₁ : List ℕ} → GatheredAt d from at → length d₁ ≡ length d
+pub left_gathered : (new : ℕ) (marks : List Bool) (met : Bool) {s : List ℕ} {lo hi : ℕ} {d : List ℕ} {from at : ℕ} {r : Rest} {d₁ : List ℕ} → GatheredAt d from at → length d₁ ≡ length d
     → ExpressionAt s lo hi → Leaves new marks met s lo hi d from at r d₁ → GatheredAt d₁ from r.at
-left-gathered new marks met g k t f = gathered-more g k new (remaining marks met (ands t.e)) (f t.e t.here).appends
+left_gathered new marks met g k t f = gathered_more g k new (remaining marks met (ands t.e)) (f t.e t.here).appends

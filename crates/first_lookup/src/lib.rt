@@ -3,7 +3,7 @@
 ghost use Rattle.std.specs.Prelude.{◌≡◌, false, ◌-◌, ◌<◌, get_or};
 ghost use Rattle.words.specs.Place.{ExpressionAt};
 ghost use Rattle.conjuncts.specs.Conjuncts.{GatheredAt};
-ghost use Rattle.first_lookup.specs.First.{marks-in, FindsOne, FindsFirst, LeavesOne, Leaves};
+ghost use Rattle.first_lookup.specs.First.{marks_in, FindsOne, FindsFirst, LeavesOne, Leaves};
 
 // Where a conjunct stands, from a word up to another, and the column that it looks up.
 #[derive(Drop)]
@@ -21,7 +21,7 @@ pub struct Rest {
 
 // Whether column c is marked: it has a record, of 16 bytes, and is the key, or byte 5 of the record says that it has an index.
 fn has_index(key: usize, columns: &[u8], c: usize) -> bool
-    ensures { result ≡ get_or (marks-in key columns.now) c false }
+    ensures { result ≡ get_or (marks_in key columns.now) c false }
 {
     if columns.len() / 16 <= c {
         return false;
@@ -35,7 +35,7 @@ fn has_index(key: usize, columns: &[u8], c: usize) -> bool
 // The conjunct from lo to hi, if it looks up a marked column.
 fn find_one(s: &[u32], lo: usize, hi: usize, key: usize, columns: &[u8]) -> FoundLookup
     requires { ExpressionAt s.now lo hi }
-    ensures { FindsOne (marks-in key columns.now) s.now lo hi result }
+    ensures { FindsOne (marks_in key columns.now) s.now lo hi result }
 {
     let found = column_lookup::is_column_lookup(s, lo, hi);
     let column_lookup::Lookup::Column(c) = found else {
@@ -50,7 +50,7 @@ fn find_one(s: &[u32], lo: usize, hi: usize, key: usize, columns: &[u8]) -> Foun
 // The first conjunct of the expression from lo to hi that looks up a marked column.
 pub fn find_lookup(s: &[u32], lo: usize, hi: usize, key: usize, columns: &[u8]) -> FoundLookup
     requires { ExpressionAt s.now lo hi }
-    ensures { FindsFirst (marks-in key columns.now) s.now lo hi result }
+    ensures { FindsFirst (marks_in key columns.now) s.now lo hi result }
 {
     if cells::tag_at(s, hi) == tags::AND {
         let end = hi - cells::CELL_WORDS;
@@ -80,7 +80,7 @@ fn remaining_one(
 ) -> Rest
     requires expression_at { ExpressionAt s.now lo hi }
     requires gathered_at { GatheredAt d.old from at }
-    ensures { LeavesOne origin (marks-in key columns.now) met s.now lo hi d.old from at result d.new }
+    ensures { LeavesOne origin (marks_in key columns.now) met s.now lo hi d.old from at result d.new }
 {
     if met {
         let m = conjuncts::append(s, lo, hi, d, from, at, 0, origin);
@@ -109,7 +109,7 @@ pub fn remaining(
 ) -> Rest
     requires expression_at { ExpressionAt s.now lo hi }
     requires gathered_at { GatheredAt d.old from at }
-    ensures { Leaves origin (marks-in key columns.now) met s.now lo hi d.old from at result d.new }
+    ensures { Leaves origin (marks_in key columns.now) met s.now lo hi d.old from at result d.new }
 {
     if cells::tag_at(s, hi) == tags::AND {
         let end = hi - cells::CELL_WORDS;

@@ -10,7 +10,7 @@ use Rattle.sql.specs.Answer.{Answer, done, refused, ◌>>=◌}
 use Rattle.cells.specs.Cells.{Part}
 use Rattle.cells.specs.Room.{Short, Wrote}
 use Rattle.cells.proofs.Laws.{fits, part_in}
-use Rattle.words.specs.Words.{expression-words}
+use Rattle.words.specs.Words.{expression_words}
 use Rattle.words.specs.Place.{ExpressionHere}
 use Rattle.fold_operator.specs.Left.{Appended, Left, Leaves}
 use Rattle.fold_operator.specs.declared.Folded.{Folded}
@@ -19,22 +19,22 @@ use Rattle.fold_operator.specs.declared.Folded.TheVariants as Folded
 -- ---- a part as something that was appended
 
 module _ {d : List ℕ} {at n : ℕ} {w : List ℕ} (p : Part d at n w) where
-  part-take : take n d ≡ p.before ++ w
-  part-take = rw (p.whole ∙ sym (append_assoc p.before w p.after))
+  part_take : take n d ≡ p.before ++ w
+  part_take = rw (p.whole ∙ sym (append_assoc p.before w p.after))
       (take_at (p.before ++ w) p.after n (omega (arith, length-append p.before w, p.low, p.high)))
 
-  part-before : take at d ≡ p.before
-  part-before = rw p.whole (take_at p.before (w ++ p.after) at p.low)
+  part_before : take at d ≡ p.before
+  part_before = rw p.whole (take_at p.before (w ++ p.after) at p.low)
 
-  pub part-appended : Appended d at w n d
-  part-appended = record { ends = sym p.high; kept = part-take ∙ ap (λ (l : List ℕ). l ++ w) (sym part-before) }
+  pub part_appended : Appended d at w n d
+  part_appended = record { ends = sym p.high; kept = part_take ∙ ap (λ (l : List ℕ). l ++ w) (sym part_before) }
 
   -- It stays where the first n words stay.
-  pub part-kept : {d' : List ℕ} → take n d' ≡ take n d → Part d' at n w
-  part-kept {d'} k = record {
+  pub part_kept : {d' : List ℕ} → take n d' ≡ take n d → Part d' at n w
+  part_kept {d'} k = record {
     before = p.before;
     after = drop n d';
-    whole = sym (take-append-drop n d') ∙ (ap (λ (l : List ℕ). l ++ drop n d') (k ∙ part-take) ∙ append_assoc p.before w (drop n d'));
+    whole = sym (take-append-drop n d') ∙ (ap (λ (l : List ℕ). l ++ drop n d') (k ∙ part_take) ∙ append_assoc p.before w (drop n d'));
     low = p.low;
     high = p.high;
   }
@@ -47,8 +47,8 @@ module _ {d : List ℕ} {at n : ℕ} {w d' : List ℕ} where
   wrote a h = record { is = λ _. (a.ends, a.kept); room = λ _ z. omega (arith, a.ends) }
 
   module _ (a : Appended d at w n d') (h : at ≤ length d) where
-    pub appended-part : Part d' at n w
-    appended-part = record {
+    pub appended_part : Part d' at n w
+    appended_part = record {
       before = take at d;
       after = drop n d';
       whole = sym (take-append-drop n d') ∙ (ap (λ (l : List ℕ). l ++ drop n d') a.kept ∙ append_assoc (take at d) w (drop n d'));
@@ -57,49 +57,49 @@ module _ {d : List ℕ} {at n : ℕ} {w d' : List ℕ} where
     }
 
     -- What stood before is still there.
-    pub before-stays : take at d' ≡ take at d
-    unfolding appended-part
-    before-stays = part-before appended-part
+    pub before_stays : take at d' ≡ take at d
+    unfolding appended_part
+    before_stays = part_before appended_part
 
 -- ---- the same of expressions
 
 pub here_in : {d : List ℕ} {at n : ℕ} (e : Expression) → ExpressionHere d at n e → (at ≤ n) × (n ≤ length d)
 here_in e u = part_in u.part
 
-pub here-wrote : {d : List ℕ} {at n : ℕ} (e : Expression) → ExpressionHere d at n e → Wrote d at (expression-words e) n d
-here-wrote e u = let (h, k) = here_in e u in let a = part-appended u.part in wrote a (omega (arith, a.ends))
+pub here_wrote : {d : List ℕ} {at n : ℕ} (e : Expression) → ExpressionHere d at n e → Wrote d at (expression_words e) n d
+here_wrote e u = let (h, k) = here_in e u in let a = part_appended u.part in wrote a (omega (arith, a.ends))
 
-pub here-kept : {d d' : List ℕ} {at n : ℕ} (e : Expression) → take n d' ≡ take n d → ExpressionHere d at n e → ExpressionHere d' at n e
-here-kept e k u = record { part = part-kept u.part k }
+pub here_kept : {d d' : List ℕ} {at n : ℕ} (e : Expression) → take n d' ≡ take n d → ExpressionHere d at n e → ExpressionHere d' at n e
+here_kept e k u = record { part = part_kept u.part k }
 
 -- ---- answers
 
 -- only the first `at` words matter
-pub leaves-moved : {d d₁ : List ℕ} {at : ℕ} {a : Answer Expression} {r : Folded} {d' : List ℕ} → take at d₁ ≡ take at d → Leaves d₁ at a r d' → Leaves d at a r d'
-leaves-moved {d} {d₁} {at} {a} {r} {d'} e h = record { left = go a r h.left }
+pub leaves_moved : {d d₁ : List ℕ} {at : ℕ} {a : Answer Expression} {r : Folded} {d' : List ℕ} → take at d₁ ≡ take at d → Leaves d₁ at a r d' → Leaves d at a r d'
+leaves_moved {d} {d₁} {at} {a} {r} {d'} e h = record { left = go a r h.left }
   where
     go : (a : Answer Expression) (r : Folded) → Left d₁ at a r d' → Left d at a r d'
-    go (done y) (Folded.Done n) h = record { ends = h.ends; kept = h.kept ∙ ap (λ (l : List ℕ). l ++ expression-words y) e }
+    go (done y) (Folded.Done n) h = record { ends = h.ends; kept = h.kept ∙ ap (λ (l : List ℕ). l ++ expression_words y) e }
     go (done y) (Folded.Refused j q) h = h
     go (refused k p) (Folded.Done n) h = h
     go (refused k p) (Folded.Refused j q) h = h
 
 -- A refusal is handed on.
-pub leaves-refused : {d₁ d : List ℕ} {at₁ at : ℕ} {j q : ℕ} {d₂ d' : List ℕ} (a : Answer Expression) (f : Expression → Answer Expression)
+pub leaves_refused : {d₁ d : List ℕ} {at₁ at : ℕ} {j q : ℕ} {d₂ d' : List ℕ} (a : Answer Expression) (f : Expression → Answer Expression)
     → Leaves d₁ at₁ a (Folded.Refused j q) d₂ → Leaves d at (a >>= f) (Folded.Refused j q) d'
-leaves-refused (done y) f h = absurd h.left
-leaves-refused (refused k p) f h = record { left = h.left }
+leaves_refused (done y) f h = absurd h.left
+leaves_refused (refused k p) f h = record { left = h.left }
 
 -- What is done is gone on with.
-pub leaves-done : {d₁ d : List ℕ} {at₁ at m : ℕ} {r : Folded} {d₂ d' : List ℕ} (a : Answer Expression) (f : Expression → Answer Expression)
-    → Leaves d₁ at₁ a (Folded.Done m) d₂ → ((y : Expression) → a ≡ done y → Appended d₁ at₁ (expression-words y) m d₂ → Leaves d at (f y) r d')
+pub leaves_done : {d₁ d : List ℕ} {at₁ at m : ℕ} {r : Folded} {d₂ d' : List ℕ} (a : Answer Expression) (f : Expression → Answer Expression)
+    → Leaves d₁ at₁ a (Folded.Done m) d₂ → ((y : Expression) → a ≡ done y → Appended d₁ at₁ (expression_words y) m d₂ → Leaves d at (f y) r d')
     → Leaves d at (a >>= f) r d'
-leaves-done (done y) f h k = k y refl h.left
-leaves-done (refused j p) f h k = absurd h.left
+leaves_done (done y) f h k = k y refl h.left
+leaves_done (refused j p) f h k = absurd h.left
 
 -- the answer is known
-pub leaves-as : {d : List ℕ} {at : ℕ} {a b : Answer Expression} {r : Folded} {d' : List ℕ} → a ≡ b → Leaves d at b r d' → Leaves d at a r d'
-leaves-as e h = rw e h
+pub leaves_as : {d : List ℕ} {at : ℕ} {a b : Answer Expression} {r : Folded} {d' : List ℕ} → a ≡ b → Leaves d at b r d' → Leaves d at a r d'
+leaves_as e h = rw e h
 
-pub leaves-words : {d : List ℕ} {at n : ℕ} {y : Expression} {d' : List ℕ} → Appended d at (expression-words y) n d' → Leaves d at (done y) (Folded.Done n) d'
-leaves-words a = record { left = a }
+pub leaves_words : {d : List ℕ} {at n : ℕ} {y : Expression} {d' : List ℕ} → Appended d at (expression_words y) n d' → Leaves d at (done y) (Folded.Done n) d'
+leaves_words a = record { left = a }

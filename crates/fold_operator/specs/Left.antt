@@ -1,24 +1,24 @@
 -- What an expression folds to, and what is left of it in the slice that is written.
 use Rattle.std.specs.Prelude.{ℕ, ◌+◌, ◌≤◌, ◌≡◌, true, List, ◌++◌, length, take}
-use Rattle.sql.specs.Expression.{Expression, contains-column}
+use Rattle.sql.specs.Expression.{Expression, contains_column}
 use Rattle.sql.specs.Answer.{Answer, done, refused}
-use Rattle.sheet.specs.Content.{cell-of}
-use Rattle.sheet_laws.specs.Fits.{Value-fits}
-use Rattle.sound.specs.Expressions.{Made-of}
-use Rattle.words.specs.Words.{root, expression-words}
+use Rattle.sheet.specs.Content.{cell_of}
+use Rattle.sheet_laws.specs.Fits.{ValueFits}
+use Rattle.sound.specs.Expressions.{MadeOf}
+use Rattle.words.specs.Words.{root, expression_words}
 use Rattle.words.specs.Place.{ExpressionHere}
 use Rattle.fold_operator.specs.declared.Folded.{Folded}
 use Rattle.fold_operator.specs.declared.Folded.TheVariants as Folded
 use Rattle.sheet.specs.Tags
 
 -- The expression's constants are ones that a sheet with this text may hold.
-abbrev pub Constants-fit : List ℕ → Expression → Type 0
-Constants-fit text e = Made-of (Value-fits text (length text)) (λ c. Unit {0}) e
+abbrev pub ConstantsFit : List ℕ → Expression → Type 0
+ConstantsFit text e = MadeOf (ValueFits text (length text)) (λ c. Unit {0}) e
 
 -- What an expression folds to: a constant, or an expression that has a Column.
 pub record Settled (text : List ℕ) (y : Expression) : Type 0 where
-  pub column-left : Tags.column ≤ (cell-of (root y)).tag → contains-column (λ c. true) y ≡ true
-  pub fits : Constants-fit text y
+  pub column_left : Tags.column ≤ (cell_of (root y)).tag → contains_column (λ c. true) y ≡ true
+  pub fits : ConstantsFit text y
 
 -- What some expression folds to stands in d from `at` up to n.
 pub record SettledAt (text d : List ℕ) (at n : ℕ) : Type 0 where
@@ -33,10 +33,10 @@ pub record Appended (d : List ℕ) (at : ℕ) (w : List ℕ) (n : ℕ) (d' : Lis
 
 -- The words of what is done, appended, and where they end; or the refusal's number and place.
 abbrev pub Left : List ℕ → ℕ → Answer Expression → Folded → List ℕ → Type 0
-Left d at (done y) (Folded.Done n) d' = Appended d at (expression-words y) n d'
+Left d at (done y) (Folded.Done n) d' = Appended d at (expression_words y) n d'
 Left d at (done y) (Folded.Refused number place) d' = ⊥
 Left d at (refused number place) (Folded.Done n) d' = ⊥
-Left d at (refused number place) (Folded.Refused said at-cell) d' = (said ≡ number) × (at-cell ≡ place)
+Left d at (refused number place) (Folded.Refused said at_cell) d' = (said ≡ number) × (at_cell ≡ place)
 
 -- That is what an answer leaves.
 pub record Leaves (d : List ℕ) (at : ℕ) (answer : Answer Expression) (r : Folded) (d' : List ℕ) : Type 0 where

@@ -1,16 +1,16 @@
 -- What the steps at one operator do, once its operands are folded.
 use Rattle.std.specs.Prelude.{ℕ, ◌+◌, ◌≤◌, ◌<◌, ◌≡◌, Bool, true, false, ◌&&◌, List, eqb, length}
 use Rattle.value.specs.Value.{ok}
-use Rattle.value.specs.Meaning.{result}
+use Rattle.value.specs.Meaning.{outcome_of}
 use Rattle.value.specs.declared.Result.{Result}
 use Rattle.sql.specs.Expression.{origin, Unary, Binary, logical, Equal, function, Expression, constant, unary, binary, bind}
 use Rattle.sql.specs.Answer.{at_place}
 use Rattle.sql.specs.Optimizer.{Operand, deciding, neutral, undetermined, operand, fold, simplify}
-use Rattle.sheet.specs.Content.{unary-tag, binary-tag}
+use Rattle.sheet.specs.Content.{unary_tag, binary_tag}
 use Rattle.cells.specs.declared.Cell.{Cell}
-use Rattle.cells.specs.Cells.{cell-words}
+use Rattle.cells.specs.Cells.{cell_words}
 use Rattle.cells.specs.Room.{Short}
-use Rattle.words.specs.Words.{cell, root, expression-words}
+use Rattle.words.specs.Words.{cell, root, expression_words}
 use Rattle.words.specs.Place.{ExpressionHere}
 use Rattle.evaluate.specs.Evaluate.{UnaryTag, BinaryTag}
 use Rattle.fold_operator.specs.declared.Folded.{Folded}
@@ -20,24 +20,24 @@ use Rattle.sheet.specs.Tags
 -- ---- operands of And and Or
 
 -- the cell of the Boolean that is written as b
-abbrev pub boolean-cell : Cell → ℕ → Bool
-boolean-cell k b = eqb k.tag 2 && eqb k.a b
+abbrev pub boolean_cell : Cell → ℕ → Bool
+boolean_cell k b = eqb k.tag 2 && eqb k.a b
 
 -- what an operand does to an operator; only And and Or have operands that do something
-abbrev pub operand-of : Binary → Expression → Operand
-operand-of (logical o) e = operand o e
-operand-of Equal e = undetermined
-operand-of (function f) e = undetermined
+abbrev pub operand_of : Binary → Expression → Operand
+operand_of (logical o) e = operand o e
+operand_of Equal e = undetermined
+operand_of (function f) e = undetermined
 
-abbrev pub is-deciding : Operand → Bool
-is-deciding deciding = true
-is-deciding neutral = false
-is-deciding undetermined = false
+abbrev pub is_deciding : Operand → Bool
+is_deciding deciding = true
+is_deciding neutral = false
+is_deciding undetermined = false
 
-abbrev pub is-neutral : Operand → Bool
-is-neutral deciding = false
-is-neutral neutral = true
-is-neutral undetermined = false
+abbrev pub is_neutral : Operand → Bool
+is_neutral deciding = false
+is_neutral neutral = true
+is_neutral undetermined = false
 
 -- o is the tag of an operator with two operands, and k the cell of an expression.
 pub record OperandOf (o : ℕ) (k : Cell) : Type 0 where
@@ -47,10 +47,10 @@ pub record OperandOf (o : ℕ) (k : Cell) : Type 0 where
 
 -- of the operator with tag o and the operand with cell k
 abbrev pub Deciding : ℕ → Cell → Bool → Type 0
-Deciding o k r = (p : Binary) (e : Expression) → binary-tag p ≡ o → k ≡ cell (origin e) (root e) → r ≡ is-deciding (operand-of p e)
+Deciding o k r = (p : Binary) (e : Expression) → binary_tag p ≡ o → k ≡ cell (origin e) (root e) → r ≡ is_deciding (operand_of p e)
 
 abbrev pub Neutral : ℕ → Cell → Bool → Type 0
-Neutral o k r = (p : Binary) (e : Expression) → binary-tag p ≡ o → k ≡ cell (origin e) (root e) → r ≡ is-neutral (operand-of p e)
+Neutral o k r = (p : Binary) (e : Expression) → binary_tag p ≡ o → k ≡ cell (origin e) (root e) → r ≡ is_neutral (operand_of p e)
 
 -- ---- an operator over its operands
 
@@ -62,7 +62,7 @@ pub record UnaryAt (d : List ℕ) (at n o : ℕ) : Type 0 where
   pub operator : UnaryTag o
   pub operand : SettledAt text d at n
   pub few : Short d
-  pub room : n + cell-words ≤ length d
+  pub room : n + cell_words ≤ length d
 
 -- The operator with tag o has two operands; expressions stand in their places, in d from `at` up to m and on to n.
 pub record OperandsAt (d : List ℕ) (at m n o : ℕ) : Type 0 where
@@ -76,11 +76,11 @@ pub record OperandsAt (d : List ℕ) (at m n o : ℕ) : Type 0 where
 pub record BinaryAt (text d : List ℕ) (at m n o : ℕ) : Type 0 where
   pub short : length text < 65536
   pub operands : OperandsAt d at m n o
-  pub left-settled : Settled text operands.x
-  pub right-settled : Settled text operands.y
-  pub not-neutral : is-neutral (operand-of operands.operator.p operands.x) ≡ false
+  pub left_settled : Settled text operands.x
+  pub right_settled : Settled text operands.y
+  pub not_neutral : is_neutral (operand_of operands.operator.p operands.x) ≡ false
   pub few : Short d
-  pub room : n + cell-words ≤ length d
+  pub room : n + cell_words ≤ length d
 
 -- What some expression folds to stands in d from `at` up to n.
 pub record OperandAt (d : List ℕ) (at n : ℕ) : Type 0 where
@@ -91,26 +91,26 @@ pub record OperandAt (d : List ℕ) (at n : ℕ) : Type 0 where
 -- the value of an operator with origin og, or the refusal for its error
 abbrev pub Writes : List ℕ → ℕ → Result → (place og : ℕ) → Folded → List ℕ → Type 0
 Writes d at r place og answer d' =
-    (text : List ℕ) → Short d → at + cell-words ≤ length d → Leaves d at (at_place place (bind (result text r) (λ v. ok (constant og v)))) answer d'
+    (text : List ℕ) → Short d → at + cell_words ≤ length d → Leaves d at (at_place place (bind (outcome_of text r) (λ v. ok (constant og v)))) answer d'
 
 abbrev pub FoldsUnary : List ℕ → (at n o place og : ℕ) → Folded → List ℕ → Type 0
 FoldsUnary d at n o place og answer d' =
-    (text : List ℕ) (p : Unary) (y : Expression) → unary-tag p ≡ o → ExpressionHere d at n y → Settled text y
+    (text : List ℕ) (p : Unary) (y : Expression) → unary_tag p ≡ o → ExpressionHere d at n y → Settled text y
     → Leaves d at (fold place (unary og p y)) answer d'
 
 -- The left operand isn't neutral: where it is, the right one alone is written.
 abbrev pub Simplifies : List ℕ → (at m n o og r : ℕ) → List ℕ → Type 0
 Simplifies d at m n o og r d' =
-    (p : Binary) (x y : Expression) → binary-tag p ≡ o → ExpressionHere d at m x → ExpressionHere d m n y → is-neutral (operand-of p x) ≡ false → Short d → n + cell-words ≤ length d
-    → Appended d at (expression-words (simplify (binary og p x y))) r d'
+    (p : Binary) (x y : Expression) → binary_tag p ≡ o → ExpressionHere d at m x → ExpressionHere d m n y → is_neutral (operand_of p x) ≡ false → Short d → n + cell_words ≤ length d
+    → Appended d at (expression_words (simplify (binary og p x y))) r d'
 
 abbrev pub FoldsBinary : (text d : List ℕ) → (at m n o place og : ℕ) → Folded → List ℕ → Type 0
 FoldsBinary text d at m n o place og answer d' =
-    (p : Binary) (x y : Expression) → binary-tag p ≡ o → ExpressionHere d at m x → ExpressionHere d m n y → Settled text x → Settled text y
-    → is-neutral (operand-of p x) ≡ false → Leaves d at (fold place (binary og p x y)) answer d'
+    (p : Binary) (x y : Expression) → binary_tag p ≡ o → ExpressionHere d at m x → ExpressionHere d m n y → Settled text x → Settled text y
+    → is_neutral (operand_of p x) ≡ false → Leaves d at (fold place (binary og p x y)) answer d'
 
 -- The left operand is neutral, and isn't in d.
 abbrev pub FoldsNeutral : List ℕ → (at n place og : ℕ) → Folded → List ℕ → Type 0
 FoldsNeutral d at n place og answer d' =
-    (text : List ℕ) (p : Binary) (x y : Expression) → is-neutral (operand-of p x) ≡ true → ExpressionHere d at n y → Settled text y
+    (text : List ℕ) (p : Binary) (x y : Expression) → is_neutral (operand_of p x) ≡ true → ExpressionHere d at n y → Settled text y
     → Leaves d at (fold place (binary og p x y)) answer d'

@@ -1,6 +1,6 @@
 // optimizer.rs, ConstantFolding: `fold` of one operator in its working form, whose operands are folded already and stand in the slice that is written.
 ghost use Rattle.std.specs.Prelude.{ℕ, ◌+◌, ◌≤◌, ◌<◌, ◌≡◌};
-ghost use Rattle.fold_operator.specs.Steps.{boolean-cell, OperandOf, Deciding, Neutral, Writes, UnaryAt, FoldsUnary, OperandsAt, Simplifies, BinaryAt, FoldsBinary, OperandAt, FoldsNeutral};
+ghost use Rattle.fold_operator.specs.Steps.{boolean_cell, OperandOf, Deciding, Neutral, Writes, UnaryAt, FoldsUnary, OperandsAt, Simplifies, BinaryAt, FoldsBinary, OperandAt, FoldsNeutral};
 
 use cells::Cell;
 use value::{Error, Result};
@@ -15,7 +15,7 @@ pub enum Folded {
 
 // Whether a cell is the Boolean with number b.
 fn is_boolean(k: Cell, b: u32) -> bool
-    ensures { result ≡ boolean-cell k b }
+    ensures { result ≡ boolean_cell k b }
 {
     if k.tag == tags::BOOLEAN {
         return k.a == b;

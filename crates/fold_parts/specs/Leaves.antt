@@ -10,7 +10,7 @@ abbrev pub Left : {A : Type 0} → (A → List ℕ) → List ℕ → ℕ → Ans
 Left f d at (done y) (Folded.Done n) d' = Appended d at (f y) n d'
 Left f d at (done y) (Folded.Refused number place) d' = ⊥
 Left f d at (refused number place) (Folded.Done n) d' = ⊥
-Left f d at (refused number place) (Folded.Refused said at-cell) d' = (said ≡ number) × (at-cell ≡ place)
+Left f d at (refused number place) (Folded.Refused said at_cell) d' = (said ≡ number) × (at_cell ≡ place)
 
 pub record Leaves {A : Type 0} (f : A → List ℕ) (d : List ℕ) (at : ℕ) (answer : Answer A) (r : Folded) (d' : List ℕ) : Type 0 where
   pub left : Left f d at answer r d'
@@ -20,5 +20,5 @@ abbrev pub Bounded : ℕ → Folded → Type 0
 Bounded n (Folded.Done m) = m ≤ n
 Bounded n (Folded.Refused number place) = Unit {0}
 
-pub record Up-to (n : ℕ) (r : Folded) : Type 0 where
+pub record UpTo (n : ℕ) (r : Folded) : Type 0 where
   pub ends : Bounded n r

@@ -1,7 +1,7 @@
 // The different strings that references refer to, each once, in order of first reference. Strings are compared by their first eight bytes as one number, then
 // by their length, by their last eight bytes, and then eight bytes at a time: a sheet can have 4,366 references.
 ghost use Rattle.std.specs.Prelude.{◌≡◌, Bool, true, false, ℕ, ◌+◌, ◌-◌, ◌*◌, ◌≤◌, ◌<◌, map, length, take};
-ghost use Rattle.value.specs.Meaning.{bytes-at};
+ghost use Rattle.value.specs.Meaning.{bytes_at};
 ghost use Rattle.sheet.specs.Bytes.{byte, word};
 ghost use Rattle.sheet_laws.specs.Fits.{All};
 ghost use Rattle.compact.specs.Strings as Strings;
@@ -116,8 +116,8 @@ fn same(s: &[u8], a: usize, b: usize, n: usize) -> bool
 // The string that `old` refers to, whose mark is `its`, is the n bytes from `at` on, whose mark is `mark`.
 fn is_it(s: &[u8], old: usize, its: usize, at: usize, n: usize, mark: usize) -> bool
     requires inside { Inside s.now old × (at + n ≤ length s.now) }
-    requires its_value { (its ≡ mark_of (bytes-at s.now old)) × (mark ≡ mark_of (stretch s.now at n)) }
-    ensures { result ≡ Strings.same (bytes-at s.now old) (stretch s.now at n) }
+    requires its_value { (its ≡ mark_of (bytes_at s.now old)) × (mark ≡ mark_of (stretch s.now at n)) }
+    ensures { result ≡ Strings.same (bytes_at s.now old) (stretch s.now at n) }
 {
     if its != mark {
         return false;

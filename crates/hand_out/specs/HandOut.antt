@@ -2,41 +2,41 @@
 use Rattle.std.specs.Prelude.{ℕ, ◌≤◌, ◌≡◌, List, leb, length, take}
 use Rattle.sql.specs.Plan.{Node, columns}
 use Rattle.sql.specs.Answer.{Answer, done}
-use Rattle.sheet.specs.Parts.{table-count}
+use Rattle.sheet.specs.Parts.{table_count}
 use Rattle.sheet.specs.Cell.{origins}
 use Rattle.sheet.specs.Check.{text, schema, plan}
 use Rattle.sheet.specs.Write.{write}
-use Rattle.sheet.specs.Operations.{written, hand-out}
-use Rattle.sheet_laws.specs.Fits.{Origins-below}
-use Rattle.words.specs.Words.{node-words}
+use Rattle.sheet.specs.Operations.{written, hand_out}
+use Rattle.sheet_laws.specs.Fits.{OriginsBelow}
+use Rattle.words.specs.Words.{node_words}
 use Rattle.kept.specs.Kept.{Kept}
 use Rattle.checker.specs.Checker.{outcome}
 use Rattle.checker.specs.declared.Answer as Code
-use Rattle.cells.specs.Room.{most-words}
+use Rattle.cells.specs.Room.{most_words}
 use Rattle.fold_operator.specs.declared.Folded.{Folded}
 use Rattle.passes.specs.Passes.{Leaves}
 
 -- m can take the place of a sheet's plan.
 abbrev pub Fit : List ℕ → Node → Node → Type 0
-Fit s node m = Kept (schema s) (text s) (table-count s) node m
+Fit s node m = Kept (schema s) (text s) (table_count s) node m
 
 -- The first n words of x are a plan that can take the place of that of s.
-pub record Written-in (s x : List ℕ) (n : ℕ) (node m : Node) : Type 0 where
+pub record WrittenIn (s x : List ℕ) (n : ℕ) (node m : Node) : Type 0 where
   pub is : plan s ≡ done node
   pub fit : Fit s node m
-  pub words_are : take n x ≡ node-words m
+  pub words_are : take n x ≡ node_words m
   pub inside : n ≤ length x
 
 pub record WrittenAt (s x : List ℕ) (n : ℕ) : Type 0 where
   pub node : Node
   pub m : Node
-  pub there : Written-in s x n node m
-  pub origins-are : Origins-below (origins s) m
-  pub short : length x ≤ most-words
+  pub there : WrittenIn s x n node m
+  pub origins_are : OriginsBelow (origins s) m
+  pub short : length x ≤ most_words
 
 abbrev pub Writes : (s x : List ℕ) (n count : ℕ) (out : List ℕ) → Code.Answer → List ℕ → Type 0
 Writes s x n count out a out' =
-    (node m : Node) → Written-in s x n node m → count ≡ columns (schema s) node
+    (node m : Node) → WrittenIn s x n node m → count ≡ columns (schema s) node
     → outcome a out' ≡ written s out m (write s m) (leb (length (write s m)) (length out))
 
 -- s stands for some plan, which has so many columns.
@@ -51,10 +51,10 @@ pub record AnsweredAt (s x : List ℕ) (r : Folded) : Type 0 where
   pub is : plan s ≡ done node
   pub answer : Answer Node
   pub leaves : Leaves (Fit s node) x answer r
-  pub origins-are : (m : Node) → answer ≡ done m → Origins-below (origins s) m
-  pub short : length x ≤ most-words
+  pub origins_are : (m : Node) → answer ≡ done m → OriginsBelow (origins s) m
+  pub short : length x ≤ most_words
 
 abbrev pub HandsOut : (s x : List ℕ) → Folded → (count : ℕ) (out : List ℕ) → Code.Answer → List ℕ → Type 0
 HandsOut s x r count out a out' =
     (node : Node) (answer : Answer Node) → plan s ≡ done node → Leaves (Fit s node) x answer r → count ≡ columns (schema s) node
-    → outcome a out' ≡ hand-out s out answer
+    → outcome a out' ≡ hand_out s out answer

@@ -8,7 +8,7 @@ ghost use Rattle.nodes.specs.Columns.{ColumnsAt, ColumnCount};
 ghost use Rattle.records.specs.Records.{Tables};
 ghost use Rattle.column_lookup.specs.Lookup.{pair};
 ghost use Rattle.stream.specs.Stream.{StreamAt, Streams};
-ghost use Rattle.hash_join.specs.Hash.{sides, hash-sides, hash-cell, JoinAt, Rewrites, Writes};
+ghost use Rattle.hash_join.specs.Hash.{sides, hash_sides, hash_cell, JoinAt, Rewrites, Writes};
 
 // The columns of a hash join.
 #[derive(Drop)]
@@ -19,7 +19,7 @@ enum HashColumns {
 
 // The columns of an equijoin in their sources, if one is on each side; the left source has n columns.
 fn one_on_each_side(columns: column_lookup::ColumnPair, n: usize) -> HashColumns
-    ensures { sides result ≡ hash-sides n (pair columns) }
+    ensures { sides result ≡ hash_sides n (pair columns) }
 {
     let column_lookup::ColumnPair::Pair(lower, higher) = columns else {
         return HashColumns::None;
@@ -39,7 +39,7 @@ fn hash_join_cell(
     left: column_numbers::LeftColumn,
     right: column_numbers::RightColumn,
 ) -> cells::Cell
-    ensures { result ≡ hash-cell nested left.0 right.0 }
+    ensures { result ≡ hash_cell nested left.0 right.0 }
 {
     cells::Cell {
         origin: nested.origin,

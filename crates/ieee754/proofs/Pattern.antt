@@ -8,8 +8,8 @@ use native.Mathlib.Omega.{arith}
 use lib.Pow.{pow_pos, pow-add, pow-lt, pow_mono, shl_lt, shr_lt}
 use lib.Count.{count_leading_zeros, leading_top}
 use Rattle.ieee754.specs.Ieee754.{infinity, one, Nearest}
-use Rattle.ieee754.proofs.Units.{lt-or-le}
-use Rattle.ieee754.proofs.Nearest.{closest-nearest, closest-low, closest-high}
+use Rattle.ieee754.proofs.Units.{lt_or_le}
+use Rattle.ieee754.proofs.Nearest.{closest_nearest, closest_low, closest_high}
 
 -- the patterns stay far below infinity's
 within : (k b p : ℕ) → k ≤ 1085 → b ≤ 2 ^ 53 → p ≡ k * 2 ^ 52 + b → p ≤ infinity
@@ -18,7 +18,7 @@ within k b p h l e = omega arith
 pub nearest_zero : (n : ℕ) → n ≡ 0 → Nearest (n * one) 1 0
 nearest_zero n z =
     subst (λ (x : ℕ). Nearest (x * one) 1 0) (sym z)
-    (closest-nearest 0 1 (le_refl 1) 0 (within 0 0 0 zero-le zero-le refl) (closest-low 0 1 0 0 0 (le_refl 1) (pow_pos 53) (inl refl) refl zero-le (λ e. refl)))
+    (closest_nearest 0 1 (le_refl 1) 0 (within 0 0 0 zero-le zero-le refl) (closest_low 0 1 0 0 0 (le_refl 1) (pow_pos 53) (inl refl) refl zero-le (λ e. refl)))
 
 -- z of the 64 digits of n stand before the leading one, which is digit `place`
 pub record Leading (n z : ℕ) : Type 0 where
@@ -36,40 +36,40 @@ leading n nonzero fits =
     positive n h = omega arith
 
 module _ {n z : ℕ} (lead : Leading n z) where
-  pub zeros-lt : z < 64
-  zeros-lt = omega arith
+  pub zeros_lt : z < 64
+  zeros_lt = omega arith
 
-  field-le : 1085 - z ≤ 1085
-  field-le = omega arith
+  field_le : 1085 - z ≤ 1085
+  field_le = omega arith
 
   -- ---- at most 53 digits: they are moved up until there are 53, and none is lost
   module _ (h : 11 ≤ z) where
     abbrev moved : ℕ
     moved = n * 2 ^ (z - 11)
 
-    pub moved-lt : moved < 2 ^ 53
-    moved-lt = subst (λ (x : ℕ). moved < 2 ^ x) (up z lead.place lead.places h) (shl_lt (suc lead.place) (z - 11) lead.high)
+    pub moved_lt : moved < 2 ^ 53
+    moved_lt = subst (λ (x : ℕ). moved < 2 ^ x) (up z lead.place lead.places h) (shl_lt (suc lead.place) (z - 11) lead.high)
       where
         up : (z j : ℕ) → z + suc j ≡ 64 → 11 ≤ z → suc j + (z - 11) ≡ 53
         up z j p h = omega arith
 
-    pub moved-ge : 2 ^ 52 ≤ moved
-    moved-ge = subst (λ (x : ℕ). x ≤ moved) (sym (pow-add 2 lead.place (z - 11)) ∙ ap (λ (x : ℕ). 2 ^ x) (up z lead.place lead.places h)) (mul-le-mul_right (2 ^ (z - 11)) lead.low)
+    pub moved_ge : 2 ^ 52 ≤ moved
+    moved_ge = subst (λ (x : ℕ). x ≤ moved) (sym (pow-add 2 lead.place (z - 11)) ∙ ap (λ (x : ℕ). 2 ^ x) (up z lead.place lead.places h)) (mul-le-mul_right (2 ^ (z - 11)) lead.low)
       where
         up : (z j : ℕ) → z + suc j ≡ 64 → 11 ≤ z → j + (z - 11) ≡ 52
         up z j p h = omega arith
 
-    pub none-lost : moved % 2 ^ 64 ≡ moved
-    none-lost = mod-eq_of_lt (lt_of_lt_of_le moved-lt (le_of_lt (pow-lt {i = 53} {j = 64} (omega arith))))
+    pub none_lost : moved % 2 ^ 64 ≡ moved
+    none_lost = mod-eq_of_lt (lt_of_lt_of_le moved_lt (le_of_lt (pow-lt {i = 53} {j = 64} (omega arith))))
 
-    pub exact-lt : moved % 2 ^ 64 < 2 ^ 53
-    exact-lt = subst (λ (x : ℕ). x < 2 ^ 53) (sym none-lost) moved-lt
+    pub exact_lt : moved % 2 ^ 64 < 2 ^ 53
+    exact_lt = subst (λ (x : ℕ). x < 2 ^ 53) (sym none_lost) moved_lt
 
     pub exact : Nearest (n * one) 1 ((1085 - z) * 2 ^ 52 + moved % 2 ^ 64)
     exact =
-        subst (λ (x : ℕ). Nearest (n * one) 1 ((1085 - z) * 2 ^ 52 + x)) (sym none-lost)
-        (closest-nearest (n * one) 1 (le_refl 1) ((1085 - z) * 2 ^ 52 + moved) (within (1085 - z) moved _ field-le (le_of_lt moved-lt) refl)
-        (closest-low (n * one) 1 (1085 - z) moved 0 (le_refl 1) moved-lt (inr moved-ge) whole zero-le
+        subst (λ (x : ℕ). Nearest (n * one) 1 ((1085 - z) * 2 ^ 52 + x)) (sym none_lost)
+        (closest_nearest (n * one) 1 (le_refl 1) ((1085 - z) * 2 ^ 52 + moved) (within (1085 - z) moved _ field_le (le_of_lt moved_lt) refl)
+        (closest_low (n * one) 1 (1085 - z) moved 0 (le_refl 1) moved_lt (inr moved_ge) whole zero-le
         (λ e. absurd (nothing (1 * 2 ^ (1085 - z)) (mul-pos (le_refl 1) (pow_pos (1085 - z))) e))))
       where
         nothing : (u : ℕ) → 0 < u → 0 ≡ u → ⊥
@@ -97,51 +97,51 @@ module _ {n z : ℕ} (lead : Leading n z) where
     abbrev rest : ℕ
     rest = n % step
 
-    pub whole-lt : whole < 2 ^ 53
-    whole-lt = shr_lt 53 (11 - z) (subst (λ (x : ℕ). n < 2 ^ x) (up z lead.place lead.places h) lead.high)
+    pub whole_lt : whole < 2 ^ 53
+    whole_lt = shr_lt 53 (11 - z) (subst (λ (x : ℕ). n < 2 ^ x) (up z lead.place lead.places h) lead.high)
       where
         up : (z j : ℕ) → z + suc j ≡ 64 → z < 11 → suc j ≡ 53 + (11 - z)
         up z j p h = omega arith
 
-    whole-ge : 2 ^ 52 ≤ whole
-    whole-ge = (le-div_iff_mul-le (pow_pos (11 - z))).1 (subst (λ (x : ℕ). x ≤ n) (ap (λ (x : ℕ). 2 ^ x) (up z lead.place lead.places h) ∙ pow-add 2 52 (11 - z)) lead.low)
+    whole_ge : 2 ^ 52 ≤ whole
+    whole_ge = (le-div_iff_mul-le (pow_pos (11 - z))).1 (subst (λ (x : ℕ). x ≤ n) (ap (λ (x : ℕ). 2 ^ x) (up z lead.place lead.places h) ∙ pow-add 2 52 (11 - z)) lead.low)
       where
         up : (z j : ℕ) → z + suc j ≡ 64 → z < 11 → j ≡ 52 + (11 - z)
         up z j p h = omega arith
 
     -- in units
-    step-units : 1 * 2 ^ (1085 - z) ≡ step * one
-    step-units = one-mul (2 ^ (1085 - z)) ∙ ap (λ (x : ℕ). 2 ^ x) (all z h) ∙ pow-add 2 (11 - z) 1074
+    step_units : 1 * 2 ^ (1085 - z) ≡ step * one
+    step_units = one-mul (2 ^ (1085 - z)) ∙ ap (λ (x : ℕ). 2 ^ x) (all z h) ∙ pow-add 2 (11 - z) 1074
       where
         all : (z : ℕ) → z < 11 → 1085 - z ≡ 11 - z + 1074
         all z h = omega arith
 
-    in-steps : n * one ≡ whole * (1 * 2 ^ (1085 - z)) + rest * one
-    in-steps =
+    in_steps : n * one ≡ whole * (1 * 2 ^ (1085 - z)) + rest * one
+    in_steps =
         ap (λ (x : ℕ). x * one) (sym (div-add-mod' n step))
         ∙ add-mul (whole * step) rest one
-        ∙ ap (λ (x : ℕ). x + rest * one) (mul_assoc whole step one ∙ ap (λ (x : ℕ). whole * x) (sym step-units))
+        ∙ ap (λ (x : ℕ). x + rest * one) (mul_assoc whole step one ∙ ap (λ (x : ℕ). whole * x) (sym step_units))
 
     twice : rest * one + rest * one ≡ (rest + rest) * one
     twice = sym (add-mul rest rest one)
 
-    le-units : {a b x y : ℕ} → x ≡ a * one → y ≡ b * one → a ≤ b → x ≤ y
-    le-units p q l = le_trans (le_of_eq p) (le_trans (mul-le-mul_right one l) (le_of_eq (sym q)))
+    le_units : {a b x y : ℕ} → x ≡ a * one → y ≡ b * one → a ≤ b → x ≤ y
+    le_units p q l = le_trans (le_of_eq p) (le_trans (mul-le-mul_right one l) (le_of_eq (sym q)))
 
     tie : rest * one + rest * one ≡ 1 * 2 ^ (1085 - z) → rest + rest ≡ step
-    tie e = eq_of_mul-eq-mul_right one (pow_pos 1074) (rest + rest) step (sym twice ∙ e ∙ step-units)
+    tie e = eq_of_mul-eq-mul_right one (pow_pos 1074) (rest + rest) step (sym twice ∙ e ∙ step_units)
 
     down : rest + rest ≤ step → (rest + rest ≡ step → whole % 2 ≡ 0) → Nearest (n * one) 1 ((1085 - z) * 2 ^ 52 + whole)
     down half even =
-        closest-nearest (n * one) 1 (le_refl 1) ((1085 - z) * 2 ^ 52 + whole) (within (1085 - z) whole _ field-le (le_of_lt whole-lt) refl)
-        (closest-low (n * one) 1 (1085 - z) whole (rest * one) (le_refl 1) whole-lt (inr whole-ge) in-steps (le-units twice step-units half) (λ e. even (tie e)))
+        closest_nearest (n * one) 1 (le_refl 1) ((1085 - z) * 2 ^ 52 + whole) (within (1085 - z) whole _ field_le (le_of_lt whole_lt) refl)
+        (closest_low (n * one) 1 (1085 - z) whole (rest * one) (le_refl 1) whole_lt (inr whole_ge) in_steps (le_units twice step_units half) (λ e. even (tie e)))
 
     up : step ≤ rest + rest → (rest + rest ≡ step → suc whole % 2 ≡ 0) → Nearest (n * one) 1 (suc ((1085 - z) * 2 ^ 52 + whole))
     up half even =
-        closest-nearest (n * one) 1 (le_refl 1) (suc ((1085 - z) * 2 ^ 52 + whole)) (within (1085 - z) (suc whole) _ field-le whole-lt (next ((1085 - z) * 2 ^ 52) whole))
-        (closest-high (n * one) 1 (1085 - z) whole (rest * one) (le_refl 1) whole-lt (inr whole-ge) in-steps
-        (lt_of_lt_of_le (mul-lt-mul_of_pos_right (mod-lt n (pow_pos (11 - z))) (pow_pos 1074)) (le_of_eq (sym step-units)))
-        (le-units step-units twice half)
+        closest_nearest (n * one) 1 (le_refl 1) (suc ((1085 - z) * 2 ^ 52 + whole)) (within (1085 - z) (suc whole) _ field_le whole_lt (next ((1085 - z) * 2 ^ 52) whole))
+        (closest_high (n * one) 1 (1085 - z) whole (rest * one) (le_refl 1) whole_lt (inr whole_ge) in_steps
+        (lt_of_lt_of_le (mul-lt-mul_of_pos_right (mod-lt n (pow_pos (11 - z))) (pow_pos 1074)) (le_of_eq (sym step_units)))
+        (le_units step_units twice half)
         (λ e. even (tie e)))
       where
         next : (b a : ℕ) → suc (b + a) ≡ b + suc a
@@ -151,24 +151,24 @@ module _ {n z : ℕ} (lead : Leading n z) where
     abbrev shifted : ℕ
     shifted = 1 * 2 ^ (11 - z) % 2 ^ 64
 
-    shifted-is : shifted ≡ step
-    shifted-is = ap (λ (x : ℕ). x % 2 ^ 64) (one-mul step) ∙ mod-eq_of_lt (pow-lt (small z))
+    shifted_is : shifted ≡ step
+    shifted_is = ap (λ (x : ℕ). x % 2 ^ 64) (one-mul step) ∙ mod-eq_of_lt (pow-lt (small z))
       where
         small : (z : ℕ) → 11 - z < 64
         small z = omega arith
 
-    pub step-pos : 0 < shifted
-    step-pos = subst (λ (x : ℕ). 0 < x) (sym shifted-is) (pow_pos (11 - z))
+    pub step_pos : 0 < shifted
+    step_pos = subst (λ (x : ℕ). 0 < x) (sym shifted_is) (pow_pos (11 - z))
 
     pub rest_lt : n % shifted < 2 ^ 11
-    rest_lt = lt_of_lt_of_le (mod-lt n step-pos) (le_trans (le_of_eq shifted-is) (pow_mono (small z)))
+    rest_lt = lt_of_lt_of_le (mod-lt n step_pos) (le_trans (le_of_eq shifted_is) (pow_mono (small z)))
       where
         small : (z : ℕ) → 11 - z ≤ 11
         small z = omega arith
 
     pub less : n % shifted + n % shifted < shifted → Nearest (n * one) 1 ((1085 - z) * 2 ^ 52 + whole)
     less l =
-        let m : rest + rest < step = subst (λ (x : ℕ). n % x + n % x < x) shifted-is l in
+        let m : rest + rest < step = subst (λ (x : ℕ). n % x + n % x < x) shifted_is l in
         down (le_of_lt m) (λ e. absurd (differ (rest + rest) step m e))
       where
         differ : (x y : ℕ) → x < y → x ≡ y → ⊥
@@ -176,7 +176,7 @@ module _ {n z : ℕ} (lead : Leading n z) where
 
     pub more : shifted < n % shifted + n % shifted → Nearest (n * one) 1 ((1085 - z) * 2 ^ 52 + whole + 1)
     more l =
-        let m : step < rest + rest = subst (λ (x : ℕ). x < n % x + n % x) shifted-is l in
+        let m : step < rest + rest = subst (λ (x : ℕ). x < n % x + n % x) shifted_is l in
         subst (λ (x : ℕ). Nearest (n * one) 1 x) (sym (add-one _)) (up (le_of_lt m) (λ e. absurd (differ step (rest + rest) m e)))
       where
         differ : (x y : ℕ) → x < y → y ≡ x → ⊥
@@ -184,9 +184,9 @@ module _ {n z : ℕ} (lead : Leading n z) where
 
     -- an odd number moves up, an even one stays
     pub even : shifted ≤ n % shifted + n % shifted → n % shifted + n % shifted ≤ shifted → Nearest (n * one) 1 ((1085 - z) * 2 ^ 52 + whole + whole % 2)
-    even a b = elim (lt-or-le (whole % 2) 1) [
-      | inl l ↦ subst (λ (x : ℕ). Nearest (n * one) 1 x) (sym (stay ((1085 - z) * 2 ^ 52 + whole) whole l)) (down (subst (λ (x : ℕ). n % x + n % x ≤ x) shifted-is b) (λ e. is-even whole l))
-      | inr g ↦ subst (λ (x : ℕ). Nearest (n * one) 1 x) (sym (move ((1085 - z) * 2 ^ 52 + whole) whole g)) (up (subst (λ (x : ℕ). x ≤ n % x + n % x) shifted-is a) (λ e. next-even whole g))
+    even a b = elim (lt_or_le (whole % 2) 1) [
+      | inl l ↦ subst (λ (x : ℕ). Nearest (n * one) 1 x) (sym (stay ((1085 - z) * 2 ^ 52 + whole) whole l)) (down (subst (λ (x : ℕ). n % x + n % x ≤ x) shifted_is b) (λ e. is_even whole l))
+      | inr g ↦ subst (λ (x : ℕ). Nearest (n * one) 1 x) (sym (move ((1085 - z) * 2 ^ 52 + whole) whole g)) (up (subst (λ (x : ℕ). x ≤ n % x + n % x) shifted_is a) (λ e. next_even whole g))
     ]
       where
         stay : (p w : ℕ) → w % 2 < 1 → p + w % 2 ≡ p
@@ -195,8 +195,8 @@ module _ {n z : ℕ} (lead : Leading n z) where
         move : (p w : ℕ) → 1 ≤ w % 2 → p + w % 2 ≡ suc p
         move p w g = omega arith
 
-        is-even : (w : ℕ) → w % 2 < 1 → w % 2 ≡ 0
-        is-even w l = omega arith
+        is_even : (w : ℕ) → w % 2 < 1 → w % 2 ≡ 0
+        is_even w l = omega arith
 
-        next-even : (w : ℕ) → 1 ≤ w % 2 → suc w % 2 ≡ 0
-        next-even w g = omega arith
+        next_even : (w : ℕ) → 1 ≤ w % 2 → suc w % 2 ≡ 0
+        next_even w g = omega arith

@@ -6,11 +6,11 @@ use native.Mathlib.Nat.{le_refl, le_trans, le_of_lt, lt_of_lt_of_le, lt_of_le_of
 use native.Mathlib.Omega.{arith}
 use lib.Pow.{pow_pos, pow-add, pow_mono}
 use lib.Count.{count_leading_zeros}
-use Rattle.ieee754.specs.Ieee754.{infinity, one, of-fields, units, square, nearest-root}
-use Rattle.ieee754.specs.Roots.{Whole-root, Digits, Positive}
-use Rattle.ieee754.proofs.Units.{lt-or-le}
-use Rattle.ieee754.proofs.Pattern.{Leading, leading, zeros-lt, moved-lt, moved-ge, none-lost}
-use Rattle.ieee754.proofs.Root.{square-lt, root-lt, Encloses, nearest-root-is, encloses}
+use Rattle.ieee754.specs.Ieee754.{infinity, one, double_of_fields, units, square, nearest_root}
+use Rattle.ieee754.specs.Roots.{WholeRoot, Digits, Positive}
+use Rattle.ieee754.proofs.Units.{lt_or_le}
+use Rattle.ieee754.proofs.Pattern.{Leading, leading, zeros_lt, moved_lt, moved_ge, none_lost}
+use Rattle.ieee754.proofs.Root.{square_lt, root_lt, Encloses, nearest_root_is, encloses}
 
 -- m, or twice m where e is odd, has at most 54 digits
 pub one_more : {m e : ℕ} → Digits m e → m * (1 + e % 2) < 2 ^ 54
@@ -22,30 +22,30 @@ one_more {m} {e} d = less m (e % 2) d.high (mod-lt e (pow_pos 1))
     less m (suc (suc b)) h l = absurd (omega arith)
 
 -- ---- the 108 digits whose whole root has 54: m * 2 ^ 54, with one more factor 2 where e is odd
-module _ {m e r : ℕ} (d : Digits m e) (root : Whole-root (m * (1 + e % 2) * 2 ^ 54) r) where
+module _ {m e r : ℕ} (d : Digits m e) (root : WholeRoot (m * (1 + e % 2) * 2 ^ 54) r) where
   abbrev wide : ℕ
   wide = m * (1 + e % 2) * 2 ^ 54
 
-  wide-ge : square (2 ^ 53) ≤ wide
-  wide-ge = mul-le-mul_right (2 ^ 54) (more m (e % 2) d.low)
+  wide_ge : square (2 ^ 53) ≤ wide
+  wide_ge = mul-le-mul_right (2 ^ 54) (more m (e % 2) d.low)
     where
       more : (m b : ℕ) → 2 ^ 52 ≤ m → 2 ^ 52 ≤ m * (1 + b)
       more m b h = omega arith
 
-  wide-lt : wide < square (2 ^ 54)
-  wide-lt = mul-lt-mul_of_pos_right (one_more d) (pow_pos 54)
+  wide_lt : wide < square (2 ^ 54)
+  wide_lt = mul-lt-mul_of_pos_right (one_more d) (pow_pos 54)
 
-  pub root-low : 2 ^ 53 ≤ r
-  root-low = le_of_suc-le-suc (root-lt {a = 2 ^ 53} {b = suc r} (lt_of_le_of_lt wide-ge root.high))
+  pub root_low : 2 ^ 53 ≤ r
+  root_low = le_of_suc-le-suc (root_lt {a = 2 ^ 53} {b = suc r} (lt_of_le_of_lt wide_ge root.high))
 
-  pub root-high : r < 2 ^ 54
-  root-high = root-lt {a = r} {b = 2 ^ 54} (lt_of_le_of_lt root.low wide-lt)
+  pub root_high : r < 2 ^ 54
+  root_high = root_lt {a = r} {b = 2 ^ 54} (lt_of_le_of_lt root.low wide_lt)
 
   abbrev h : ℕ
   h = e / 2 - 27
 
-  in-steps : m * 2 ^ e ≡ wide * (2 ^ h * 2 ^ h)
-  in-steps =
+  in_steps : m * 2 ^ e ≡ wide * (2 ^ h * 2 ^ h)
+  in_steps =
       ap (λ (x : ℕ). m * 2 ^ x) (split e d.least)
       ∙ ap (λ (x : ℕ). m * x) (pow-add 2 (e % 2) (54 + (h + h)) ∙ ap (λ (x : ℕ). 2 ^ (e % 2) * x) (pow-add 2 54 (h + h) ∙ ap (λ (x : ℕ). 2 ^ 54 * x) (pow-add 2 h h)))
       ∙ ap (λ (x : ℕ). m * (x * (2 ^ 54 * (2 ^ h * 2 ^ h)))) (power (e % 2) (mod-lt e (pow_pos 1)))
@@ -60,8 +60,8 @@ module _ {m e r : ℕ} (d : Digits m e) (root : Whole-root (m * (1 + e % 2) * 2 
       power (suc zero) l = refl
       power (suc (suc b)) l = absurd (omega arith)
 
-  wide-even : wide % 2 ≡ 0
-  wide-even = go (m * (1 + e % 2))
+  wide_even : wide % 2 ≡ 0
+  wide_even = go (m * (1 + e % 2))
     where
       go : (x : ℕ) → x * 2 ^ 54 % 2 ≡ 0
       go x = omega arith
@@ -69,36 +69,36 @@ module _ {m e r : ℕ} (d : Digits m e) (root : Whole-root (m * (1 + e % 2) * 2 
   abbrev pattern : ℕ
   pattern = (e / 2 - 26) * 2 ^ 52 + r / 2 + r % 2
 
-  pub pattern-encloses : Encloses (m * 2 ^ e) pattern
-  pattern-encloses = subst (λ (k : ℕ). Encloses (m * 2 ^ e) (k * 2 ^ 52 + r / 2 + r % 2)) (next e d.least) (encloses (m * 2 ^ e) wide h r in-steps wide-even root root-low root-high)
+  pub pattern_encloses : Encloses (m * 2 ^ e) pattern
+  pattern_encloses = subst (λ (k : ℕ). Encloses (m * 2 ^ e) (k * 2 ^ 52 + r / 2 + r % 2)) (next e d.least) (encloses (m * 2 ^ e) wide h r in_steps wide_even root root_low root_high)
     where
       next : (e : ℕ) → 1022 ≤ e → suc (e / 2 - 27) ≡ e / 2 - 26
       next e l = omega arith
 
   pub pattern_lt : pattern < infinity
-  pattern_lt = go e r d.most root-high
+  pattern_lt = go e r d.most root_high
     where
       go : (e r : ℕ) → e ≤ 3119 → r < 2 ^ 54 → (e / 2 - 26) * 2 ^ 52 + r / 2 + r % 2 < infinity
       go e r l u = omega arith
 
-  pub pattern-ge : 2 ^ 52 ≤ pattern
-  pattern-ge = go e r d.least
+  pub pattern_ge : 2 ^ 52 ≤ pattern
+  pattern_ge = go e r d.least
     where
       go : (e r : ℕ) → 1022 ≤ e → 2 ^ 52 ≤ (e / 2 - 26) * 2 ^ 52 + r / 2 + r % 2
       go e r l = omega arith
 
-  pub pattern-is : pattern ≡ nearest-root (m * 2 ^ e)
-  pattern-is = sym (nearest-root-is (m * 2 ^ e) pattern (le_of_lt pattern_lt) pattern-encloses)
+  pub pattern_is : pattern ≡ nearest_root (m * 2 ^ e)
+  pattern_is = sym (nearest_root_is (m * 2 ^ e) pattern (le_of_lt pattern_lt) pattern_encloses)
 
 -- ---- each number has a whole root
-pub whole-root : (n : ℕ) → (r : ℕ) × Whole-root n r
-whole-root zero = (0, record { low = le_refl 0; high = le_refl 1 })
-whole-root (suc n) = go (whole-root n)
+pub whole_root : (n : ℕ) → (r : ℕ) × WholeRoot n r
+whole_root zero = (0, record { low = le_refl 0; high = le_refl 1 })
+whole_root (suc n) = go (whole_root n)
   where
-    go : (r : ℕ) × Whole-root n r → (r : ℕ) × Whole-root (suc n) r
-    go (r, w) = elim (lt-or-le (suc n) (square (suc r))) [
+    go : (r : ℕ) × WholeRoot n r → (r : ℕ) × WholeRoot (suc n) r
+    go (r, w) = elim (lt_or_le (suc n) (square (suc r))) [
       | inl l ↦ (r, record { low = le_trans w.low (up n); high = l })
-      | inr g ↦ (suc r, record { low = g; high = lt_of_le_of_lt w.high (square-lt {a = suc r} {b = suc (suc r)} (le_refl (suc (suc r)))) })
+      | inr g ↦ (suc r, record { low = g; high = lt_of_le_of_lt w.high (square_lt {a = suc r} {b = suc (suc r)} (le_refl (suc (suc r)))) })
     ]
       where
         up : (n : ℕ) → n ≤ suc n
@@ -107,19 +107,19 @@ whole-root (suc n) = go (whole-root n)
 -- ---- each double above zero has such digits
 
 -- with a leading digit
-pub normal-scaled : (p : ℕ) → 0 < p / 2 ^ 52 → (2 ^ 52 + p % 2 ^ 52) * 2 ^ (1073 + p / 2 ^ 52) ≡ units p * one
+pub normal_scaled : (p : ℕ) → 0 < p / 2 ^ 52 → (2 ^ 52 + p % 2 ^ 52) * 2 ^ (1073 + p / 2 ^ 52) ≡ units p * one
 unfolding units
-normal-scaled p h = fields (p / 2 ^ 52) (p % 2 ^ 52) h
+normal_scaled p h = fields (p / 2 ^ 52) (p % 2 ^ 52) h
   where
-    fields : (x t : ℕ) → 0 < x → (2 ^ 52 + t) * 2 ^ (1073 + x) ≡ of-fields x t * one
+    fields : (x t : ℕ) → 0 < x → (2 ^ 52 + t) * 2 ^ (1073 + x) ≡ double_of_fields x t * one
     fields zero t h = absurd (omega arith)
     fields (suc x) t h = sym (mul_assoc (2 ^ 52 + t) (2 ^ x) one ∙ ap (λ (y : ℕ). (2 ^ 52 + t) * y) (sym (pow-add 2 x 1074)) ∙ ap (λ (y : ℕ). (2 ^ 52 + t) * 2 ^ y) (all x))
       where
         all : (x : ℕ) → x + 1074 ≡ 1073 + suc x
         all x = omega arith
 
-pub normal-digits : (p : ℕ) → p < infinity → Digits (2 ^ 52 + p % 2 ^ 52) (1073 + p / 2 ^ 52)
-normal-digits p l = record {
+pub normal_digits : (p : ℕ) → p < infinity → Digits (2 ^ 52 + p % 2 ^ 52) (1073 + p / 2 ^ 52)
+normal_digits p l = record {
   low = from (p % 2 ^ 52);
   high = to (p % 2 ^ 52) (mod-lt p (pow_pos 52));
   least = least (p / 2 ^ 52);
@@ -140,29 +140,29 @@ normal-digits p l = record {
 
 -- without one: the digits are moved up until there are 53
 module _ {p z : ℕ} (lead : Leading p z) (small : p / 2 ^ 52 ≡ 0) where
-  pub zeros-ge : 11 ≤ z
-  zeros-ge = elim (lt-or-le z 11) [
-    | inl l ↦ absurd (lt_irrefl p (lt_of_lt_of_le (under p small) (le_trans (wide lead.place (high-place z lead.place lead.places l)) lead.low)))
+  pub zeros_ge : 11 ≤ z
+  zeros_ge = elim (lt_or_le z 11) [
+    | inl l ↦ absurd (lt_irrefl p (lt_of_lt_of_le (under p small) (le_trans (wide lead.place (high_place z lead.place lead.places l)) lead.low)))
     | inr g ↦ g
   ]
     where
       under : (p : ℕ) → p / 2 ^ 52 ≡ 0 → p < 2 ^ 52
       under p h = omega arith
 
-      high-place : (z j : ℕ) → z + suc j ≡ 64 → z < 11 → 52 ≤ j
-      high-place z j e h = omega arith
+      high_place : (z j : ℕ) → z + suc j ≡ 64 → z < 11 → 52 ≤ j
+      high_place z j e h = omega arith
 
       wide : (j : ℕ) → 52 ≤ j → 2 ^ 52 ≤ 2 ^ j
       wide j h = pow_mono h
 
-  pub small-scaled : p * 2 ^ (z - 11) * 2 ^ (1085 - z) ≡ units p * one
+  pub small_scaled : p * 2 ^ (z - 11) * 2 ^ (1085 - z) ≡ units p * one
   unfolding units
-  small-scaled =
+  small_scaled =
       mul_assoc p (2 ^ (z - 11)) (2 ^ (1085 - z))
       ∙ ap (λ (x : ℕ). p * x) (sym (pow-add 2 (z - 11) (1085 - z)))
-      ∙ ap (λ (x : ℕ). p * 2 ^ x) (all z lead.place lead.places zeros-ge)
+      ∙ ap (λ (x : ℕ). p * 2 ^ x) (all z lead.place lead.places zeros_ge)
       ∙ ap (λ (x : ℕ). x * one) (sym (rest p small))
-      ∙ ap (λ (x : ℕ). of-fields x (p % 2 ^ 52) * one) (sym small)
+      ∙ ap (λ (x : ℕ). double_of_fields x (p % 2 ^ 52) * one) (sym small)
     where
       rest : (p : ℕ) → p / 2 ^ 52 ≡ 0 → p % 2 ^ 52 ≡ p
       rest p h = omega arith
@@ -170,11 +170,11 @@ module _ {p z : ℕ} (lead : Leading p z) (small : p / 2 ^ 52 ≡ 0) where
       all : (z j : ℕ) → z + suc j ≡ 64 → 11 ≤ z → z - 11 + (1085 - z) ≡ 1074
       all z j p h = omega arith
 
-  pub small-digits : Digits (p * 2 ^ (z - 11)) (1085 - z)
-  small-digits = record {
-    low = moved-ge lead zeros-ge;
-    high = moved-lt lead zeros-ge;
-    least = least z (zeros-lt lead);
+  pub small_digits : Digits (p * 2 ^ (z - 11)) (1085 - z)
+  small_digits = record {
+    low = moved_ge lead zeros_ge;
+    high = moved_lt lead zeros_ge;
+    least = least z (zeros_lt lead);
     most = most z;
   }
     where
@@ -185,14 +185,14 @@ module _ {p z : ℕ} (lead : Leading p z) (small : p / 2 ^ 52 ≡ 0) where
       most z = omega arith
 
   -- the code's shift loses nothing
-  pub shifted-digits : Digits (p * 2 ^ (z - 11) % 2 ^ 64) (1085 - z)
-  shifted-digits = subst (λ (m : ℕ). Digits m (1085 - z)) (sym (none-lost lead zeros-ge)) small-digits
+  pub shifted_digits : Digits (p * 2 ^ (z - 11) % 2 ^ 64) (1085 - z)
+  shifted_digits = subst (λ (m : ℕ). Digits m (1085 - z)) (sym (none_lost lead zeros_ge)) small_digits
 
-  pub shifted-scaled : p * 2 ^ (z - 11) % 2 ^ 64 * 2 ^ (1085 - z) ≡ units p * one
-  shifted-scaled = ap (λ (m : ℕ). m * 2 ^ (1085 - z)) (none-lost lead zeros-ge) ∙ small-scaled
+  pub shifted_scaled : p * 2 ^ (z - 11) % 2 ^ 64 * 2 ^ (1085 - z) ≡ units p * one
+  shifted_scaled = ap (λ (m : ℕ). m * 2 ^ (1085 - z)) (none_lost lead zeros_ge) ∙ small_scaled
 
-pub leading-digit : {p : ℕ} → Positive p → Leading p (count_leading_zeros 64 p)
-leading-digit {p} at = leading p (nonzero p at.above) (short p at.below)
+pub leading_digit : {p : ℕ} → Positive p → Leading p (count_leading_zeros 64 p)
+leading_digit {p} at = leading p (nonzero p at.above) (short p at.below)
   where
     nonzero : (p : ℕ) → 0 < p → p ≡ 0 → ⊥
     nonzero p h e = omega arith
@@ -206,10 +206,10 @@ pub record Root (p r : ℕ) : Type 0 where
   pub least : 2 ^ 52 ≤ r
   pub most : r < infinity
 
-pub has-root : {p : ℕ} → Positive p → (r : ℕ) × Root p r
-has-root {p} at = elim (lt-or-le (p / 2 ^ 52) 1) [
-  | inl s ↦ let lead = leading-digit at in by (small-digits lead (none (p / 2 ^ 52) s)) (small-scaled lead (none (p / 2 ^ 52) s))
-  | inr g ↦ by (normal-digits p at.below) (normal-scaled p g)
+pub has_root : {p : ℕ} → Positive p → (r : ℕ) × Root p r
+has_root {p} at = elim (lt_or_le (p / 2 ^ 52) 1) [
+  | inl s ↦ let lead = leading_digit at in by (small_digits lead (none (p / 2 ^ 52) s)) (small_scaled lead (none (p / 2 ^ 52) s))
+  | inr g ↦ by (normal_digits p at.below) (normal_scaled p g)
 ]
   where
     none : (x : ℕ) → x < 1 → x ≡ 0
@@ -217,5 +217,5 @@ has-root {p} at = elim (lt-or-le (p / 2 ^ 52) 1) [
 
     by : {m e : ℕ} → Digits m e → m * 2 ^ e ≡ units p * one → (r : ℕ) × Root p r
     by {m} {e} d s =
-        let w = whole-root (m * (1 + e % 2) * 2 ^ 54) in
-        (pattern d w.1, record { between = subst (λ (n : ℕ). Encloses n (pattern d w.1)) s (pattern-encloses d w.1); least = pattern-ge d w.1; most = pattern_lt d w.1 })
+        let w = whole_root (m * (1 + e % 2) * 2 ^ 54) in
+        (pattern d w.1, record { between = subst (λ (n : ℕ). Encloses n (pattern d w.1)) s (pattern_encloses d w.1); least = pattern_ge d w.1; most = pattern_lt d w.1 })

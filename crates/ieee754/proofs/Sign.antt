@@ -11,7 +11,7 @@ use lib.Signed.{mag, non_neg, lt_z}
 use mir.Syntax.{w64}
 use mir.Val.{Fits, SFits, of_z, to_z}
 use mir.ValLaws.{to_z-of_z}
-use Rattle.ieee754.specs.Ieee754.{one, Nearest, with-sign, Is, of-integer}
+use Rattle.ieee754.specs.Ieee754.{one, Nearest, with_sign, Is, of_integer}
 
 -- ---- what the test i < 0 says
 
@@ -30,13 +30,13 @@ next (pos a) h = absurd (true≢false h)
 next (negsuc zero) h = refl
 next (negsuc (suc a)) h = +ℤ_one (negsuc (suc a))
 
-mag-opposite : (m : ℕ) → mag (neg_ℤ (pos m)) ≤ m
-mag-opposite zero = le_refl 0
-mag-opposite (suc m) = le-suc m
+mag_opposite : (m : ℕ) → mag (neg_ℤ (pos m)) ≤ m
+mag_opposite zero = le_refl 0
+mag_opposite (suc m) = le-suc m
 
-natAbs-negative : (i : ℤ) → non_neg i ≡ false → mag i + 1 ≡ nat_abs i
-natAbs-negative (pos a) h = absurd (true≢false h)
-natAbs-negative (negsuc a) h = add-one a
+natAbs_negative : (i : ℤ) → non_neg i ≡ false → mag i + 1 ≡ nat_abs i
+natAbs_negative (pos a) h = absurd (true≢false h)
+natAbs_negative (negsuc a) h = add-one a
 
 -- ---- an i64
 module _ (i : ℤ) (fits : SFits w64 i) where
@@ -44,18 +44,18 @@ module _ (i : ℤ) (fits : SFits w64 i) where
   abbrev pub seen : ℤ
   seen = to_z w64 (of_z w64 i)
 
-  seen-is : seen ≡ i
-  seen-is = to_z-of_z w64 i fits
+  seen_is : seen ≡ i
+  seen_is = to_z-of_z w64 i fits
 
-  pub below-zero : lt_z seen (pos 0) ≡ true → non_neg i ≡ false
-  below-zero h = is_negative i (subst (λ (x : ℤ). lt_z x (pos 0) ≡ true) seen-is h)
+  pub below_zero : lt_z seen (pos 0) ≡ true → non_neg i ≡ false
+  below_zero h = is_negative i (subst (λ (x : ℤ). lt_z x (pos 0) ≡ true) seen_is h)
 
   pub from_zero : lt_z seen (pos 0) ≡ false → non_neg i ≡ true
-  from_zero h = not_negative i (subst (λ (x : ℤ). lt_z x (pos 0) ≡ false) seen-is h)
+  from_zero h = not_negative i (subst (λ (x : ℤ). lt_z x (pos 0) ≡ false) seen_is h)
 
   -- a number that is not negative is cast as it is
   pub cast_fits : non_neg i ≡ true → T (non_neg seen) × Fits w64 (nat_abs seen)
-  cast_fits h = subst (λ (x : ℤ). T (non_neg x) × Fits w64 (nat_abs x)) (sym seen-is) (go i h fits)
+  cast_fits h = subst (λ (x : ℤ). T (non_neg x) × Fits w64 (nat_abs x)) (sym seen_is) (go i h fits)
     where
       wide : (a : ℕ) → a < 2 ^ 63 → a < 2 ^ 64
       wide a h = omega arith
@@ -65,7 +65,7 @@ module _ (i : ℤ) (fits : SFits w64 i) where
       go (negsuc a) h f = absurd (false≢true h)
 
   pub cast_is : nat_abs seen ≡ nat_abs i
-  cast_is = ap nat_abs seen-is
+  cast_is = ap nat_abs seen_is
 
   -- ---- of a negative one, i + 1 is negated and cast, and one is added
   module _ (h : non_neg i ≡ false) where
@@ -76,31 +76,31 @@ module _ (i : ℤ) (fits : SFits w64 i) where
     abbrev pub opposite : ℤ
     opposite = pos 0 -ℤ to_z w64 (of_z w64 i+1)
 
-    next-is : i+1 ≡ neg_ℤ (pos (mag i))
-    next-is = ap (λ (x : ℤ). x +ℤ pos 1) seen-is ∙ next i h
+    next_is : i+1 ≡ neg_ℤ (pos (mag i))
+    next_is = ap (λ (x : ℤ). x +ℤ pos 1) seen_is ∙ next i h
 
     pub next_fits : SFits w64 i+1
-    next_fits = subst (λ (x : ℤ). SFits w64 x) (sym next-is) (record { sfits = lt_of_le_of_lt (mag-opposite (mag i)) fits.sfits })
+    next_fits = subst (λ (x : ℤ). SFits w64 x) (sym next_is) (record { sfits = lt_of_le_of_lt (mag_opposite (mag i)) fits.sfits })
 
-    opposite-is : opposite ≡ pos (mag i)
-    opposite-is = ap (λ (x : ℤ). pos 0 -ℤ x) (to_z-of_z w64 i+1 next_fits ∙ next-is) ∙ +ℤ_idl (neg_ℤ (neg_ℤ (pos (mag i)))) ∙ neg_ℤ-neg_ℤ (pos (mag i))
+    opposite_is : opposite ≡ pos (mag i)
+    opposite_is = ap (λ (x : ℤ). pos 0 -ℤ x) (to_z-of_z w64 i+1 next_fits ∙ next_is) ∙ +ℤ_idl (neg_ℤ (neg_ℤ (pos (mag i)))) ∙ neg_ℤ-neg_ℤ (pos (mag i))
 
-    pub opposite-fits : SFits w64 opposite
-    opposite-fits = subst (λ (x : ℤ). SFits w64 x) (sym opposite-is) (record { sfits = fits.sfits })
+    pub opposite_fits : SFits w64 opposite
+    opposite_fits = subst (λ (x : ℤ). SFits w64 x) (sym opposite_is) (record { sfits = fits.sfits })
 
-    pub opposite-not-negative : non_neg opposite ≡ true
-    opposite-not-negative = ap non_neg opposite-is
+    pub opposite_not_negative : non_neg opposite ≡ true
+    opposite_not_negative = ap non_neg opposite_is
 
-    opposite-cast : nat_abs (to_z w64 (of_z w64 opposite)) ≡ mag i
-    opposite-cast = ap nat_abs (to_z-of_z w64 opposite opposite-fits ∙ opposite-is)
+    opposite_cast : nat_abs (to_z w64 (of_z w64 opposite)) ≡ mag i
+    opposite_cast = ap nat_abs (to_z-of_z w64 opposite opposite_fits ∙ opposite_is)
 
-    pub opposite-lt : nat_abs (to_z w64 (of_z w64 opposite)) < 2 ^ 63
-    opposite-lt = subst (λ (x : ℕ). x < 2 ^ 63) (sym opposite-cast) fits.sfits
+    pub opposite_lt : nat_abs (to_z w64 (of_z w64 opposite)) < 2 ^ 63
+    opposite_lt = subst (λ (x : ℕ). x < 2 ^ 63) (sym opposite_cast) fits.sfits
 
-    pub magnitude-is : nat_abs (to_z w64 (of_z w64 opposite)) + 1 ≡ nat_abs i
-    magnitude-is = ap (λ (x : ℕ). x + 1) opposite-cast ∙ natAbs-negative i h
+    pub magnitude_is : nat_abs (to_z w64 (of_z w64 opposite)) + 1 ≡ nat_abs i
+    magnitude_is = ap (λ (x : ℕ). x + 1) opposite_cast ∙ natAbs_negative i h
 
 -- ---- the sign before the nearest pattern of the magnitude
 
-pub signed-pattern : (i : ℤ) (s : Bool) (n p : ℕ) → not (non_neg i) ≡ s → n ≡ nat_abs i → Nearest (n * one) 1 p → Is (of-integer i) (with-sign s p)
-signed-pattern i s n p h e a = record { pattern = p; nearest = subst (λ (x : ℕ). Nearest (x * one) 1 p) e a; signed = ap (λ (t : Bool). with-sign t p) (sym h) }
+pub signed_pattern : (i : ℤ) (s : Bool) (n p : ℕ) → not (non_neg i) ≡ s → n ≡ nat_abs i → Nearest (n * one) 1 p → Is (of_integer i) (with_sign s p)
+signed_pattern i s n p h e a = record { pattern = p; nearest = subst (λ (x : ℕ). Nearest (x * one) 1 p) e a; signed = ap (λ (t : Bool). with_sign t p) (sym h) }

@@ -1,10 +1,10 @@
 -- Examples of rounding. `proofs/Examples.antt` proves all of them.
 use Rattle.std.specs.Prelude.{Bool, true, false, List, [], ◌∷◌, ℕ, ◌+◌, ◌-◌, ◌*◌, ◌^◌, ℤ, pos, negsuc}
-use Rattle.ieee754.specs.Ieee754.{with-sign, infinity, quiet-nan, Is, read, sum, difference, product, quotient, square-root, of-integer}
+use Rattle.ieee754.specs.Ieee754.{with_sign, infinity, quiet_nan, Is, read, sum, difference, product, quotient, square_root, of_integer}
 
 -- the pattern of a sign, an exponent's field and the digits below the leading one
 abbrev pub double : Bool → ℕ → ℕ → ℕ
-double s x t = with-sign s (x * 2 ^ 52 + t)
+double s x t = with_sign s (x * 2 ^ 52 + t)
 
 -- an operation, its operands and its result
 pub data Example : Type 0 where
@@ -14,12 +14,12 @@ pub data Example : Type 0 where
 
 -- the result is what IEEE 754 asks for
 abbrev pub Right : Example → Type 0
-Right (integer i r) = Is (of-integer i) r
+Right (integer i r) = Is (of_integer i) r
 Right (plus x y r) = Is (sum (read x) (read y)) r
 Right (minus x y r) = Is (difference (read x) (read y)) r
 Right (times x y r) = Is (product (read x) (read y)) r
 Right (over x y r) = Is (quotient (read x) (read y)) r
-Right (root x r) = Is (square-root (read x)) r
+Right (root x r) = Is (square_root (read x)) r
 
 unfoldable pub examples : List Example
 examples =
@@ -40,26 +40,26 @@ examples =
     ∷ plus (double true 0 0) (double false 0 0) (double false 0 0)
     ∷ plus (double true 0 0) (double true 0 0) (double true 0 0)
     ∷ plus (double false 1023 0) (double true 1023 0) (double false 0 0)
-    ∷ plus infinity (double true 2047 0) quiet-nan
+    ∷ plus infinity (double true 2047 0) quiet_nan
     -- 0.3 - 0.1 is 0.19999999999999998; 0 - 0 and -0 - 0; infinity less infinity
     ∷ minus (double false 1021 900719925474099) (double false 1019 2702159776422298) (double false 1020 2702159776422297)
     ∷ minus (double false 0 0) (double false 0 0) (double false 0 0)
     ∷ minus (double true 0 0) (double false 0 0) (double true 0 0)
-    ∷ minus infinity infinity quiet-nan
+    ∷ minus infinity infinity quiet_nan
     -- 0.1 * 0.1 is 0.010000000000000002; half of the smallest double is a tie to 0, half of three times it one to two units; an overflow; 0 * -1 and 0 * infinity
     ∷ times (double false 1019 2702159776422298) (double false 1019 2702159776422298) (double false 1016 1261007895663740)
     ∷ times (double false 0 1) (double false 1022 0) (double false 0 0)
     ∷ times (double false 0 3) (double false 1022 0) (double false 0 2)
     ∷ times (double false 2046 0) (double true 1024 0) (double true 2047 0)
     ∷ times (double false 0 0) (double true 1023 0) (double true 0 0)
-    ∷ times (double false 0 0) infinity quiet-nan
+    ∷ times (double false 0 0) infinity quiet_nan
     -- 1 / 3, and halves of the smallest doubles: ties to 0 and to 2 units
     ∷ over (double false 1023 0) (double false 1024 (2 ^ 51)) (double false 1021 1501199875790165)
     ∷ over (double false 0 1) (double false 1024 0) (double false 0 0)
     ∷ over (double false 0 3) (double false 1024 0) (double false 0 2)
     -- 1 / -0.0 and 0 / 0
     ∷ over (double false 1023 0) (double true 0 0) (double true 2047 0)
-    ∷ over (double false 0 0) (double false 0 0) quiet-nan
+    ∷ over (double false 0 0) (double false 0 0) quiet_nan
     -- the roots of 4 and of 2, of the numbers just below 1 and just above it, of the smallest and the largest double
     ∷ root 0x4010000000000000 0x4000000000000000
     ∷ root 0x4000000000000000 0x3FF6A09E667F3BCD
@@ -70,10 +70,10 @@ examples =
     -- of zeros, of -1, of infinities, and of a NaN of another pattern
     ∷ root (double false 0 0) (double false 0 0)
     ∷ root (double true 0 0) (double true 0 0)
-    ∷ root (double true 1023 0) quiet-nan
+    ∷ root (double true 1023 0) quiet_nan
     ∷ root infinity infinity
-    ∷ root (double true 2047 0) quiet-nan
-    ∷ root (double true 2047 1) quiet-nan
+    ∷ root (double true 2047 0) quiet_nan
+    ∷ root (double true 2047 1) quiet_nan
     ∷ []
 
 -- P holds of each

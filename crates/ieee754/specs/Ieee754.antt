@@ -2,7 +2,7 @@
 -- A double is its 64-bit pattern: from the top, 1 bit for the sign, 11 for the exponent's field and 52 for the digits below the leading one.
 -- Numbers are counted in units of 2 ^ -1074, the smallest positive double. So every finite double is a whole number of units, and no fraction but n / d occurs.
 -- Results are rounded to the nearest double, ties to even (the standard's roundTiesToEven). What that means is said by `Nearest`, of fractions, and by
--- `Nearest-root`, of square roots, and nowhere else.
+-- `NearestRoot`, of square roots, and nowhere else.
 use Rattle.std.specs.Prelude.{◌≡◌, ◌≢◌, Bool, true, false, not, ◌&&◌, ◌||◌, cond, ℕ, zero, suc, ◌+◌, ◌-◌, ◌*◌, ◌/◌, ◌%◌, ◌^◌, ◌≤◌, ◌<◌, ℤ, pos, negsuc, neg_ℤ, nat_abs, ◌+ℤ◌, ltb, leb, eqb}
 use Rattle.std.specs.Bool.{beq}
 use Rattle.std.specs.Int.Signed.{lt_z, non_neg}
@@ -18,14 +18,14 @@ abbrev pub one : ℕ
 one = 2 ^ 1074
 
 -- How many units an exponent's field and the digits t stand for. A field of 0 has no leading digit: zero, and the subnormal numbers.
-abbrev pub of-fields : ℕ → ℕ → ℕ
-of-fields zero t = t
-of-fields (suc x) t = (2 ^ 52 + t) * 2 ^ x
+abbrev pub double_of_fields : ℕ → ℕ → ℕ
+double_of_fields zero t = t
+double_of_fields (suc x) t = (2 ^ 52 + t) * 2 ^ x
 
 -- How many units a pattern stands for. Infinity's counts as 2 ^ 1024, the number that would follow the largest finite double if the exponent's range
 -- went on: so `Nearest` rounds to infinity exactly where the standard does, from halfway between these two.
 unfoldable pub units : ℕ → ℕ
-units p = of-fields (p / 2 ^ 52) (p % 2 ^ 52)
+units p = double_of_fields (p / 2 ^ 52) (p % 2 ^ 52)
 
 -- |a - b|
 abbrev pub distance : ℕ → ℕ → ℕ
@@ -34,7 +34,7 @@ distance a b = a - b + (b - a)
 -- The pattern p is the double nearest to n / d units, for a d above 0; of two that are as near it is the one whose last digit is even.
 -- The distances |n / d - units p| are compared d times as large. A significand's last digit is its pattern's last bit.
 pub record Nearest (n d p : ℕ) : Type 0 where
-  pub in-range : p ≤ infinity
+  pub in_range : p ≤ infinity
   pub nearest : (q : ℕ) → q ≤ infinity → distance n (units p * d) ≤ distance n (units q * d)
   pub ties : (q : ℕ) → q ≤ infinity → q ≢ p → distance n (units q * d) ≡ distance n (units p * d) → p % 2 ≡ 0
 
@@ -44,8 +44,8 @@ square a = a * a
 -- The pattern p is the double nearest to the square root of n, in units; of two that are as near it is the one whose last digit is even.
 -- A root's digits need not end, so not the root is compared but squares of whole numbers: the middle of two doubles of u and v units is (u + v) / 2, and the
 -- root of n is at least that where (u + v) ^ 2 is at most 4 n.
-pub record Nearest-root (n p : ℕ) : Type 0 where
-  pub in-range : p ≤ infinity
+pub record NearestRoot (n p : ℕ) : Type 0 where
+  pub in_range : p ≤ infinity
   -- the root isn't below the middle of p and a smaller double
   pub low : (q : ℕ) → q < p → square (units q + units p) ≤ 4 * n
   -- nor above that of p and a larger one
@@ -53,24 +53,24 @@ pub record Nearest-root (n p : ℕ) : Type 0 where
   pub ties : (q : ℕ) → q ≤ infinity → q ≢ p → square (units p + units q) ≡ 4 * n → p % 2 ≡ 0
 
 -- The same worked out, from p's highest bit down: p is the largest pattern for which the middle of p and the pattern before it is at most the root.
--- The root of a double is never in such a middle itself (proofs/Agreement.antt: `never-a-tie`), so ties are no matter here.
+-- The root of a double is never in such a middle itself (proofs/Agreement.antt: `never_a_tie`), so ties are no matter here.
 abbrev pub reached : ℕ → ℕ → Bool
 reached n p = leb (square (units (p - 1) + units p)) (4 * n)
 
 -- the pattern of n's root, of which the highest bits are found, p, and the lowest i are left
-unfoldable pub root-bits : ℕ → ℕ → ℕ → ℕ
-root-bits n zero p = p
-root-bits n (suc i) p = root-bits n i (cond (reached n (p + 2 ^ i)) (p + 2 ^ i) p)
+unfoldable pub root_bits : ℕ → ℕ → ℕ → ℕ
+root_bits n zero p = p
+root_bits n (suc i) p = root_bits n i (cond (reached n (p + 2 ^ i)) (p + 2 ^ i) p)
 
-abbrev pub nearest-root : ℕ → ℕ
-nearest-root n = root-bits n 63 0
+abbrev pub nearest_root : ℕ → ℕ
+nearest_root n = root_bits n 63 0
 
 -- ---- doubles
 
 -- a sign, true for negative, and the pattern below it
-abbrev pub with-sign : Bool → ℕ → ℕ
-with-sign false p = p
-with-sign true p = 2 ^ 63 + p
+abbrev pub with_sign : Bool → ℕ → ℕ
+with_sign false p = p
+with_sign true p = 2 ^ 63 + p
 
 abbrev pub negative : ℕ → Bool
 negative b = leb (2 ^ 63) b
@@ -95,29 +95,29 @@ read b =
 pub data Result : Type 0 where
   exactly : (r : ℕ) → Result
   rounded : (s : Bool) (n d : ℕ) → Result
-  root-of : (n : ℕ) → Result
+  root_of : (n : ℕ) → Result
 
 -- r is the double with the sign s that is nearest to n / d units
 pub record Rounded (s : Bool) (n d r : ℕ) : Type 0 where
   pub pattern : ℕ
   pub nearest : Nearest n d pattern
-  pub signed : r ≡ with-sign s pattern
+  pub signed : r ≡ with_sign s pattern
 
 -- the double r is what has to be given
 abbrev pub Is : Result → ℕ → Type 0
 Is (exactly p) r = r ≡ p
 Is (rounded s n d) r = Rounded s n d r
-Is (root-of n) r = Nearest-root n r
+Is (root_of n) r = NearestRoot n r
 
 -- The one NaN that is written: the sign is clear, and of the digits only the highest is set. In hexadecimal it is 7FF8000000000000.
-abbrev pub quiet-nan : ℕ
-quiet-nan = infinity + 2 ^ 51
+abbrev pub quiet_nan : ℕ
+quiet_nan = infinity + 2 ^ 51
 
 abbrev pub no_number : Result
-no_number = exactly quiet-nan
+no_number = exactly quiet_nan
 
-abbrev pub infinite-with : Bool → Result
-infinite-with s = exactly (with-sign s infinity)
+abbrev pub infinite_with : Bool → Result
+infinite_with s = exactly (with_sign s infinity)
 
 -- ---- the operations
 
@@ -137,10 +137,10 @@ sum_of s t z = rounded (not (non_neg z) || (s && t)) (nat_abs z) 1
 abbrev pub sum : Double → Double → Result
 sum nan y = no_number
 sum (infinite s) nan = no_number
-sum (infinite s) (infinite t) = cond (beq s t) (infinite-with s) no_number
-sum (infinite s) (finite t v) = infinite-with s
+sum (infinite s) (infinite t) = cond (beq s t) (infinite_with s) no_number
+sum (infinite s) (finite t v) = infinite_with s
 sum (finite s u) nan = no_number
-sum (finite s u) (infinite t) = infinite-with t
+sum (finite s u) (infinite t) = infinite_with t
 sum (finite s u) (finite t v) = sum_of s t (value s u +ℤ value t v)
 
 -- the other sign, of a zero too
@@ -154,61 +154,61 @@ abbrev pub difference : Double → Double → Result
 difference x y = sum x (opposite y)
 
 -- an infinity times u units: a NaN for zero
-abbrev pub infinite-times : Bool → ℕ → Result
-infinite-times s zero = no_number
-infinite-times s (suc u) = infinite-with s
+abbrev pub infinite_times : Bool → ℕ → Result
+infinite_times s zero = no_number
+infinite_times s (suc u) = infinite_with s
 
 -- u units times v units is u * v / 2 ^ 1074 units
 abbrev pub product : Double → Double → Result
 product nan y = no_number
 product (infinite s) nan = no_number
-product (infinite s) (infinite t) = infinite-with (unlike s t)
-product (infinite s) (finite t v) = infinite-times (unlike s t) v
+product (infinite s) (infinite t) = infinite_with (unlike s t)
+product (infinite s) (finite t v) = infinite_times (unlike s t) v
 product (finite s u) nan = no_number
-product (finite s u) (infinite t) = infinite-times (unlike s t) u
+product (finite s u) (infinite t) = infinite_times (unlike s t) u
 product (finite s u) (finite t v) = rounded (unlike s t) (u * v) one
 
 -- u units over v units is the number u / v, which is u * 2 ^ 1074 / v units. Zero over zero is a NaN, any other number over zero an infinity.
-abbrev pub quotient-of : Bool → ℕ → ℕ → Result
-quotient-of s zero zero = no_number
-quotient-of s (suc u) zero = infinite-with s
-quotient-of s u (suc v) = rounded s (u * one) (suc v)
+abbrev pub quotient_of : Bool → ℕ → ℕ → Result
+quotient_of s zero zero = no_number
+quotient_of s (suc u) zero = infinite_with s
+quotient_of s u (suc v) = rounded s (u * one) (suc v)
 
 abbrev pub quotient : Double → Double → Result
 quotient nan y = no_number
 quotient (infinite s) nan = no_number
 quotient (infinite s) (infinite t) = no_number
-quotient (infinite s) (finite t v) = infinite-with (unlike s t)
+quotient (infinite s) (finite t v) = infinite_with (unlike s t)
 quotient (finite s u) nan = no_number
-quotient (finite s u) (infinite t) = exactly (with-sign (unlike s t) 0)
-quotient (finite s u) (finite t v) = quotient-of (unlike s t) u v
+quotient (finite s u) (infinite t) = exactly (with_sign (unlike s t) 0)
+quotient (finite s u) (finite t v) = quotient_of (unlike s t) u v
 
 -- The root of u units is that of u * 2 ^ 1074, in units. A zero keeps its sign, and any other number below zero has no root.
 -- `answer` is what is made of one pattern, and `root` of the root of n, in units.
-abbrev pub square-root-by : {A : Type 0} → (answer root : ℕ → A) → Double → A
-square-root-by answer root nan = answer quiet-nan
-square-root-by answer root (infinite false) = answer infinity
-square-root-by answer root (infinite true) = answer quiet-nan
-square-root-by answer root (finite s zero) = answer (with-sign s 0)
-square-root-by answer root (finite false (suc u)) = root (suc u * one)
-square-root-by answer root (finite true (suc u)) = answer quiet-nan
+abbrev pub square_root_by : {A : Type 0} → (answer root : ℕ → A) → Double → A
+square_root_by answer root nan = answer quiet_nan
+square_root_by answer root (infinite false) = answer infinity
+square_root_by answer root (infinite true) = answer quiet_nan
+square_root_by answer root (finite s zero) = answer (with_sign s 0)
+square_root_by answer root (finite false (suc u)) = root (suc u * one)
+square_root_by answer root (finite true (suc u)) = answer quiet_nan
 
 -- what is asked for
-abbrev pub square-root : Double → Result
-square-root = square-root-by exactly root-of
+abbrev pub square_root : Double → Result
+square_root = square_root_by exactly root_of
 
 -- the same worked out, from pattern to pattern
-abbrev pub square-root-bits : ℕ → ℕ
-square-root-bits b = square-root-by (λ p. p) nearest-root (read b)
+abbrev pub square_root_bits : ℕ → ℕ
+square_root_bits b = square_root_by (λ p. p) nearest_root (read b)
 
 -- The other sign, of a zero too. It rounds nothing, so it goes from pattern to pattern. A NaN gives the one pattern, as document 01 asks; IEEE 754 would turn its
 -- sign's bit alone.
 abbrev pub negation : ℕ → Result
-negation b = cond (ltb infinity (without_sign b)) no_number (exactly (with-sign (not (negative b)) (without_sign b)))
+negation b = cond (ltb infinity (without_sign b)) no_number (exactly (with_sign (not (negative b)) (without_sign b)))
 
 -- an integer; 0 gives +0
-abbrev pub of-integer : ℤ → Result
-of-integer i = rounded (not (non_neg i)) (nat_abs i * one) 1
+abbrev pub of_integer : ℤ → Result
+of_integer i = rounded (not (non_neg i)) (nat_abs i * one) 1
 
 -- ---- comparisons: false where one side is a NaN, and -0 equals +0
 
@@ -221,11 +221,11 @@ less (finite s u) nan = false
 less (finite s u) (infinite t) = not t
 less (finite s u) (finite t v) = lt_z (value s u) (value t v)
 
-abbrev pub same-integer : ℤ → ℤ → Bool
-same-integer (pos a) (pos b) = eqb a b
-same-integer (pos a) (negsuc b) = false
-same-integer (negsuc a) (pos b) = false
-same-integer (negsuc a) (negsuc b) = eqb a b
+abbrev pub same_integer : ℤ → ℤ → Bool
+same_integer (pos a) (pos b) = eqb a b
+same_integer (pos a) (negsuc b) = false
+same_integer (negsuc a) (pos b) = false
+same_integer (negsuc a) (negsuc b) = eqb a b
 
 abbrev pub equal : Double → Double → Bool
 equal nan y = false
@@ -234,4 +234,4 @@ equal (infinite s) (infinite t) = beq s t
 equal (infinite s) (finite t v) = false
 equal (finite s u) nan = false
 equal (finite s u) (infinite t) = false
-equal (finite s u) (finite t v) = same-integer (value s u) (value t v)
+equal (finite s u) (finite t v) = same_integer (value s u) (value t v)

@@ -3,7 +3,7 @@ use Rattle.std.specs.Prelude.{ℕ, suc, ◌^◌, ◌≤◌, ◌<◌}
 use Rattle.ieee754.specs.Ieee754.{infinity, square}
 
 -- r is the whole root of n: the largest whole number whose square is at most n
-pub record Whole-root (n r : ℕ) : Type 0 where
+pub record WholeRoot (n r : ℕ) : Type 0 where
   pub low : square r ≤ n
   pub high : n < square (suc r)
 

@@ -1,8 +1,8 @@
 // The double nearest to an integer, and the one nearest to a double's square root, ties to even, worked out from bits.
 ghost use Rattle.std.specs.Prelude.{◌≡◌, ◌+◌, ◌*◌, ◌^◌, ◌<◌, nat_abs};
-ghost use Rattle.ieee754.specs.Ieee754.{one, units, Nearest, nearest-root, square-root-bits, Is, of-integer};
+ghost use Rattle.ieee754.specs.Ieee754.{one, units, Nearest, nearest_root, square_root_bits, Is, of_integer};
 ghost use Rattle.ieee754.specs.Converted.{Converted};
-ghost use Rattle.ieee754.specs.Roots.{Whole-root, Digits, Positive};
+ghost use Rattle.ieee754.specs.Roots.{WholeRoot, Digits, Positive};
 
 // The weight of the exponent's field in a pattern, 2^52, and of the sign's bit, 2^63.
 const FIELD: u64 = 0x0010_0000_0000_0000;
@@ -54,7 +54,7 @@ pub fn nearest_pattern(n: u64) -> u64
 
 // The pattern of the double nearest to i, with its sign. 0 gives +0.
 pub fn nearest_bits(i: i64) -> u64
-    ensures { Is (of-integer i) result }
+    ensures { Is (of_integer i) result }
 {
     let p = nearest_pattern(magnitude(i));
     if i < 0 {
@@ -75,7 +75,7 @@ pub fn nearest_f64(i: i64) -> f64
 // leaves is at most twice the root, so that 64 bits hold it.
 fn whole_root(m: u64) -> u64
     requires { m < 2 ^ 54 }
-    ensures { Whole-root (m * 2 ^ 54) result }
+    ensures { WholeRoot (m * 2 ^ 54) result }
 {
     let mut root: u64 = 0;
     let mut rest: u64 = 0;
@@ -99,7 +99,7 @@ fn whole_root(m: u64) -> u64
 // the middle of two doubles, so what is behind this digit is no matter.
 fn root_of_digits(m: u64, e: u64) -> u64
     requires { Digits m e }
-    ensures { result ≡ nearest-root (m * 2 ^ e) }
+    ensures { result ≡ nearest_root (m * 2 ^ e) }
 {
     let root = whole_root(m * (1 + e % 2));
     (e / 2 - 26) * FIELD + root / 2 + root % 2
@@ -109,7 +109,7 @@ fn root_of_digits(m: u64, e: u64) -> u64
 // digit, its digits are moved up until there are 53.
 fn positive_root(p: u64) -> u64
     requires { Positive p }
-    ensures { result ≡ nearest-root (units p * one) }
+    ensures { result ≡ nearest_root (units p * one) }
 {
     let field = p / FIELD;
     if field == 0 {
@@ -121,7 +121,7 @@ fn positive_root(p: u64) -> u64
 
 // The pattern of the square root. A zero keeps its sign, and any other number below zero has no root.
 pub fn square_root_bits(b: u64) -> u64
-    ensures { result ≡ square-root-bits b }
+    ensures { result ≡ square_root_bits b }
 {
     let p = b % SIGN;
     if INFINITY < p {

@@ -4,7 +4,7 @@ use Rattle.std.specs.Prelude.{ℕ, ◌≤◌, List, length}
 use Rattle.sql.specs.Schema.{Schema}
 use Rattle.sql.specs.Plan.{Node}
 use Rattle.sql.specs.Answer.{Answer}
-use Rattle.cells.specs.Room.{most-words}
+use Rattle.cells.specs.Room.{most_words}
 use Rattle.records.specs.Records.{Tables}
 use Rattle.edit.specs.Edit.{Held, Edit}
 use Rattle.kept.specs.Kept.{Kept}
@@ -16,7 +16,7 @@ pub record PassAt (records x : List ℕ) (t lo tail : ℕ) : Type 0 where
   pub tables : ℕ
   pub given : Tables records schema
   pub held : Held (Kept schema text tables) x t lo tail
-  pub short : length x ≤ most-words
+  pub short : length x ≤ most_words
 
 -- x' with n words is x with t words after f, a function of the room, the schema, the number of cells outside the node, and the node.
 abbrev pub Passes : (ℕ → Schema → ℕ → Node → Answer Node) → (records x : List ℕ) (t lo tail n : ℕ) → List ℕ → Type 0

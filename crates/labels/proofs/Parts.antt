@@ -8,8 +8,8 @@ use Rattle.cells.specs.declared.Cell.{Cell}
 use Rattle.cells.specs.Cells.{sized, Part}
 use Rattle.cells.proofs.Laws.{part_left, part_right}
 use Rattle.words.specs.Words.{all_words}
-use Rattle.nodes.specs.Trees.{Trees, TreesAt, trees-start}
-use Rattle.nodes.proofs.Trees.{append-all, all-trees, trees-start-is}
+use Rattle.nodes.specs.Trees.{Trees, TreesAt, trees_start}
+use Rattle.nodes.proofs.Trees.{append_all, all_trees, trees_start_is}
 
 pub record Nth {A : Type 0} (xs : List A) (i : ℕ) : Type 0 where
   pub before : List A
@@ -41,8 +41,8 @@ pub record NthPart {A : Type 0} (f : A → List ℕ) (s : List ℕ) (xs : List A
 
 module _ {A : Type 0} (f : A → List ℕ) (children : A → List ℕ) (k : A → Cell) (h : (x : A) → f x ≡ sized (children x) (k x)) where
   module _ {s : List ℕ} {lo hi n : ℕ} {w : List ℕ} (t : Trees n w) (xs : List A) (p : Part s lo hi (all_words f xs ++ w)) where
-    pub all-at : TreesAt s (length xs + n) hi
-    all-at = record { lo = lo; w = all_words f xs ++ w; trees = append-all (all-trees f children k h xs) t; part = p }
+    pub all_at : TreesAt s (length xs + n) hi
+    all_at = record { lo = lo; w = all_words f xs ++ w; trees = append_all (all_trees f children k h xs) t; part = p }
 
     module _ (i : ℕ) (g : i < length xs) where
       one : Nth xs i
@@ -56,35 +56,35 @@ module _ {A : Type 0} (f : A → List ℕ) (children : A → List ℕ) (k : A �
       start : ℕ
       start = lo + length (all_words f one.before)
 
-      from-it : Part s start hi (f one.x ++ (all_words f one.after ++ w))
+      from_it : Part s start hi (f one.x ++ (all_words f one.after ++ w))
       unfolding start
-      from-it = part_right (all_words f one.before) (f one.x ++ (all_words f one.after ++ w)) part_of
+      from_it = part_right (all_words f one.before) (f one.x ++ (all_words f one.after ++ w)) part_of
 
       behind : Part s (start + length (f one.x)) hi (all_words f one.after ++ w)
-      behind = part_right (f one.x) (all_words f one.after ++ w) from-it
+      behind = part_right (f one.x) (all_words f one.after ++ w) from_it
 
-      trees-behind : Trees (length one.after + n) (all_words f one.after ++ w)
-      trees-behind = append-all (all-trees f children k h one.after) t
+      trees_behind : Trees (length one.after + n) (all_words f one.after ++ w)
+      trees_behind = append_all (all_trees f children k h one.after) t
 
-      count-behind : length one.after + n ≡ length xs - 1 - i + n
-      count-behind = omega (arith, ap length one.is, length-append one.before (one.x ∷ one.after), one.at)
+      count_behind : length one.after + n ≡ length xs - 1 - i + n
+      count_behind = omega (arith, ap length one.is, length-append one.before (one.x ∷ one.after), one.at)
 
       -- what stands behind it
-      pub behind-at : TreesAt s (length xs - 1 - i + n) hi
-      behind-at =
+      pub behind_at : TreesAt s (length xs - 1 - i + n) hi
+      behind_at =
           record {
             lo = start + length (f one.x);
             w = all_words f one.after ++ w;
-            trees = subst (λ (m : ℕ). Trees m (all_words f one.after ++ w)) count-behind trees-behind;
+            trees = subst (λ (m : ℕ). Trees m (all_words f one.after ++ w)) count_behind trees_behind;
             part = behind;
           }
 
-      pub nth-part : {end : ℕ} → end ≡ trees-start s (length xs - 1 - i + n) hi → NthPart f s xs i end
-      nth-part {end} e =
+      pub nth_part : {end : ℕ} → end ≡ trees_start s (length xs - 1 - i + n) hi → NthPart f s xs i end
+      nth_part {end} e =
           let q : start + length (f one.x) ≡ end =
-          sym (e ∙ ap (λ (m : ℕ). trees-start s m hi) (sym count-behind) ∙ trees-start-is trees-behind behind) in
+          sym (e ∙ ap (λ (m : ℕ). trees_start s m hi) (sym count_behind) ∙ trees_start_is trees_behind behind) in
           record {
             one = one;
             lo = start;
-            part = subst (λ (m : ℕ). Part s start m (f one.x)) q (part_left (f one.x) (all_words f one.after ++ w) from-it);
+            part = subst (λ (m : ℕ). Part s start m (f one.x)) q (part_left (f one.x) (all_words f one.after ++ w) from_it);
           }

@@ -11,28 +11,28 @@ use lib.Dec.{eqb}
 use lib.ListN.{length, length-append}
 use borrow.Author.Tests.{eq-eqb, ne_eqb}
 use Rattle.sql.specs.Expression.{origin, Expression, constant, column, unary, binary}
-use Rattle.sql.specs.Plan.{unlabelled, unqualified, qualified, Other, limit, offset, order, projection, remap, aggregate, Over, filter, other, Node, over, routed, group-label, item-label, items-label, remap-source, optional-label, other-label}
+use Rattle.sql.specs.Plan.{unlabelled, unqualified, qualified, Other, limit, offset, order, projection, remap, aggregate, Over, filter, other, Node, over, routed, group_label, item_label, items_label, remap_source, optional_label, other_label}
 use Rattle.sql.specs.Plan as plan
-use Rattle.sheet.specs.Content.{cell-of, label_of, item-cell, column-cell, target-cell, agg-cell}
+use Rattle.sheet.specs.Content.{cell_of, label_of, item_cell, column_cell, target_cell, agg_cell}
 use Rattle.cells.specs.declared.Cell.{Cell}
-use Rattle.cells.specs.Cells.{cell-words, sized, cell_at, tag_at, Part}
-use Rattle.cells.proofs.Laws.{part_left, part_right, part_in, body-part, cell-is, cell_in}
-use Rattle.words.specs.Words.{cell, root, operand-words, all_words, expression-words, item-words, agg-words, target-words, source-words}
+use Rattle.cells.specs.Cells.{cell_words, sized, cell_at, tag_at, Part}
+use Rattle.cells.proofs.Laws.{part_left, part_right, part_in, body_part, cell_is, cell_in}
+use Rattle.words.specs.Words.{cell, root, operand_words, all_words, expression_words, item_words, agg_words, target_words, source_words}
 use Rattle.words.specs.Place.{ExpressionHere, NodeHere, NodeAt}
-use Rattle.words.proofs.Expressions.{by-column, root_is, root-tag, here_in, shape}
-use Rattle.words.proofs.Nodes.{node-tag, node_in, own-part}
-use Rattle.words.proofs.Tags.{tag_of, tagged, over-tag, by_over, by-projection, by-aggregate, over-aggregate, over-projection, over-remap}
-use Rattle.nodes.specs.Trees.{Trees, TreesAt, trees-start}
+use Rattle.words.proofs.Expressions.{by_column, root_is, root_tag, here_in, shape}
+use Rattle.words.proofs.Nodes.{node_tag, node_in, own_part}
+use Rattle.words.proofs.Tags.{tag_of, tagged, over_tag, by_over, by_projection, by_aggregate, over_aggregate, over_projection, over_remap}
+use Rattle.nodes.specs.Trees.{Trees, TreesAt, trees_start}
 use Rattle.nodes.specs.Trees as trees
 use Rattle.nodes.specs.Own.{OwnStart, SourceCount}
-use Rattle.nodes.proofs.Trees.{all-trees, trees-few}
-use Rattle.nodes.proofs.Widths.{a-here, b_here, tag-here}
+use Rattle.nodes.proofs.Trees.{all_trees, trees_few}
+use Rattle.nodes.proofs.Widths.{a_here, b_here, tag_here}
 use Rattle.labels.specs.declared.Label.{Label}
 use Rattle.labels.specs.declared.Label.TheVariants.{Unlabelled, Unqualified, Qualified}
 use Rattle.labels.specs.declared.Route.{Route}
 use Rattle.labels.specs.declared.Route.TheVariants.{To, Ends}
-use Rattle.labels.specs.Labels.{label, routed-by, Labelled, ExpressionEnds, ExpressionRoute, ItemEnds, ItemRoute, TargetsUp, RemapRoute, Routes}
-use Rattle.labels.proofs.Parts.{Nth, NthPart, all-at, behind-at, nth-part}
+use Rattle.labels.specs.Labels.{label, routed_by, Labelled, ExpressionEnds, ExpressionRoute, ItemEnds, ItemRoute, TargetsUp, RemapRoute, Routes}
+use Rattle.labels.proofs.Parts.{Nth, NthPart, all_at, behind_at, nth_part}
 
 -- ---- a choice by a test
 
@@ -49,8 +49,8 @@ passed false x y e = refl
 pub says_none : (flag a b : ℕ) → flag ≡ 0 → Labelled flag a b Unlabelled
 says_none flag a b e = rw (eq-eqb flag 0 e)
 
-pub says-name : (flag a b : ℕ) → (flag ≡ 0 → ⊥) → flag ≡ 1 → Labelled flag a b (Unqualified a)
-says-name flag a b h e = rw (ne_eqb flag 0 h, eq-eqb flag 1 e)
+pub says_name : (flag a b : ℕ) → (flag ≡ 0 → ⊥) → flag ≡ 1 → Labelled flag a b (Unqualified a)
+says_name flag a b h e = rw (ne_eqb flag 0 h, eq-eqb flag 1 e)
 
 pub says_both : (flag a b : ℕ) → (flag ≡ 0 → ⊥) → (flag ≡ 1 → ⊥) → Labelled flag a b (Qualified a b)
 says_both flag a b h k = rw (ne_eqb flag 0 h, ne_eqb flag 1 k)
@@ -58,282 +58,282 @@ says_both flag a b h k = rw (ne_eqb flag 0 h, ne_eqb flag 1 k)
 -- ---- an expression
 
 module _ {s : List ℕ} {hi : ℕ} where
-  pub expression-in : ExpressionEnds s hi → (cell-words ≤ hi) × (hi ≤ length s)
-  expression-in t = let (h, k) = here_in t.e (record { part = t.part }) in (omega arith, k)
+  pub expression_in : ExpressionEnds s hi → (cell_words ≤ hi) × (hi ≤ length s)
+  expression_in t = let (h, k) = here_in t.e (record { part = t.part }) in (omega arith, k)
 
   module _ {c : Cell} (q : c ≡ cell_at s hi) where
-    pub to-column : c.tag ≡ 6 → ExpressionRoute s hi (To c.a)
+    pub to_column : c.tag ≡ 6 → ExpressionRoute s hi (To c.a)
     unfolding cell
-    to-column z source lo e p =
-        by-column (λ e. ExpressionHere s lo hi e → source c.a ≡ routed source e)
+    to_column z source lo e p =
+        by_column (λ e. ExpressionHere s lo hi e → source c.a ≡ routed source e)
         (λ og i u. ap (λ (k : Cell). source k.a) (q ∙ root_is (column og i) u)) e
-        (sym (root-tag e (record { part = p })) ∙ sym (ap (λ (k : Cell). k.tag) q) ∙ z) (record { part = p })
+        (sym (root_tag e (record { part = p })) ∙ sym (ap (λ (k : Cell). k.tag) q) ∙ z) (record { part = p })
 
-    pub no-column : (c.tag ≡ 6 → ⊥) → ExpressionRoute s hi (Ends Unlabelled)
-    no-column z source lo (constant og v) p = refl
-    no-column z source lo (column og i) p = absurd (z (ap (λ (k : Cell). k.tag) q ∙ root-tag (column og i) (record { part = p })))
-    no-column z source lo (unary og o x) p = refl
-    no-column z source lo (binary og o l r) p = refl
+    pub no_column : (c.tag ≡ 6 → ⊥) → ExpressionRoute s hi (Ends Unlabelled)
+    no_column z source lo (constant og v) p = refl
+    no_column z source lo (column og i) p = absurd (z (ap (λ (k : Cell). k.tag) q ∙ root_tag (column og i) (record { part = p })))
+    no_column z source lo (unary og o x) p = refl
+    no_column z source lo (binary og o l r) p = refl
 
 -- ---- an Item
 
 module _ {s : List ℕ} {hi : ℕ} where
-  pub item_in : ItemEnds s hi → (2 * cell-words ≤ hi) × (hi ≤ length s)
+  pub item_in : ItemEnds s hi → (2 * cell_words ≤ hi) × (hi ≤ length s)
   item_in t =
-      let (h, k) = cell_in (expression-words t.item.0) (cell t.item.2 (item-cell t.item.1)) t.part in
-      let (g, j) = here_in {lo = t.lo} {hi = hi - cell-words} t.item.0 (record { part = body-part (expression-words t.item.0) (cell t.item.2 (item-cell t.item.1)) t.part }) in
+      let (h, k) = cell_in (expression_words t.item.0) (cell t.item.2 (item_cell t.item.1)) t.part in
+      let (g, j) = here_in {lo = t.lo} {hi = hi - cell_words} t.item.0 (record { part = body_part (expression_words t.item.0) (cell t.item.2 (item_cell t.item.1)) t.part }) in
       (omega arith, k)
 
-  pub item-expression : ItemEnds s hi → ExpressionEnds s (hi - cell-words)
-  item-expression t = record { lo = t.lo; e = t.item.0; part = body-part (expression-words t.item.0) (cell t.item.2 (item-cell t.item.1)) t.part }
+  pub item_expression : ItemEnds s hi → ExpressionEnds s (hi - cell_words)
+  item_expression t = record { lo = t.lo; e = t.item.0; part = body_part (expression_words t.item.0) (cell t.item.2 (item_cell t.item.1)) t.part }
 
   module _ {c : Cell} (q : c ≡ cell_at s hi) where
-    item-cell-is : (lo : ℕ) (item : Expression × plan.Label × ℕ) → Part s lo hi (item-words item) → c ≡ cell item.2 (item-cell item.1)
-    item-cell-is lo item p = q ∙ cell-is (expression-words item.0) (cell item.2 (item-cell item.1)) p
+    item_cell_is : (lo : ℕ) (item : Expression × plan.Label × ℕ) → Part s lo hi (item_words item) → c ≡ cell item.2 (item_cell item.1)
+    item_cell_is lo item p = q ∙ cell_is (expression_words item.0) (cell item.2 (item_cell item.1)) p
 
-    pub to-expression : c.flag ≡ 0 → (r : Route) → ExpressionRoute s (hi - cell-words) r → ItemRoute s hi r
+    pub to_expression : c.flag ≡ 0 → (r : Route) → ExpressionRoute s (hi - cell_words) r → ItemRoute s hi r
     unfolding cell
-    to-expression z r f source lo (e, unlabelled, og) p = f source lo e (body-part (expression-words e) (cell og (item-cell unlabelled)) p)
-    to-expression z r f source lo (e, unqualified n, og) p = absurd (omega (arith, z, ap (λ (k : Cell). k.flag) (item-cell-is lo (e, unqualified n, og) p)))
-    to-expression z r f source lo (e, qualified t n, og) p = absurd (omega (arith, z, ap (λ (k : Cell). k.flag) (item-cell-is lo (e, qualified t n, og) p)))
+    to_expression z r f source lo (e, unlabelled, og) p = f source lo e (body_part (expression_words e) (cell og (item_cell unlabelled)) p)
+    to_expression z r f source lo (e, unqualified n, og) p = absurd (omega (arith, z, ap (λ (k : Cell). k.flag) (item_cell_is lo (e, unqualified n, og) p)))
+    to_expression z r f source lo (e, qualified t n, og) p = absurd (omega (arith, z, ap (λ (k : Cell). k.flag) (item_cell_is lo (e, qualified t n, og) p)))
 
-    pub own-label : (c.flag ≡ 0 → ⊥) → (l : Label) → Labelled c.flag c.a c.b l → ItemRoute s hi (Ends l)
+    pub own_label : (c.flag ≡ 0 → ⊥) → (l : Label) → Labelled c.flag c.a c.b l → ItemRoute s hi (Ends l)
     unfolding cell
-    own-label z l f source lo (e, unlabelled, og) p = absurd (z (ap (λ (k : Cell). k.flag) (item-cell-is lo (e, unlabelled, og) p)))
-    own-label z l f source lo (e, unqualified n, og) p =
-        f ∙ ap (λ (k : Cell). label_of (record { tag = 0; flag = k.flag; origin = 0; a = k.a; b = k.b; c = 0 })) (item-cell-is lo (e, unqualified n, og) p)
-    own-label z l f source lo (e, qualified t n, og) p =
-        f ∙ ap (λ (k : Cell). label_of (record { tag = 0; flag = k.flag; origin = 0; a = k.a; b = k.b; c = 0 })) (item-cell-is lo (e, qualified t n, og) p)
+    own_label z l f source lo (e, unlabelled, og) p = absurd (z (ap (λ (k : Cell). k.flag) (item_cell_is lo (e, unlabelled, og) p)))
+    own_label z l f source lo (e, unqualified n, og) p =
+        f ∙ ap (λ (k : Cell). label_of (record { tag = 0; flag = k.flag; origin = 0; a = k.a; b = k.b; c = 0 })) (item_cell_is lo (e, unqualified n, og) p)
+    own_label z l f source lo (e, qualified t n, og) p =
+        f ∙ ap (λ (k : Cell). label_of (record { tag = 0; flag = k.flag; origin = 0; a = k.a; b = k.b; c = 0 })) (item_cell_is lo (e, qualified t n, og) p)
 
 -- ---- lists of parts
 
-items-none : (source : ℕ → plan.Label) (is : List (Expression × plan.Label × ℕ)) (i : ℕ) → length is ≤ i → unlabelled ≡ items-label source is i
-items-none source [] i h = refl
-items-none source (x ∷ xs) zero h = absurd (omega arith)
-items-none source (x ∷ xs) (suc i) h = items-none source xs i (omega arith)
+items_none : (source : ℕ → plan.Label) (is : List (Expression × plan.Label × ℕ)) (i : ℕ) → length is ≤ i → unlabelled ≡ items_label source is i
+items_none source [] i h = refl
+items_none source (x ∷ xs) zero h = absurd (omega arith)
+items_none source (x ∷ xs) (suc i) h = items_none source xs i (omega arith)
 
 items_at : (source : ℕ → plan.Label) (before : List (Expression × plan.Label × ℕ)) (x : Expression × plan.Label × ℕ) (after : List (Expression × plan.Label × ℕ))
-    → item-label source x ≡ items-label source (before ++ (x ∷ after)) (length before)
+    → item_label source x ≡ items_label source (before ++ (x ∷ after)) (length before)
 items_at source [] x after = refl
 items_at source (y ∷ ys) x after = items_at source ys x after
 
-items-nth : (source : ℕ → plan.Label) (is : List (Expression × plan.Label × ℕ)) (i : ℕ) (n : Nth is i) → item-label source n.x ≡ items-label source is i
-items-nth source is i n = items_at source n.before n.x n.after ∙ cc (n.is, n.at)
+items_nth : (source : ℕ → plan.Label) (is : List (Expression × plan.Label × ℕ)) (i : ℕ) (n : Nth is i) → item_label source n.x ≡ items_label source is i
+items_nth source is i n = items_at source n.before n.x n.after ∙ cc (n.is, n.at)
 
-group-none : (source : ℕ → plan.Label) (es : List Expression) (i : ℕ) → length es ≤ i → unlabelled ≡ group-label source es i
-group-none source [] i h = refl
-group-none source (x ∷ xs) zero h = absurd (omega arith)
-group-none source (x ∷ xs) (suc i) h = group-none source xs i (omega arith)
+group_none : (source : ℕ → plan.Label) (es : List Expression) (i : ℕ) → length es ≤ i → unlabelled ≡ group_label source es i
+group_none source [] i h = refl
+group_none source (x ∷ xs) zero h = absurd (omega arith)
+group_none source (x ∷ xs) (suc i) h = group_none source xs i (omega arith)
 
 group_at : (source : ℕ → plan.Label) (before : List Expression) (x : Expression) (after : List Expression)
-    → routed source x ≡ group-label source (before ++ (x ∷ after)) (length before)
+    → routed source x ≡ group_label source (before ++ (x ∷ after)) (length before)
 group_at source [] x after = refl
 group_at source (y ∷ ys) x after = group_at source ys x after
 
-group-nth : (source : ℕ → plan.Label) (es : List Expression) (i : ℕ) (n : Nth es i) → routed source n.x ≡ group-label source es i
-group-nth source es i n = group_at source n.before n.x n.after ∙ cc (n.is, n.at)
+group_nth : (source : ℕ → plan.Label) (es : List Expression) (i : ℕ) (n : Nth es i) → routed source n.x ≡ group_label source es i
+group_nth source es i n = group_at source n.before n.x n.after ∙ cc (n.is, n.at)
 
 -- a property of those nodes over a source that are no Filter
-abbrev on-other : (Other → Type 0) → Over → Type 0
-on-other P (filter e) = Unit {0}
-on-other P (other o) = P o
+abbrev on_other : (Other → Type 0) → Over → Type 0
+on_other P (filter e) = Unit {0}
+on_other P (other o) = P o
 
 -- ---- a Projection
 
 module _ {s : List ℕ} {lo hi : ℕ} {c : Cell} (q : c ≡ cell_at s hi) (z : tag_at s hi ≡ 60) where
-  a-projection : (P : Other → Type 0) (og : ℕ) (o : Other) (n : Node) → NodeHere s lo hi (over og (other o) n)
+  a_projection : (P : Other → Type 0) (og : ℕ) (o : Other) (n : Node) → NodeHere s lo hi (over og (other o) n)
       → ((is : List (Expression × plan.Label × ℕ)) → NodeHere s lo hi (over og (other (projection is)) n) → P (projection is)) → P o
-  a-projection P og o n u f =
-      over-projection (on-other (λ o. NodeHere s lo hi (over og (other o) n) → P o)) f (other o)
-      (sym (tagged (over og (other o) n)) ∙ sym (node-tag (over og (other o) n) u) ∙ z) u
+  a_projection P og o n u f =
+      over_projection (on_other (λ o. NodeHere s lo hi (over og (other o) n) → P o)) f (other o)
+      (sym (tagged (over og (other o) n)) ∙ sym (node_tag (over og (other o) n) u) ∙ z) u
 
   module _ (og : ℕ) (is : List (Expression × plan.Label × ℕ)) (n : Node) (u : NodeHere s lo hi (over og (other (projection is)) n)) where
     item_count : c.a ≡ length is
-    item_count = a-here q (over og (other (projection is)) n) u
+    item_count = a_here q (over og (other (projection is)) n) u
 
-    items-part : Part s (lo + length (source-words (over og (other (projection is)) n))) (hi - cell-words) (all_words item-words is ++ [])
-    items-part =
-        subst (λ (w : List ℕ). Part s (lo + length (source-words (over og (other (projection is)) n))) (hi - cell-words) w) (sym (append-nil (all_words item-words is)))
-        (own-part (over og (other (projection is)) n) u refl)
+    items_part : Part s (lo + length (source_words (over og (other (projection is)) n))) (hi - cell_words) (all_words item_words is ++ [])
+    items_part =
+        subst (λ (w : List ℕ). Part s (lo + length (source_words (over og (other (projection is)) n))) (hi - cell_words) w) (sym (append-nil (all_words item_words is)))
+        (own_part (over og (other (projection is)) n) u refl)
 
     module _ (i : ℕ) (h : i < c.a) where
-      behind-item : TreesAt s (c.a - 1 - i) (hi - cell-words)
-      behind-item =
+      behind_item : TreesAt s (c.a - 1 - i) (hi - cell_words)
+      behind_item =
           let e : length is - 1 - i + 0 ≡ c.a - 1 - i = omega (arith, item_count) in
-          subst (λ (m : ℕ). TreesAt s m (hi - cell-words)) e
-          (behind-at item-words (λ x. expression-words x.0) (λ x. cell x.2 (item-cell x.1)) (λ x. refl) trees.none is items-part i (omega (arith, item_count)))
+          subst (λ (m : ℕ). TreesAt s m (hi - cell_words)) e
+          (behind_at item_words (λ x. expression_words x.0) (λ x. cell x.2 (item_cell x.1)) (λ x. refl) trees.none is items_part i (omega (arith, item_count)))
 
-      item-at : {end : ℕ} → end ≡ trees-start s (c.a - 1 - i) (hi - cell-words) → NthPart item-words s is i end
-      item-at e =
+      item_at : {end : ℕ} → end ≡ trees_start s (c.a - 1 - i) (hi - cell_words) → NthPart item_words s is i end
+      item_at e =
           let g : c.a - 1 - i ≡ length is - 1 - i + 0 = omega (arith, item_count) in
-          nth-part item-words (λ x. expression-words x.0) (λ x. cell x.2 (item-cell x.1)) (λ x. refl) trees.none is items-part i (omega (arith, item_count))
-          (e ∙ ap (λ (m : ℕ). trees-start s m (hi - cell-words)) g)
+          nth_part item_words (λ x. expression_words x.0) (λ x. cell x.2 (item_cell x.1)) (λ x. refl) trees.none is items_part i (omega (arith, item_count))
+          (e ∙ ap (λ (m : ℕ). trees_start s m (hi - cell_words)) g)
 
-  pub projection-ends : (i : ℕ) → c.a ≤ i → Routes s lo hi i (Ends Unlabelled)
-  projection-ends i h source og o n u =
-      a-projection (λ o. unlabelled ≡ other-label o source i) og o n u (λ is u. items-none source is i (omega (arith, item_count og is n u)))
+  pub projection_ends : (i : ℕ) → c.a ≤ i → Routes s lo hi i (Ends Unlabelled)
+  projection_ends i h source og o n u =
+      a_projection (λ o. unlabelled ≡ other_label o source i) og o n u (λ is u. items_none source is i (omega (arith, item_count og is n u)))
 
-  when-projection : NodeAt s lo hi → (P : Type 0) → ((og : ℕ) (is : List (Expression × plan.Label × ℕ)) (n : Node) → NodeHere s lo hi (over og (other (projection is)) n) → P) → P
-  when-projection t P f =
-      by-projection (λ p. NodeHere s lo hi p → P) f t.p (sym (tagged t.p) ∙ sym (node-tag t.p t.here) ∙ z) t.here
+  when_projection : NodeAt s lo hi → (P : Type 0) → ((og : ℕ) (is : List (Expression × plan.Label × ℕ)) (n : Node) → NodeHere s lo hi (over og (other (projection is)) n) → P) → P
+  when_projection t P f =
+      by_projection (λ p. NodeHere s lo hi p → P) f t.p (sym (tagged t.p) ∙ sym (node_tag t.p t.here) ∙ z) t.here
 
   module _ (i : ℕ) (h : i < c.a) where
-    pub items-behind : NodeAt s lo hi → TreesAt s (c.a - 1 - i) (hi - cell-words)
-    items-behind t = when-projection t (TreesAt s (c.a - 1 - i) (hi - cell-words)) (λ og is n u. behind-item og is n u i h)
+    pub items_behind : NodeAt s lo hi → TreesAt s (c.a - 1 - i) (hi - cell_words)
+    items_behind t = when_projection t (TreesAt s (c.a - 1 - i) (hi - cell_words)) (λ og is n u. behind_item og is n u i h)
 
-    module _ {end : ℕ} (e : end ≡ trees-start s (c.a - 1 - i) (hi - cell-words)) where
-      pub item-ends : NodeAt s lo hi → ItemEnds s end
-      item-ends t =
-          when-projection t (ItemEnds s end) (λ og is n u. let x = item-at og is n u i h e in record { lo = x.lo; item = x.one.x; part = x.part })
+    module _ {end : ℕ} (e : end ≡ trees_start s (c.a - 1 - i) (hi - cell_words)) where
+      pub item_ends : NodeAt s lo hi → ItemEnds s end
+      item_ends t =
+          when_projection t (ItemEnds s end) (λ og is n u. let x = item_at og is n u i h e in record { lo = x.lo; item = x.one.x; part = x.part })
 
-      pub projection-goes : (r : Route) → ItemRoute s end r → Routes s lo hi i r
-      projection-goes r f source og o n u =
-          a-projection (λ o. routed-by source r ≡ other-label o source i) og o n u
-          (λ is u. let x = item-at og is n u i h e in f source x.lo x.one.x x.part ∙ items-nth source is i x.one)
+      pub projection_goes : (r : Route) → ItemRoute s end r → Routes s lo hi i r
+      projection_goes r f source og o n u =
+          a_projection (λ o. routed_by source r ≡ other_label o source i) og o n u
+          (λ is u. let x = item_at og is n u i h e in f source x.lo x.one.x x.part ∙ items_nth source is i x.one)
 
 -- ---- an Aggregate
 
 module _ {s : List ℕ} {lo hi : ℕ} {c : Cell} (q : c ≡ cell_at s hi) (z : tag_at s hi ≡ 50) where
-  an-aggregate : (P : Other → Type 0) (og : ℕ) (o : Other) (n : Node) → NodeHere s lo hi (over og (other o) n)
+  an_aggregate : (P : Other → Type 0) (og : ℕ) (o : Other) (n : Node) → NodeHere s lo hi (over og (other o) n)
       → ((es : List Expression) (gs : List (ℕ × Expression × ℕ)) → NodeHere s lo hi (over og (other (aggregate es gs)) n) → P (aggregate es gs)) → P o
-  an-aggregate P og o n u f =
-      over-aggregate (on-other (λ o. NodeHere s lo hi (over og (other o) n) → P o)) f (other o)
-      (sym (tagged (over og (other o) n)) ∙ sym (node-tag (over og (other o) n) u) ∙ z) u
+  an_aggregate P og o n u f =
+      over_aggregate (on_other (λ o. NodeHere s lo hi (over og (other o) n) → P o)) f (other o)
+      (sym (tagged (over og (other o) n)) ∙ sym (node_tag (over og (other o) n) u) ∙ z) u
 
   module _ (og : ℕ) (es : List Expression) (gs : List (ℕ × Expression × ℕ)) (n : Node) (u : NodeHere s lo hi (over og (other (aggregate es gs)) n)) where
-    group-count : c.a ≡ length es
-    group-count = a-here q (over og (other (aggregate es gs)) n) u
+    group_count : c.a ≡ length es
+    group_count = a_here q (over og (other (aggregate es gs)) n) u
 
-    agg-count : c.b ≡ length gs
-    agg-count = b_here q (over og (other (aggregate es gs)) n) u
+    agg_count : c.b ≡ length gs
+    agg_count = b_here q (over og (other (aggregate es gs)) n) u
 
-    agg-trees : Trees (length gs) (all_words agg-words gs)
-    agg-trees = all-trees agg-words (λ g. expression-words g.1) (λ g. cell g.2 (agg-cell g.0)) (λ g. refl) gs
+    agg_trees : Trees (length gs) (all_words agg_words gs)
+    agg_trees = all_trees agg_words (λ g. expression_words g.1) (λ g. cell g.2 (agg_cell g.0)) (λ g. refl) gs
 
     module _ (i : ℕ) (h : i < c.a) where
-      behind-group : TreesAt s (c.a - 1 - i + c.b) (hi - cell-words)
-      behind-group =
-          let e : length es - 1 - i + length gs ≡ c.a - 1 - i + c.b = omega (arith, group-count, agg-count) in
-          subst (λ (m : ℕ). TreesAt s m (hi - cell-words)) e
-          (behind-at expression-words operand-words (λ x. cell (origin x) (root x)) shape agg-trees es (own-part (over og (other (aggregate es gs)) n) u refl) i (omega (arith, group-count)))
+      behind_group : TreesAt s (c.a - 1 - i + c.b) (hi - cell_words)
+      behind_group =
+          let e : length es - 1 - i + length gs ≡ c.a - 1 - i + c.b = omega (arith, group_count, agg_count) in
+          subst (λ (m : ℕ). TreesAt s m (hi - cell_words)) e
+          (behind_at expression_words operand_words (λ x. cell (origin x) (root x)) shape agg_trees es (own_part (over og (other (aggregate es gs)) n) u refl) i (omega (arith, group_count)))
 
-      group-part : {end : ℕ} → end ≡ trees-start s (c.a - 1 - i + c.b) (hi - cell-words) → NthPart expression-words s es i end
-      group-part e =
-          let g : c.a - 1 - i + c.b ≡ length es - 1 - i + length gs = omega (arith, group-count, agg-count) in
-          nth-part expression-words operand-words (λ x. cell (origin x) (root x)) shape agg-trees es (own-part (over og (other (aggregate es gs)) n) u refl) i (omega (arith, group-count))
-          (e ∙ ap (λ (m : ℕ). trees-start s m (hi - cell-words)) g)
+      group_part : {end : ℕ} → end ≡ trees_start s (c.a - 1 - i + c.b) (hi - cell_words) → NthPart expression_words s es i end
+      group_part e =
+          let g : c.a - 1 - i + c.b ≡ length es - 1 - i + length gs = omega (arith, group_count, agg_count) in
+          nth_part expression_words operand_words (λ x. cell (origin x) (root x)) shape agg_trees es (own_part (over og (other (aggregate es gs)) n) u refl) i (omega (arith, group_count))
+          (e ∙ ap (λ (m : ℕ). trees_start s m (hi - cell_words)) g)
 
-  pub aggregate-ends : (i : ℕ) → c.a ≤ i → Routes s lo hi i (Ends Unlabelled)
-  aggregate-ends i h source og o n u =
-      an-aggregate (λ o. unlabelled ≡ other-label o source i) og o n u (λ es gs u. group-none source es i (omega (arith, group-count og es gs n u)))
+  pub aggregate_ends : (i : ℕ) → c.a ≤ i → Routes s lo hi i (Ends Unlabelled)
+  aggregate_ends i h source og o n u =
+      an_aggregate (λ o. unlabelled ≡ other_label o source i) og o n u (λ es gs u. group_none source es i (omega (arith, group_count og es gs n u)))
 
-  when-aggregate : NodeAt s lo hi → (P : Type 0)
+  when_aggregate : NodeAt s lo hi → (P : Type 0)
       → ((og : ℕ) (es : List Expression) (gs : List (ℕ × Expression × ℕ)) (n : Node) → NodeHere s lo hi (over og (other (aggregate es gs)) n) → P) → P
-  when-aggregate t P f =
-      by-aggregate (λ p. NodeHere s lo hi p → P) f t.p (sym (tagged t.p) ∙ sym (node-tag t.p t.here) ∙ z) t.here
+  when_aggregate t P f =
+      by_aggregate (λ p. NodeHere s lo hi p → P) f t.p (sym (tagged t.p) ∙ sym (node_tag t.p t.here) ∙ z) t.here
 
   module _ (i : ℕ) (h : i < c.a) where
-    pub groups-behind : NodeAt s lo hi → TreesAt s (c.a - 1 - i + c.b) (hi - cell-words)
-    groups-behind t = when-aggregate t (TreesAt s (c.a - 1 - i + c.b) (hi - cell-words)) (λ og es gs n u. behind-group og es gs n u i h)
+    pub groups_behind : NodeAt s lo hi → TreesAt s (c.a - 1 - i + c.b) (hi - cell_words)
+    groups_behind t = when_aggregate t (TreesAt s (c.a - 1 - i + c.b) (hi - cell_words)) (λ og es gs n u. behind_group og es gs n u i h)
 
-    module _ {end : ℕ} (e : end ≡ trees-start s (c.a - 1 - i + c.b) (hi - cell-words)) where
-      pub group-ends : NodeAt s lo hi → ExpressionEnds s end
-      group-ends t =
-          when-aggregate t (ExpressionEnds s end)
-          (λ og es gs n u. let x = group-part og es gs n u i h e in record { lo = x.lo; e = x.one.x; part = x.part })
+    module _ {end : ℕ} (e : end ≡ trees_start s (c.a - 1 - i + c.b) (hi - cell_words)) where
+      pub group_ends : NodeAt s lo hi → ExpressionEnds s end
+      group_ends t =
+          when_aggregate t (ExpressionEnds s end)
+          (λ og es gs n u. let x = group_part og es gs n u i h e in record { lo = x.lo; e = x.one.x; part = x.part })
 
-      pub aggregate-goes : (r : Route) → ExpressionRoute s end r → Routes s lo hi i r
-      aggregate-goes r f source og o n u =
-          an-aggregate (λ o. routed-by source r ≡ other-label o source i) og o n u
-          (λ es gs u. let x = group-part og es gs n u i h e in f source x.lo x.one.x x.part ∙ group-nth source es i x.one)
+      pub aggregate_goes : (r : Route) → ExpressionRoute s end r → Routes s lo hi i r
+      aggregate_goes r f source og o n u =
+          an_aggregate (λ o. routed_by source r ≡ other_label o source i) og o n u
+          (λ es gs u. let x = group_part og es gs n u i h e in f source x.lo x.one.x x.part ∙ group_nth source es i x.one)
 
 -- ---- a Remap
 
 -- The Targets from `at` up to hi are left, and the first of them is for source column `from`.
 pub record Untried (s : List ℕ) (hi at from i : ℕ) (targets : List (Option ℕ × ℕ)) : Type 0 where
   pub rest : List (Option ℕ × ℕ)
-  pub part : Part s at hi (all_words target-words rest)
-  pub is : remap-source from rest i ≡ remap-source 0 targets i
+  pub part : Part s at hi (all_words target_words rest)
+  pub is : remap_source from rest i ≡ remap_source 0 targets i
 
-pub untried-all : {s : List ℕ} {lo hi : ℕ} (i : ℕ) (targets : List (Option ℕ × ℕ)) → Part s lo hi (all_words target-words targets) → Untried s hi lo 0 i targets
-untried-all i targets p = record { rest = targets; part = p; is = refl }
+pub untried_all : {s : List ℕ} {lo hi : ℕ} (i : ℕ) (targets : List (Option ℕ × ℕ)) → Part s lo hi (all_words target_words targets) → Untried s hi lo 0 i targets
+untried_all i targets p = record { rest = targets; part = p; is = refl }
 
 module _ {s : List ℕ} {hi at from : ℕ} (i : ℕ) (targets : List (Option ℕ × ℕ)) (g : Untried s hi at from i targets) where
-  one-untried : (P : Type 0) → at < hi
-      → ((t : Option ℕ × ℕ) (ts : List (Option ℕ × ℕ)) → Part s at (at + cell-words) (target-words t) → Part s (at + cell-words) hi (all_words target-words ts)
-      → remap-source from (t ∷ ts) i ≡ remap-source 0 targets i → P)
+  one_untried : (P : Type 0) → at < hi
+      → ((t : Option ℕ × ℕ) (ts : List (Option ℕ × ℕ)) → Part s at (at + cell_words) (target_words t) → Part s (at + cell_words) hi (all_words target_words ts)
+      → remap_source from (t ∷ ts) i ≡ remap_source 0 targets i → P)
       → P
-  one-untried P h f = go g.rest g.part g.is
+  one_untried P h f = go g.rest g.part g.is
     where
-      go : (rest : List (Option ℕ × ℕ)) → Part s at hi (all_words target-words rest) → remap-source from rest i ≡ remap-source 0 targets i → P
+      go : (rest : List (Option ℕ × ℕ)) → Part s at hi (all_words target_words rest) → remap_source from rest i ≡ remap_source 0 targets i → P
       go [] p e = absurd (omega (arith, p.high))
-      go (t ∷ ts) p e = f t ts (part_left (target-words t) (all_words target-words ts) p) (part_right (target-words t) (all_words target-words ts) p) e
+      go (t ∷ ts) p e = f t ts (part_left (target_words t) (all_words target_words ts) p) (part_right (target_words t) (all_words target_words ts) p) e
 
-  pub untried-in : at < hi → (at + cell-words ≤ hi) × (hi ≤ length s)
-  untried-in h = one-untried ((at + cell-words ≤ hi) × (hi ≤ length s)) h (λ t ts p r e. ((part_in r).0, (part_in r).1))
+  pub untried_in : at < hi → (at + cell_words ≤ hi) × (hi ≤ length s)
+  untried_in h = one_untried ((at + cell_words ≤ hi) × (hi ≤ length s)) h (λ t ts p r e. ((part_in r).0, (part_in r).1))
 
-  module _ (h : at < hi) {c : Cell} (q : c ≡ cell_at s (at + cell-words)) where
-    target_is : (t : Option ℕ × ℕ) → Part s at (at + cell-words) (target-words t) → c ≡ cell t.1 (target-cell t.0)
-    target_is t p = q ∙ cell-is [] (cell t.1 (target-cell t.0)) p
+  module _ (h : at < hi) {c : Cell} (q : c ≡ cell_at s (at + cell_words)) where
+    target_is : (t : Option ℕ × ℕ) → Part s at (at + cell_words) (target_words t) → c ≡ cell t.1 (target_cell t.0)
+    target_is t p = q ∙ cell_is [] (cell t.1 (target_cell t.0)) p
 
-    pub untried-hit : eqb c.flag 1 && eqb c.a i ≡ true → some from ≡ remap-source 0 targets i
+    pub untried_hit : eqb c.flag 1 && eqb c.a i ≡ true → some from ≡ remap_source 0 targets i
     unfolding cell
-    untried-hit b = one-untried (some from ≡ remap-source 0 targets i) h (λ t ts p r e. go t ts (ap (λ (k : Cell). eqb k.flag 1 && eqb k.a i) (sym (target_is t p)) ∙ b) ∙ e)
+    untried_hit b = one_untried (some from ≡ remap_source 0 targets i) h (λ t ts p r e. go t ts (ap (λ (k : Cell). eqb k.flag 1 && eqb k.a i) (sym (target_is t p)) ∙ b) ∙ e)
       where
-        go : (t : Option ℕ × ℕ) (ts : List (Option ℕ × ℕ)) → eqb (cell t.1 (target-cell t.0)).flag 1 && eqb (cell t.1 (target-cell t.0)).a i ≡ true → some from ≡ remap-source from (t ∷ ts) i
+        go : (t : Option ℕ × ℕ) (ts : List (Option ℕ × ℕ)) → eqb (cell t.1 (target_cell t.0)).flag 1 && eqb (cell t.1 (target_cell t.0)).a i ≡ true → some from ≡ remap_source from (t ∷ ts) i
         go (none, og) ts e = let x : ◌≡◌ {A = ℕ} 0 1 = cc in absurd (omega arith)
-        go (some a, og) ts e = chosen (eqb a i) (some from) (remap-source (suc from) ts i) e
+        go (some a, og) ts e = chosen (eqb a i) (some from) (remap_source (suc from) ts i) e
 
-    pub untried-next : eqb c.flag 1 && eqb c.a i ≡ false → Untried s hi (at + cell-words) (from + 1) i targets
+    pub untried_next : eqb c.flag 1 && eqb c.a i ≡ false → Untried s hi (at + cell_words) (from + 1) i targets
     unfolding cell
-    untried-next b =
-        one-untried (Untried s hi (at + cell-words) (from + 1) i targets) h
-        (λ t ts p r e. record { rest = ts; part = r; is = ap (λ (n : ℕ). remap-source n ts i) (add-one from) ∙ go t ts (ap (λ (k : Cell). eqb k.flag 1 && eqb k.a i) (sym (target_is t p)) ∙ b) ∙ e })
+    untried_next b =
+        one_untried (Untried s hi (at + cell_words) (from + 1) i targets) h
+        (λ t ts p r e. record { rest = ts; part = r; is = ap (λ (n : ℕ). remap_source n ts i) (add-one from) ∙ go t ts (ap (λ (k : Cell). eqb k.flag 1 && eqb k.a i) (sym (target_is t p)) ∙ b) ∙ e })
       where
-        go : (t : Option ℕ × ℕ) (ts : List (Option ℕ × ℕ)) → eqb (cell t.1 (target-cell t.0)).flag 1 && eqb (cell t.1 (target-cell t.0)).a i ≡ false
-            → remap-source (suc from) ts i ≡ remap-source from (t ∷ ts) i
+        go : (t : Option ℕ × ℕ) (ts : List (Option ℕ × ℕ)) → eqb (cell t.1 (target_cell t.0)).flag 1 && eqb (cell t.1 (target_cell t.0)).a i ≡ false
+            → remap_source (suc from) ts i ≡ remap_source from (t ∷ ts) i
         go (none, og) ts e = refl
-        go (some a, og) ts e = passed (eqb a i) (some from) (remap-source (suc from) ts i) e
+        go (some a, og) ts e = passed (eqb a i) (some from) (remap_source (suc from) ts i) e
 
-  pub untried-none : hi ≤ at → none ≡ remap-source 0 targets i
-  untried-none h = go g.rest g.part g.is
+  pub untried_none : hi ≤ at → none ≡ remap_source 0 targets i
+  untried_none h = go g.rest g.part g.is
     where
-      go : (rest : List (Option ℕ × ℕ)) → Part s at hi (all_words target-words rest) → remap-source from rest i ≡ remap-source 0 targets i → none ≡ remap-source 0 targets i
+      go : (rest : List (Option ℕ × ℕ)) → Part s at hi (all_words target_words rest) → remap_source from rest i ≡ remap_source 0 targets i → none ≡ remap_source 0 targets i
       go [] p e = e
-      go (t ∷ ts) p e = absurd (omega (arith, p.high, length-append (target-words t) (all_words target-words ts)))
+      go (t ∷ ts) p e = absurd (omega (arith, p.high, length-append (target_words t) (all_words target_words ts)))
 
-pub hits-some : (flag a i : ℕ) → flag ≡ 1 → eqb a i ≡ (eqb flag 1 && eqb a i)
-hits-some flag a i e = rw (eq-eqb flag 1 e)
+pub hits_some : (flag a i : ℕ) → flag ≡ 1 → eqb a i ≡ (eqb flag 1 && eqb a i)
+hits_some flag a i e = rw (eq-eqb flag 1 e)
 
-pub hits-none : (flag a i : ℕ) → (flag ≡ 1 → ⊥) → false ≡ (eqb flag 1 && eqb a i)
-hits-none flag a i h = rw (ne_eqb flag 1 h)
+pub hits_none : (flag a i : ℕ) → (flag ≡ 1 → ⊥) → false ≡ (eqb flag 1 && eqb a i)
+hits_none flag a i h = rw (ne_eqb flag 1 h)
 
 -- the Targets of a Remap
 module _ {s : List ℕ} {lo hi m : ℕ} (k : SourceCount s lo hi 1) (own : OwnStart s lo hi m) (g : (tag_at s hi ≡ 50) ⊎ (60 ≤ tag_at s hi)) (y : tag_at s hi ≡ 50 → ⊥)
     (z : tag_at s hi ≡ 60 → ⊥) where
-  a-remap : (P : Other → Type 0) (og : ℕ) (o : Other) (n : Node) → NodeHere s lo hi (over og (other o) n)
-      → ((ts : List (Option ℕ × ℕ)) → Part s m (hi - cell-words) (all_words target-words ts) → P (remap ts)) → P o
-  a-remap P og o n u f = go o u (node-tag (over og (other o) n) u ∙ tagged (over og (other o) n))
+  a_remap : (P : Other → Type 0) (og : ℕ) (o : Other) (n : Node) → NodeHere s lo hi (over og (other o) n)
+      → ((ts : List (Option ℕ × ℕ)) → Part s m (hi - cell_words) (all_words target_words ts) → P (remap ts)) → P o
+  a_remap P og o n u f = go o u (node_tag (over og (other o) n) u ∙ tagged (over og (other o) n))
     where
       high : 60 ≤ tag_at s hi
       high = ⊎_elim (λ i. absurd (y i)) (λ i. i) g
 
-      go : (o : Other) → NodeHere s lo hi (over og (other o) n) → tag_at s hi ≡ over-tag (other o) → P o
+      go : (o : Other) → NodeHere s lo hi (over og (other o) n) → tag_at s hi ≡ over_tag (other o) → P o
       go (limit a) u i = absurd (omega (arith, high))
       go (offset a) u i = absurd (omega (arith, high))
       go (order ks) u i = absurd (omega (arith, high))
       go (projection is) u i = absurd (z i)
-      go (remap ts) u i = f ts (own-part (over og (other (remap ts)) n) u (own (over og (other (remap ts)) n) u))
+      go (remap ts) u i = f ts (own_part (over og (other (remap ts)) n) u (own (over og (other (remap ts)) n) u))
       go (aggregate es gs) u i = absurd (y i)
 
-  pub targets-up : NodeAt s lo hi → TargetsUp s m (hi - cell-words)
-  targets-up t = by_over (λ p. NodeHere s lo hi p → TargetsUp s m (hi - cell-words)) go t.p (sym (k t.p t.here)) t.here
+  pub targets_up : NodeAt s lo hi → TargetsUp s m (hi - cell_words)
+  targets_up t = by_over (λ p. NodeHere s lo hi p → TargetsUp s m (hi - cell_words)) go t.p (sym (k t.p t.here)) t.here
     where
-      go : (og : ℕ) (o : Over) (n : Node) → NodeHere s lo hi (over og o n) → TargetsUp s m (hi - cell-words)
+      go : (og : ℕ) (o : Over) (n : Node) → NodeHere s lo hi (over og o n) → TargetsUp s m (hi - cell_words)
       go og (filter e) n u =
-          let i = node-tag (over og (filter e) n) u ∙ tagged (over og (filter e) n) in
+          let i = node_tag (over og (filter e) n) u ∙ tagged (over og (filter e) n) in
           ⊎_elim (λ (j : tag_at s hi ≡ 50). absurd (y j)) (λ (j : 60 ≤ tag_at s hi). absurd (omega arith)) g
-      go og (other o) n u = a-remap (λ o. TargetsUp s m (hi - cell-words)) og o n u (λ ts p. record { targets = ts; part = p })
+      go og (other o) n u = a_remap (λ o. TargetsUp s m (hi - cell_words)) og o n u (λ ts p. record { targets = ts; part = p })
 
-  pub remap-goes : (i : ℕ) (r : Route) → RemapRoute s m (hi - cell-words) i r → Routes s lo hi i r
-  remap-goes i r f source og o n u = a-remap (λ o. routed-by source r ≡ other-label o source i) og o n u (λ ts p. f source ts p)
+  pub remap_goes : (i : ℕ) (r : Route) → RemapRoute s m (hi - cell_words) i r → Routes s lo hi i r
+  remap_goes i r f source og o n u = a_remap (λ o. routed_by source r ≡ other_label o source i) og o n u (λ ts p. f source ts p)

@@ -11,22 +11,22 @@ use lib.ListN.{length, get_or, length-append, get_or-eq_default}
 use lib.Seq.{get_or-append_seam}
 use borrow.Author.Tests.{eqb-true, eqb-false, leb-true, leb-false, ltb-true, ltb-false, lt-ltb, le-ltb, eq-eqb, ne_eqb}
 use Rattle.sql.specs.Schema.{Schema}
-use Rattle.sql.specs.Plan.{unlabelled, unqualified, qualified, by_key, by_index, Leaf, scan, lookup, nothing, values, Other, limit, offset, order, projection, remap, aggregate, Over, filter, other, Join, Node, leaf, over, join, other-label, table-label, leaf-label, column-label, columns}
+use Rattle.sql.specs.Plan.{unlabelled, unqualified, qualified, by_key, by_index, Leaf, scan, lookup, nothing, values, Other, limit, offset, order, projection, remap, aggregate, Over, filter, other, Join, Node, leaf, over, join, other_label, table_label, leaf_label, column_label, columns}
 use Rattle.sql.specs.Plan as plan
-use Rattle.sheet.specs.Content.{label_of, label-cell}
+use Rattle.sheet.specs.Content.{label_of, label_cell}
 use Rattle.cells.specs.declared.Cell.{Cell}
-use Rattle.cells.specs.Cells.{cell-words, cell_at, tag_at, start-at, Part, Sized}
-use Rattle.cells.proofs.Laws.{part_left, part_right, part_in, cell-is}
-use Rattle.words.specs.Words.{cell, all_words, label-words, leaf-cell, source-count}
+use Rattle.cells.specs.Cells.{cell_words, cell_at, tag_at, start_at, Part, Sized}
+use Rattle.cells.proofs.Laws.{part_left, part_right, part_in, cell_is}
+use Rattle.words.specs.Words.{cell, all_words, label_words, leaf_cell, source_count}
 use Rattle.words.specs.Place.{NodeHere, NodeAt}
-use Rattle.words.proofs.Nodes.{node-cell-is, node-tag, own-part, over-source, join-left, join-right, node_in}
-use Rattle.words.proofs.Tags.{tagged, leaf-tag, over-tag, by-leaf, by_over, by-join, by-nothing, leaf-nothing, leaf-values}
-use Rattle.words.proofs.Sizes.{all-single}
+use Rattle.words.proofs.Nodes.{node_cell_is, node_tag, own_part, over_source, join_left, join_right, node_in}
+use Rattle.words.proofs.Tags.{tagged, leaf_tag, over_tag, by_leaf, by_over, by_join, by_nothing, leaf_nothing, leaf_values}
+use Rattle.words.proofs.Sizes.{all_single}
 use Rattle.nodes.specs.Own.{OwnStart, SourceCount}
 use Rattle.nodes.specs.Columns.{Narrow, ColumnsAt, ColumnCount, GoesThrough}
 use Rattle.records.specs.Records.{Tables}
 use Rattle.nodes.proofs.Own.{tag_in}
-use Rattle.nodes.proofs.Widths.{a-here, tag-here, columns-node, source_in, source-columns-at, through-in, sources-in}
+use Rattle.nodes.proofs.Widths.{a_here, tag_here, columns_node, source_in, source_columns_at, through_in, sources_in}
 use Rattle.labels.specs.declared.Label.{Label}
 use Rattle.labels.specs.declared.Label.TheVariants.{Unlabelled, Unqualified, Qualified}
 use Rattle.labels.specs.declared.Route.{Route}
@@ -36,35 +36,35 @@ use Rattle.labels.specs.declared.Traced.TheVariants.{Said, Column}
 use Rattle.labels.specs.declared.Spot.{Spot}
 use Rattle.labels.specs.declared.Next.{Next}
 use Rattle.labels.specs.declared.Next.TheVariants.{Done, More}
-use Rattle.labels.specs.Labels.{label, alias-if, named, routed-by, Labelled, Routes, is-aliased, says-columns, LeafTraced, Asked, AskedCount, CountedAt, LeftColumns, Traces, Reached, Moves, Steps}
+use Rattle.labels.specs.Labels.{label, alias_if, named, routed_by, Labelled, Routes, is_aliased, says_columns, LeafTraced, Asked, AskedCount, CountedAt, LeftColumns, Traces, Reached, Moves, Steps}
 use Rattle.labels.proofs.Parts.{Nth, nth, all_split}
 use Rattle.labels.proofs.Routes.{chosen, passed}
 
 -- ---- a Nothing
 
-label-said : (og : ℕ) (x : plan.Label)
-    → label_of (record { tag = 0; flag = (cell og (label-cell x)).flag; origin = 0; a = (cell og (label-cell x)).a; b = (cell og (label-cell x)).b; c = 0 }) ≡ x
+label_said : (og : ℕ) (x : plan.Label)
+    → label_of (record { tag = 0; flag = (cell og (label_cell x)).flag; origin = 0; a = (cell og (label_cell x)).a; b = (cell og (label_cell x)).b; c = 0 }) ≡ x
 unfolding cell
-label-said og unlabelled = refl
-label-said og (unqualified n) = refl
-label-said og (qualified q n) = refl
+label_said og unlabelled = refl
+label_said og (unqualified n) = refl
+label_said og (qualified q n) = refl
 
 -- Label number i of a row of Labels.
 pub record LabelAt (s : List ℕ) (lo i : ℕ) (ls : List (plan.Label × ℕ)) : Type 0 where
   pub x : plan.Label × ℕ
-  pub part : Part s (lo + cell-words * i) (lo + cell-words * i + cell-words) (label-words x)
+  pub part : Part s (lo + cell_words * i) (lo + cell_words * i + cell_words) (label_words x)
   pub is : x ≡ get_or ls i (unlabelled, 0)
 
-label-number : {s : List ℕ} {lo hi : ℕ} (i : ℕ) (ls : List (plan.Label × ℕ)) → Part s lo hi (all_words label-words ls) → i < length ls → LabelAt s lo i ls
-label-number {s} {lo} {hi} i ls p h =
+label_number : {s : List ℕ} {lo hi : ℕ} (i : ℕ) (ls : List (plan.Label × ℕ)) → Part s lo hi (all_words label_words ls) → i < length ls → LabelAt s lo i ls
+label_number {s} {lo} {hi} i ls p h =
     let n = nth ls i h in
-    let a = all_words label-words n.before in
-    let b = label-words n.x in
-    let r = all_words label-words n.after ++ [] in
-    let e : all_words label-words ls ≡ a ++ (b ++ r) =
-    sym (append-nil (all_words label-words ls)) ∙ ap (λ (l : List (plan.Label × ℕ)). all_words label-words l ++ []) n.is
-    ∙ all_split label-words n.before n.x n.after [] in
-    let g : lo + length a ≡ lo + cell-words * i = omega (arith, all-single label-words (λ l. refl) n.before, n.at) in
+    let a = all_words label_words n.before in
+    let b = label_words n.x in
+    let r = all_words label_words n.after ++ [] in
+    let e : all_words label_words ls ≡ a ++ (b ++ r) =
+    sym (append-nil (all_words label_words ls)) ∙ ap (λ (l : List (plan.Label × ℕ)). all_words label_words l ++ []) n.is
+    ∙ all_split label_words n.before n.x n.after [] in
+    let g : lo + length a ≡ lo + cell_words * i = omega (arith, all_single label_words (λ l. refl) n.before, n.at) in
     let v = part_right a (b ++ r) (subst (λ (w : List ℕ). Part s lo hi w) e p) in
     record {
       x = n.x;
@@ -73,79 +73,79 @@ label-number {s} {lo} {hi} i ls p h =
     }
 
 module _ {s : List ℕ} {lo hi : ℕ} {c : Cell} (q : c ≡ cell_at s hi) where
-  a-nothing : c.tag ≡ 57 → (P : Leaf → Type 0) (og : ℕ) (l : Leaf) → NodeHere s lo hi (leaf og l)
-      → ((ls : List (plan.Label × ℕ)) → c.a ≡ length ls → Part s lo (hi - cell-words) (all_words label-words ls) → P (nothing ls)) → P l
-  a-nothing z P og l u f =
-      leaf-nothing (λ l. NodeHere s lo hi (leaf og l) → P l)
-      (λ ls u. f ls (a-here q (leaf og (nothing ls)) u) (own-part (leaf og (nothing ls)) u {m = lo} (omega arith))) l (sym (tag-here q (leaf og l) u) ∙ z) u
+  a_nothing : c.tag ≡ 57 → (P : Leaf → Type 0) (og : ℕ) (l : Leaf) → NodeHere s lo hi (leaf og l)
+      → ((ls : List (plan.Label × ℕ)) → c.a ≡ length ls → Part s lo (hi - cell_words) (all_words label_words ls) → P (nothing ls)) → P l
+  a_nothing z P og l u f =
+      leaf_nothing (λ l. NodeHere s lo hi (leaf og l) → P l)
+      (λ ls u. f ls (a_here q (leaf og (nothing ls)) u) (own_part (leaf og (nothing ls)) u {m = lo} (omega arith))) l (sym (tag_here q (leaf og l) u) ∙ z) u
 
   pub nothing_ends : c.tag ≡ 57 → (i : ℕ) → c.a ≤ i → LeafTraced s lo hi i (Said Unlabelled)
   nothing_ends z i h schema og l u =
-      a-nothing z (λ l. unlabelled ≡ leaf-label schema l i) og l u (λ ls e p. ap (λ (x : plan.Label × ℕ). x.0) (sym (get_or-eq_default ls (unlabelled, 0) (omega arith))))
+      a_nothing z (λ l. unlabelled ≡ leaf_label schema l i) og l u (λ ls e p. ap (λ (x : plan.Label × ℕ). x.0) (sym (get_or-eq_default ls (unlabelled, 0) (omega arith))))
 
   module _ (z : c.tag ≡ 57) (i : ℕ) (h : i < c.a) where
-    pub label-in-list : NodeAt s lo hi → lo + cell-words * i + cell-words ≤ length s
-    label-in-list t =
-        by-nothing (λ p. NodeHere s lo hi p → lo + cell-words * i + cell-words ≤ length s)
-        (λ og ls u. (part_in (label-number i ls (own-part (leaf og (nothing ls)) u {m = lo} (omega arith)) (omega (arith, a-here q (leaf og (nothing ls)) u))).part).1)
-        t.p (sym (tag-here q t.p t.here) ∙ z) t.here
+    pub label_in_list : NodeAt s lo hi → lo + cell_words * i + cell_words ≤ length s
+    label_in_list t =
+        by_nothing (λ p. NodeHere s lo hi p → lo + cell_words * i + cell_words ≤ length s)
+        (λ og ls u. (part_in (label_number i ls (own_part (leaf og (nothing ls)) u {m = lo} (omega arith)) (omega (arith, a_here q (leaf og (nothing ls)) u))).part).1)
+        t.p (sym (tag_here q t.p t.here) ∙ z) t.here
 
-    pub nothing-says : {k : Cell} → k ≡ cell_at s (lo + cell-words * i + cell-words) → (l : Label) → Labelled k.flag k.a k.b l → LeafTraced s lo hi i (Said l)
-    nothing-says {k} e l f schema og x u =
-        a-nothing z (λ x. label l ≡ leaf-label schema x i) og x u
+    pub nothing_says : {k : Cell} → k ≡ cell_at s (lo + cell_words * i + cell_words) → (l : Label) → Labelled k.flag k.a k.b l → LeafTraced s lo hi i (Said l)
+    nothing_says {k} e l f schema og x u =
+        a_nothing z (λ x. label l ≡ leaf_label schema x i) og x u
         (λ ls g p.
-        let n = label-number i ls p (omega arith) in
-        f ∙ ap (λ (k : Cell). label_of (record { tag = 0; flag = k.flag; origin = 0; a = k.a; b = k.b; c = 0 })) (e ∙ cell-is [] (cell n.x.1 (label-cell n.x.0)) n.part)
-        ∙ label-said n.x.1 n.x.0 ∙ ap (λ (x : plan.Label × ℕ). x.0) n.is)
+        let n = label_number i ls p (omega arith) in
+        f ∙ ap (λ (k : Cell). label_of (record { tag = 0; flag = k.flag; origin = 0; a = k.a; b = k.b; c = 0 })) (e ∙ cell_is [] (cell n.x.1 (label_cell n.x.0)) n.part)
+        ∙ label_said n.x.1 n.x.0 ∙ ap (λ (x : plan.Label × ℕ). x.0) n.is)
 
-  pub values-say : c.tag ≡ 63 → (i : ℕ) → LeafTraced s lo hi i (Said Unlabelled)
-  values-say z i schema og l u =
-      leaf-values (λ l. unlabelled ≡ leaf-label schema l i) (λ rs. refl) l (sym (tag-here q (leaf og l) u) ∙ z)
+  pub values_say : c.tag ≡ 63 → (i : ℕ) → LeafTraced s lo hi i (Said Unlabelled)
+  values_say z i schema og l u =
+      leaf_values (λ l. unlabelled ≡ leaf_label schema l i) (λ rs. refl) l (sym (tag_here q (leaf og l) u) ∙ z)
 
   -- ---- a table's column
-  pub table-says : (c.tag ≡ 57 → ⊥) → (c.tag ≡ 63 → ⊥) → (i : ℕ) (b : Bool) → b ≡ is-aliased c.tag c.flag → LeafTraced s lo hi i (Column c.a b c.b i)
+  pub table_says : (c.tag ≡ 57 → ⊥) → (c.tag ≡ 63 → ⊥) → (i : ℕ) (b : Bool) → b ≡ is_aliased c.tag c.flag → LeafTraced s lo hi i (Column c.a b c.b i)
   unfolding cell
-  table-says y z i b e schema og l u = go l u (ap (λ (t : Bool). alias-if t c.b) e ∙ ap (λ (k : Cell). alias-if (is-aliased k.tag k.flag) k.b) (q ∙ node-cell-is (leaf og l) u))
+  table_says y z i b e schema og l u = go l u (ap (λ (t : Bool). alias_if t c.b) e ∙ ap (λ (k : Cell). alias_if (is_aliased k.tag k.flag) k.b) (q ∙ node_cell_is (leaf og l) u))
     where
-      of-table : (t : ℕ) (al : Option ℕ) → c.a ≡ t → alias-if b c.b ≡ al → table-label schema c.a (alias-if b c.b) i ≡ table-label schema t al i
-      of-table t al f g =
-          ap (λ (n : ℕ). table-label schema n (alias-if b c.b) i) f ∙ ap (λ (a : Option ℕ). table-label schema t a i) g
+      of_table : (t : ℕ) (al : Option ℕ) → c.a ≡ t → alias_if b c.b ≡ al → table_label schema c.a (alias_if b c.b) i ≡ table_label schema t al i
+      of_table t al f g =
+          ap (λ (n : ℕ). table_label schema n (alias_if b c.b) i) f ∙ ap (λ (a : Option ℕ). table_label schema t a i) g
 
       go : (l : Leaf) → NodeHere s lo hi (leaf og l)
-          → alias-if b c.b ≡ alias-if (is-aliased (cell og (leaf-cell l)).tag (cell og (leaf-cell l)).flag) (cell og (leaf-cell l)).b
-          → table-label schema c.a (alias-if b c.b) i ≡ leaf-label schema l i
-      go (scan t none none) u g = of-table t none (a-here q (leaf og (scan t none none)) u) g
-      go (scan t none (some f)) u g = of-table t none (a-here q (leaf og (scan t none (some f))) u) g
-      go (scan t (some al) none) u g = of-table t (some al) (a-here q (leaf og (scan t (some al) none)) u) g
-      go (scan t (some al) (some f)) u g = of-table t (some al) (a-here q (leaf og (scan t (some al) (some f))) u) g
-      go (lookup by_key t none vs) u g = of-table t none (a-here q (leaf og (lookup by_key t none vs)) u) g
-      go (lookup by_key t (some al) vs) u g = of-table t (some al) (a-here q (leaf og (lookup by_key t (some al) vs)) u) g
-      go (lookup (by_index j) t none vs) u g = of-table t none (a-here q (leaf og (lookup (by_index j) t none vs)) u) g
-      go (lookup (by_index j) t (some al) vs) u g = of-table t (some al) (a-here q (leaf og (lookup (by_index j) t (some al) vs)) u) g
-      go (nothing ls) u g = absurd (y (tag-here q (leaf og (nothing ls)) u))
-      go (values rs) u g = absurd (z (tag-here q (leaf og (values rs)) u))
+          → alias_if b c.b ≡ alias_if (is_aliased (cell og (leaf_cell l)).tag (cell og (leaf_cell l)).flag) (cell og (leaf_cell l)).b
+          → table_label schema c.a (alias_if b c.b) i ≡ leaf_label schema l i
+      go (scan t none none) u g = of_table t none (a_here q (leaf og (scan t none none)) u) g
+      go (scan t none (some f)) u g = of_table t none (a_here q (leaf og (scan t none (some f))) u) g
+      go (scan t (some al) none) u g = of_table t (some al) (a_here q (leaf og (scan t (some al) none)) u) g
+      go (scan t (some al) (some f)) u g = of_table t (some al) (a_here q (leaf og (scan t (some al) (some f))) u) g
+      go (lookup by_key t none vs) u g = of_table t none (a_here q (leaf og (lookup by_key t none vs)) u) g
+      go (lookup by_key t (some al) vs) u g = of_table t (some al) (a_here q (leaf og (lookup by_key t (some al) vs)) u) g
+      go (lookup (by_index j) t none vs) u g = of_table t none (a_here q (leaf og (lookup (by_index j) t none vs)) u) g
+      go (lookup (by_index j) t (some al) vs) u g = of_table t (some al) (a_here q (leaf og (lookup (by_index j) t (some al) vs)) u) g
+      go (nothing ls) u g = absurd (y (tag_here q (leaf og (nothing ls)) u))
+      go (values rs) u g = absurd (z (tag_here q (leaf og (values rs)) u))
 
-pub aliased-scan : (tag flag : ℕ) → tag ≡ 62 → leb 2 flag ≡ is-aliased tag flag
-aliased-scan tag flag e = rw (eq-eqb tag 62 e)
+pub aliased_scan : (tag flag : ℕ) → tag ≡ 62 → leb 2 flag ≡ is_aliased tag flag
+aliased_scan tag flag e = rw (eq-eqb tag 62 e)
 
-pub aliased-lookup : (tag flag : ℕ) → (tag ≡ 62 → ⊥) → leb 1 flag ≡ is-aliased tag flag
-aliased-lookup tag flag h = rw (ne_eqb tag 62 h)
+pub aliased_lookup : (tag flag : ℕ) → (tag ≡ 62 → ⊥) → leb 1 flag ≡ is_aliased tag flag
+aliased_lookup tag flag h = rw (ne_eqb tag 62 h)
 
-pub says-one : (tag : ℕ) → tag ≡ 50 → true ≡ says-columns tag
-says-one tag e = rw (eq-eqb tag 50 e)
+pub says_one : (tag : ℕ) → tag ≡ 50 → true ≡ says_columns tag
+says_one tag e = rw (eq-eqb tag 50 e)
 
-pub says_other : (tag : ℕ) → (tag ≡ 50 → ⊥) → leb 60 tag ≡ says-columns tag
+pub says_other : (tag : ℕ) → (tag ≡ 50 → ⊥) → leb 60 tag ≡ says_columns tag
 says_other tag h = rw (ne_eqb tag 50 h)
 
-pub says-true : (tag : ℕ) → says-columns tag ≡ true → (tag ≡ 50) ⊎ (60 ≤ tag)
-says-true tag h = go (eqb tag 50) (leb 60 tag) (eqb-true tag 50) (leb-true 60 tag) h
+pub says_true : (tag : ℕ) → says_columns tag ≡ true → (tag ≡ 50) ⊎ (60 ≤ tag)
+says_true tag h = go (eqb tag 50) (leb 60 tag) (eqb-true tag 50) (leb-true 60 tag) h
   where
     go : (a b : Bool) → (a ≡ true → tag ≡ 50) → (b ≡ true → 60 ≤ tag) → (a || b) ≡ true → (tag ≡ 50) ⊎ (60 ≤ tag)
     go true b f g h = inl (f refl)
     go false b f g h = inr (g h)
 
-pub says-false : (tag : ℕ) → says-columns tag ≡ false → (tag ≡ 50 → ⊥) × (tag < 60)
-says-false tag h = go (eqb tag 50) (leb 60 tag) (eqb-false tag 50) (leb-false 60 tag) h
+pub says_false : (tag : ℕ) → says_columns tag ≡ false → (tag ≡ 50 → ⊥) × (tag < 60)
+says_false tag h = go (eqb tag 50) (leb 60 tag) (eqb-false tag 50) (leb-false 60 tag) h
   where
     go : (a b : Bool) → (a ≡ false → tag ≡ 50 → ⊥) → (b ≡ false → tag < 60) → (a || b) ≡ false → (tag ≡ 50 → ⊥) × (tag < 60)
     go true b f g h = let z : ◌≡◌ {A = ℕ} 0 1 = cc in absurd (omega arith)
@@ -154,134 +154,134 @@ says-false tag h = go (eqb tag 50) (leb 60 tag) (eqb-false tag 50) (leb-false 60
 -- ---- steps
 
 module _ {s : List ℕ} {lo hi : ℕ} (c : SourceCount s lo hi 1) (g : (tag_at s hi ≡ 50) ⊎ (60 ≤ tag_at s hi)) where
-  not-filter : (P : Node → Type 0) → ((og : ℕ) (o : Other) (n : Node) → NodeHere s lo hi (over og (other o) n) → P (over og (other o) n)) → (p : Node) → NodeHere s lo hi p → P p
-  not-filter P f p u = by_over (λ p. NodeHere s lo hi p → P p) go p (sym (c p u)) u
+  not_filter : (P : Node → Type 0) → ((og : ℕ) (o : Other) (n : Node) → NodeHere s lo hi (over og (other o) n) → P (over og (other o) n)) → (p : Node) → NodeHere s lo hi p → P p
+  not_filter P f p u = by_over (λ p. NodeHere s lo hi p → P p) go p (sym (c p u)) u
     where
       go : (og : ℕ) (o : Over) (n : Node) → NodeHere s lo hi (over og o n) → P (over og o n)
       go og (filter e) n u =
-          let k = node-tag (over og (filter e) n) u ∙ tagged (over og (filter e) n) in
+          let k = node_tag (over og (filter e) n) u ∙ tagged (over og (filter e) n) in
           ⊎_elim (λ (j : tag_at s hi ≡ 50). absurd (omega arith)) (λ (j : 60 ≤ tag_at s hi). absurd (omega arith)) g
       go og (other o) n u = f og o n u
 
-pub ends-leaf : {records s : List ℕ} {lo hi : ℕ} (i : ℕ) → SourceCount s lo hi 0 → (o : Traced) → LeafTraced s lo hi i o → Traces records s lo hi i o
-ends-leaf {s = s} {lo = lo} {hi = hi} i c o g schema p t u =
-    by-leaf (λ p. NodeHere s lo hi p → named schema o ≡ column-label schema p i) (λ og l u. g schema og l u) p (sym (c p u)) u
+pub ends_leaf : {records s : List ℕ} {lo hi : ℕ} (i : ℕ) → SourceCount s lo hi 0 → (o : Traced) → LeafTraced s lo hi i o → Traces records s lo hi i o
+ends_leaf {s = s} {lo = lo} {hi = hi} i c o g schema p t u =
+    by_leaf (λ p. NodeHere s lo hi p → named schema o ≡ column_label schema p i) (λ og l u. g schema og l u) p (sym (c p u)) u
 
 -- a node with the columns of its source
 module _ {s : List ℕ} {lo hi m : ℕ} (c : SourceCount s lo hi 1) (own : OwnStart s lo hi m) (y : tag_at s hi ≡ 50 → ⊥) (z : tag_at s hi < 60) where
-  same-columns : (schema : Schema) (og : ℕ) (o : Over) (n : Node) (w : ℕ) → tag_at s hi ≡ over-tag o → Asked schema (over og o n) w → Asked schema n w
-  same-columns schema og (filter e) n w k f h = f refl
-  same-columns schema og (other (limit a)) n w k f h = f refl
-  same-columns schema og (other (offset a)) n w k f h = f refl
-  same-columns schema og (other (order ks)) n w k f h = f refl
-  same-columns schema og (other (projection is)) n w k f h = absurd (omega arith)
-  same-columns schema og (other (remap ts)) n w k f h = absurd (omega arith)
-  same-columns schema og (other (aggregate es gs)) n w k f h = absurd (y k)
+  same_columns : (schema : Schema) (og : ℕ) (o : Over) (n : Node) (w : ℕ) → tag_at s hi ≡ over_tag o → Asked schema (over og o n) w → Asked schema n w
+  same_columns schema og (filter e) n w k f h = f refl
+  same_columns schema og (other (limit a)) n w k f h = f refl
+  same_columns schema og (other (offset a)) n w k f h = f refl
+  same_columns schema og (other (order ks)) n w k f h = f refl
+  same_columns schema og (other (projection is)) n w k f h = absurd (omega arith)
+  same_columns schema og (other (remap ts)) n w k f h = absurd (omega arith)
+  same_columns schema og (other (aggregate es gs)) n w k f h = absurd (y k)
 
-  same-label : (schema : Schema) (og : ℕ) (o : Over) (n : Node) (i : ℕ) → tag_at s hi ≡ over-tag o → column-label schema n i ≡ column-label schema (over og o n) i
-  same-label schema og (filter e) n i k = refl
-  same-label schema og (other (limit a)) n i k = refl
-  same-label schema og (other (offset a)) n i k = refl
-  same-label schema og (other (order ks)) n i k = refl
-  same-label schema og (other (projection is)) n i k = absurd (omega arith)
-  same-label schema og (other (remap ts)) n i k = absurd (omega arith)
-  same-label schema og (other (aggregate es gs)) n i k = absurd (y k)
+  same_label : (schema : Schema) (og : ℕ) (o : Over) (n : Node) (i : ℕ) → tag_at s hi ≡ over_tag o → column_label schema n i ≡ column_label schema (over og o n) i
+  same_label schema og (filter e) n i k = refl
+  same_label schema og (other (limit a)) n i k = refl
+  same_label schema og (other (offset a)) n i k = refl
+  same_label schema og (other (order ks)) n i k = refl
+  same_label schema og (other (projection is)) n i k = absurd (omega arith)
+  same_label schema og (other (remap ts)) n i k = absurd (omega arith)
+  same_label schema og (other (aggregate es gs)) n i k = absurd (y k)
 
-  reached-source : (schema : Schema) (i w : ℕ) (p : Node) → NodeHere s lo hi p → Asked schema p w → Reached schema s p i lo m i w
-  reached-source schema i w p u e =
+  reached_source : (schema : Schema) (i w : ℕ) (p : Node) → NodeHere s lo hi p → Asked schema p w → Reached schema s p i lo m i w
+  reached_source schema i w p u e =
       by_over (λ p. NodeHere s lo hi p → Asked schema p w → Reached schema s p i lo m i w)
       (λ og o n u e.
-      let k = node-tag (over og o n) u ∙ tagged (over og o n) in
-      record { q = n; here = over-source og o n u (own (over og o n) u); count = same-columns schema og o n w k e; same = same-label schema og o n i k })
+      let k = node_tag (over og o n) u ∙ tagged (over og o n) in
+      record { q = n; here = over_source og o n u (own (over og o n) u); count = same_columns schema og o n w k e; same = same_label schema og o n i k })
       p (sym (c p u)) u e
 
-  pub moves-source : {records : List ℕ} {w : ℕ} (i : ℕ) → CountedAt records s lo hi w → Moves records s lo hi i w (record { lo = lo; hi = m; column = i; columns = w })
-  moves-source {records} {w} i t =
-      let (a, b) = source_in c own (columns-node t.at) in
+  pub moves_source : {records : List ℕ} {w : ℕ} (i : ℕ) → CountedAt records s lo hi w → Moves records s lo hi i w (record { lo = lo; hi = m; column = i; columns = w })
+  moves_source {records} {w} i t =
+      let (a, b) = source_in c own (columns_node t.at) in
       record {
         there = go;
         shorter = omega arith;
-        reaches = λ schema p k u e. reached-source schema i w p u e;
+        reaches = λ schema p k u e. reached_source schema i w p u e;
       }
     where
       go : CountedAt records s lo m w
       go =
-          let (a, b) = source_in c own (columns-node t.at) in
+          let (a, b) = source_in c own (columns_node t.at) in
           by_over (λ p. NodeHere s lo hi p → Narrow p → Asked t.at.schema p w → CountedAt records s lo m w)
           (λ og o n u k e. record {
-            at = record { schema = t.at.schema; tables = t.at.tables; p = n; here = over-source og o n u (own (over og o n) u); narrow = k.1; short = omega (arith, t.at.short) };
-            count = same-columns t.at.schema og o n w (node-tag (over og o n) u ∙ tagged (over og o n)) e;
+            at = record { schema = t.at.schema; tables = t.at.tables; p = n; here = over_source og o n u (own (over og o n) u); narrow = k.1; short = omega (arith, t.at.short) };
+            count = same_columns t.at.schema og o n w (node_tag (over og o n) u ∙ tagged (over og o n)) e;
           })
           t.at.p (sym (c t.at.p t.at.here)) t.at.here t.at.narrow t.count
 
 -- a count that isn't asked for
-pub not-asked : {records s : List ℕ} {lo hi : ℕ} → NodeAt s lo hi → (tag_at s hi ≡ 50) ⊎ (60 ≤ tag_at s hi) → AskedCount records s lo hi 0
-not-asked {s = s} {lo = lo} {hi = hi} t g schema p k u h = let z = own p u in absurd (omega arith)
+pub not_asked : {records s : List ℕ} {lo hi : ℕ} → NodeAt s lo hi → (tag_at s hi ≡ 50) ⊎ (60 ≤ tag_at s hi) → AskedCount records s lo hi 0
+not_asked {s = s} {lo = lo} {hi = hi} t g schema p k u h = let z = own p u in absurd (omega arith)
   where
     own : GoesThrough s lo hi 0
     own =
-        ⊎_elim (λ (j : tag_at s hi ≡ 50). through-in 0 50 1 refl refl (omega arith) (omega arith))
-        (λ (j : 60 ≤ tag_at s hi). let (a, b) = tag_in t refl in through-in 0 60 4 refl refl (omega arith) (omega arith)) g
+        ⊎_elim (λ (j : tag_at s hi ≡ 50). through_in 0 50 1 refl refl (omega arith) (omega arith))
+        (λ (j : 60 ≤ tag_at s hi). let (a, b) = tag_in t refl in through_in 0 60 4 refl refl (omega arith) (omega arith)) g
 
 -- a node with columns of its own
 module _ {s : List ℕ} {lo hi m : ℕ} (i : ℕ) (c : SourceCount s lo hi 1) (own : OwnStart s lo hi m) (g : (tag_at s hi ≡ 50) ⊎ (60 ≤ tag_at s hi)) (r : Route)
     (route : Routes s lo hi i r) where
-  pub ends-own : {records : List ℕ} (l : Label) → r ≡ Ends l → Traces records s lo hi i (Said l)
-  ends-own l e schema p t u =
-      not-filter c g (λ p. label l ≡ column-label schema p i)
-      (λ og o n u. ap (routed-by (column-label schema n)) (sym e) ∙ route (column-label schema n) og o n u) p u
+  pub ends_own : {records : List ℕ} (l : Label) → r ≡ Ends l → Traces records s lo hi i (Said l)
+  ends_own l e schema p t u =
+      not_filter c g (λ p. label l ≡ column_label schema p i)
+      (λ og o n u. ap (routed_by (column_label schema n)) (sym e) ∙ route (column_label schema n) og o n u) p u
 
-  pub moves-own : {records : List ℕ} {w : ℕ} (j : ℕ) → r ≡ To j → CountedAt records s lo hi w → {n : ℕ} → AskedCount records s lo m n
+  pub moves_own : {records : List ℕ} {w : ℕ} (j : ℕ) → r ≡ To j → CountedAt records s lo hi w → {n : ℕ} → AskedCount records s lo m n
       → Moves records s lo hi i w (record { lo = lo; hi = m; column = j; columns = n })
-  moves-own {records} {w} j e t {n} f =
-      let (a, b) = source_in c own (columns-node t.at) in
-      let d = source-columns-at c own t.at in
+  moves_own {records} {w} j e t {n} f =
+      let (a, b) = source_in c own (columns_node t.at) in
+      let d = source_columns_at c own t.at in
       record {
         there = record { at = d; count = f d.schema d.p d.tables d.here };
         shorter = omega arith;
-        reaches = λ schema p k u x. not-filter c g (λ p. Reached schema s p i lo m j n)
+        reaches = λ schema p k u x. not_filter c g (λ p. Reached schema s p i lo m j n)
             (λ og o q u.
-            let v = over-source og (other o) q u (own (over og (other o) q) u) in
+            let v = over_source og (other o) q u (own (over og (other o) q) u) in
             record {
               q = q;
               here = v;
               count = f schema q k v;
-              same = ap (routed-by (column-label schema q)) (sym e) ∙ route (column-label schema q) og o q u;
+              same = ap (routed_by (column_label schema q)) (sym e) ∙ route (column_label schema q) og o q u;
             })
             p u;
       }
 
 -- ---- a join
-module _ {s : List ℕ} {lo hi m mid : ℕ} (c : SourceCount s lo hi 2) (own : OwnStart s lo hi m) (st : mid ≡ start-at s m) where
-  a-join : (P : Node → Type 0)
+module _ {s : List ℕ} {lo hi m mid : ℕ} (c : SourceCount s lo hi 2) (own : OwnStart s lo hi m) (st : mid ≡ start_at s m) where
+  a_join : (P : Node → Type 0)
       → ((og : ℕ) (outer : Bool) (j : Join) (a b : Node) → NodeHere s lo hi (join og outer j a b) → NodeHere s lo mid a → NodeHere s mid m b → P (join og outer j a b))
       → (p : Node) → NodeHere s lo hi p → P p
-  a-join P g p u =
-      by-join (λ p. NodeHere s lo hi p → P p)
-      (λ og outer j a b u. g og outer j a b u (join-left og outer j a b u (own (join og outer j a b) u) st) (join-right og outer j a b u (own (join og outer j a b) u) st)) p (sym (c p u)) u
+  a_join P g p u =
+      by_join (λ p. NodeHere s lo hi p → P p)
+      (λ og outer j a b u. g og outer j a b u (join_left og outer j a b u (own (join og outer j a b) u) st) (join_right og outer j a b u (own (join og outer j a b) u) st)) p (sym (c p u)) u
 
   module _ {records : List ℕ} {w : ℕ} where
-    pub left-counted : {r : ℕ} → ColumnCount records s lo mid r → LeftColumns records s lo hi w r
-    left-counted f schema og outer j a b t u e = f schema a t (join-left og outer j a b u (own (join og outer j a b) u) st)
+    pub left_counted : {r : ℕ} → ColumnCount records s lo mid r → LeftColumns records s lo hi w r
+    left_counted f schema og outer j a b t u e = f schema a t (join_left og outer j a b u (own (join og outer j a b) u) st)
 
-    pub right-below : CountedAt records s lo hi w → {r : ℕ} → ColumnCount records s mid m r → r ≤ w
-    right-below t {r} f =
-        a-join (λ p. Asked t.at.schema p w → r ≤ w) (λ og outer j a b u v x e. omega (arith, e refl, f t.at.schema b t.at.tables x))
+    pub right_below : CountedAt records s lo hi w → {r : ℕ} → ColumnCount records s mid m r → r ≤ w
+    right_below t {r} f =
+        a_join (λ p. Asked t.at.schema p w → r ≤ w) (λ og outer j a b u v x e. omega (arith, e refl, f t.at.schema b t.at.tables x))
         t.at.p t.at.here t.count
 
-    pub left-by-right : {r : ℕ} → ColumnCount records s mid m r → LeftColumns records s lo hi w (w - r)
-    left-by-right f schema og outer j a b t u e = omega (arith, f schema b t (join-right og outer j a b u (own (join og outer j a b) u) st))
+    pub left_by_right : {r : ℕ} → ColumnCount records s mid m r → LeftColumns records s lo hi w (w - r)
+    left_by_right f schema og outer j a b t u e = omega (arith, f schema b t (join_right og outer j a b u (own (join og outer j a b) u) st))
 
     module _ (t : CountedAt records s lo hi w) {left : ℕ} (f : LeftColumns records s lo hi w left) where
       pub left_below : left ≤ w
       left_below =
-          a-join (λ p. Asked t.at.schema p w → left ≤ w)
+          a_join (λ p. Asked t.at.schema p w → left ≤ w)
           (λ og outer j a b u v x e. omega (arith, e refl, f t.at.schema og outer j a b t.at.tables u (e refl))) t.at.p t.at.here t.count
 
       left_there : CountedAt records s lo mid left
       left_there =
-          let (p₁, (p₂, p₃)) = sources-in c own st (columns-node t.at) in
-          a-join (λ p. Narrow p → Asked t.at.schema p w → CountedAt records s lo mid left)
+          let (p₁, (p₂, p₃)) = sources_in c own st (columns_node t.at) in
+          a_join (λ p. Narrow p → Asked t.at.schema p w → CountedAt records s lo mid left)
           (λ og outer j a b u v x k e. record {
             at = record { schema = t.at.schema; tables = t.at.tables; p = a; here = v; narrow = k.0; short = omega (arith, t.at.short) };
             count = λ h. f t.at.schema og outer j a b t.at.tables u (e refl);
@@ -290,47 +290,47 @@ module _ {s : List ℕ} {lo hi m mid : ℕ} (c : SourceCount s lo hi 2) (own : O
 
       right_there : CountedAt records s mid m (w - left)
       right_there =
-          let (p₁, (p₂, p₃)) = sources-in c own st (columns-node t.at) in
-          a-join (λ p. Narrow p → Asked t.at.schema p w → CountedAt records s mid m (w - left))
+          let (p₁, (p₂, p₃)) = sources_in c own st (columns_node t.at) in
+          a_join (λ p. Narrow p → Asked t.at.schema p w → CountedAt records s mid m (w - left))
           (λ og outer j a b u v x k e. record {
             at = record { schema = t.at.schema; tables = t.at.tables; p = b; here = x; narrow = k.1; short = omega (arith, t.at.short) };
             count = λ h. omega (arith, e refl, f t.at.schema og outer j a b t.at.tables u (e refl));
           })
           t.at.p t.at.here t.at.narrow t.count
 
-      pub moves-left : (i : ℕ) → i < left → Moves records s lo hi i w (record { lo = lo; hi = mid; column = i; columns = left })
-      moves-left i h =
-          let (p₁, (p₂, p₃)) = sources-in c own st (columns-node t.at) in
+      pub moves_left : (i : ℕ) → i < left → Moves records s lo hi i w (record { lo = lo; hi = mid; column = i; columns = left })
+      moves_left i h =
+          let (p₁, (p₂, p₃)) = sources_in c own st (columns_node t.at) in
           record {
             there = left_there;
             shorter = omega arith;
-            reaches = λ schema p k u e. a-join (λ p. Asked schema p w → Reached schema s p i lo mid i left)
+            reaches = λ schema p k u e. a_join (λ p. Asked schema p w → Reached schema s p i lo mid i left)
                 (λ og outer j a b u v x e.
                 let q = f schema og outer j a b k u (e refl) in
                 record {
                   q = a;
                   here = v;
                   count = λ h. q;
-                  same = chosen (ltb i (columns schema a)) (column-label schema a i) (column-label schema b (i - columns schema a)) (lt-ltb i (columns schema a) (omega arith));
+                  same = chosen (ltb i (columns schema a)) (column_label schema a i) (column_label schema b (i - columns schema a)) (lt-ltb i (columns schema a) (omega arith));
                 })
                 p u e;
           }
 
-      pub moves-right : (i : ℕ) → left ≤ i → Moves records s lo hi i w (record { lo = mid; hi = m; column = i - left; columns = w - left })
-      moves-right i h =
-          let (p₁, (p₂, p₃)) = sources-in c own st (columns-node t.at) in
+      pub moves_right : (i : ℕ) → left ≤ i → Moves records s lo hi i w (record { lo = mid; hi = m; column = i - left; columns = w - left })
+      moves_right i h =
+          let (p₁, (p₂, p₃)) = sources_in c own st (columns_node t.at) in
           record {
             there = right_there;
             shorter = omega arith;
-            reaches = λ schema p k u e. a-join (λ p. Asked schema p w → Reached schema s p i mid m (i - left) (w - left))
+            reaches = λ schema p k u e. a_join (λ p. Asked schema p w → Reached schema s p i mid m (i - left) (w - left))
                 (λ og outer j a b u v x e.
                 let q = f schema og outer j a b k u (e refl) in
                 record {
                   q = b;
                   here = x;
                   count = λ h. omega (arith, e refl);
-                  same = ap (λ (n : ℕ). column-label schema b (i - n)) q
-                      ∙ passed (ltb i (columns schema a)) (column-label schema a i) (column-label schema b (i - columns schema a)) (le-ltb i (columns schema a) (omega arith));
+                  same = ap (λ (n : ℕ). column_label schema b (i - n)) q
+                      ∙ passed (ltb i (columns schema a)) (column_label schema a i) (column_label schema b (i - columns schema a)) (le-ltb i (columns schema a) (omega arith));
                 })
                 p u e;
           }
@@ -343,24 +343,24 @@ pub record Way (records s : List ℕ) (lo hi i lo' hi' c w : ℕ) : Type 0 where
   pub reaches : (schema : Schema) (p : Node) → Tables records schema → NodeHere s lo hi p → Reached schema s p i lo' hi' c w
 
 module _ {records s : List ℕ} {lo hi i : ℕ} where
-  pub way-first : (t : ColumnsAt records s lo hi) {w : ℕ} → ColumnCount records s lo hi w → Way records s lo hi i lo hi i w
-  way-first t f =
+  pub way_first : (t : ColumnsAt records s lo hi) {w : ℕ} → ColumnCount records s lo hi w → Way records s lo hi i lo hi i w
+  way_first t f =
       record {
         there = record { at = t; count = λ h. f t.schema t.p t.tables t.here };
         reaches = λ schema p k u. record { q = p; here = u; count = λ h. f schema p k u; same = refl };
       }
 
   module _ {lo' hi' c w : ℕ} (a : Way records s lo hi i lo' hi' c w) {r : Next} (f : Steps records s lo' hi' c w r) where
-    pub way-done : (o : Traced) → r ≡ Done o → Traces records s lo hi i o
-    way-done o e schema p k u =
+    pub way_done : (o : Traced) → r ≡ Done o → Traces records s lo hi i o
+    way_done o e schema p k u =
         let x = a.reaches schema p k u in
         subst (λ (r : Next). Steps records s lo' hi' c w r) e f schema x.q k x.here ∙ x.same
 
-    pub way-shorter : (x : Spot) → r ≡ More x → x.hi - x.lo < hi' - lo'
-    way-shorter x e = (subst (λ (r : Next). Steps records s lo' hi' c w r) e f).shorter
+    pub way_shorter : (x : Spot) → r ≡ More x → x.hi - x.lo < hi' - lo'
+    way_shorter x e = (subst (λ (r : Next). Steps records s lo' hi' c w r) e f).shorter
 
-    pub way-more : (x : Spot) → r ≡ More x → Way records s lo hi i x.lo x.hi x.column x.columns
-    way-more x e =
+    pub way_more : (x : Spot) → r ≡ More x → Way records s lo hi i x.lo x.hi x.column x.columns
+    way_more x e =
         let g : Moves records s lo' hi' c w x = subst (λ (r : Next). Steps records s lo' hi' c w r) e f in
         record {
           there = g.there;
@@ -372,8 +372,8 @@ module _ {records s : List ℕ} {lo hi i : ℕ} where
 
 -- ---- the code's tests
 
-pub says_here : {t u : ℕ} → t ≡ u → says-columns t ≡ true → (u ≡ 50) ⊎ (60 ≤ u)
-says_here {u = u} e h = says-true u (ap says-columns (sym e) ∙ h)
+pub says_here : {t u : ℕ} → t ≡ u → says_columns t ≡ true → (u ≡ 50) ⊎ (60 ≤ u)
+says_here {u = u} e h = says_true u (ap says_columns (sym e) ∙ h)
 
-pub says-false-here : {t u : ℕ} → t ≡ u → says-columns t ≡ false → (u ≡ 50 → ⊥) × (u < 60)
-says-false-here {u = u} e h = says-false u (ap says-columns (sym e) ∙ h)
+pub says_false_here : {t u : ℕ} → t ≡ u → says_columns t ≡ false → (u ≡ 50 → ⊥) × (u < 60)
+says_false_here {u = u} e h = says_false u (ap says_columns (sym e) ∙ h)

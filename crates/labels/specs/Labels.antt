@@ -3,11 +3,11 @@ use Rattle.std.specs.Prelude.{ℕ, ◌+◌, ◌-◌, ◌<◌, Bool, true, false,
 use Rattle.std.proofs.Math.Option.{Option, none, some}
 use Rattle.sql.specs.Schema.{Schema}
 use Rattle.sql.specs.Expression.{Expression}
-use Rattle.sql.specs.Plan.{unlabelled, unqualified, qualified, Other, other, Join, Leaf, Node, leaf, over, join, routed, item-label, group-label, items-label, remap-source, optional-label, other-label, table-label, leaf-label, column-label, columns}
+use Rattle.sql.specs.Plan.{unlabelled, unqualified, qualified, Other, other, Join, Leaf, Node, leaf, over, join, routed, item_label, group_label, items_label, remap_source, optional_label, other_label, table_label, leaf_label, column_label, columns}
 use Rattle.sql.specs.Plan as plan
 use Rattle.sheet.specs.Content.{label_of}
 use Rattle.cells.specs.Cells.{Part}
-use Rattle.words.specs.Words.{all_words, expression-words, item-words, label-words, target-words}
+use Rattle.words.specs.Words.{all_words, expression_words, item_words, label_words, target_words}
 use Rattle.words.specs.Place.{NodeHere}
 use Rattle.nodes.specs.Columns.{ColumnsAt, through}
 use Rattle.records.specs.Records.{Tables}
@@ -29,19 +29,19 @@ label Unlabelled = unlabelled
 label (Unqualified n) = unqualified n
 label (Qualified q n) = qualified q n
 
-abbrev pub alias-if : Bool → ℕ → Option ℕ
-alias-if true r = some r
-alias-if false r = none
+abbrev pub alias_if : Bool → ℕ → Option ℕ
+alias_if true r = some r
+alias_if false r = none
 
 -- a label by what it comes from
 abbrev pub named : Schema → Traced → plan.Label
 named schema (Said l) = label l
-named schema (Column t aliased alias i) = table-label schema t (alias-if aliased alias) i
+named schema (Column t aliased alias i) = table_label schema t (alias_if aliased alias) i
 
 -- a label by its route, where the source's columns have the labels `source`
-abbrev pub routed-by : (ℕ → plan.Label) → Route → plan.Label
-routed-by source (To i) = source i
-routed-by source (Ends l) = label l
+abbrev pub routed_by : (ℕ → plan.Label) → Route → plan.Label
+routed_by source (To i) = source i
+routed_by source (Ends l) = label l
 
 -- ---- contracts
 
@@ -51,44 +51,44 @@ Labelled flag a b r = label r ≡ label_of (record { tag = 0; flag = flag; origi
 pub record ExpressionEnds (s : List ℕ) (hi : ℕ) : Type 0 where
   pub lo : ℕ
   pub e : Expression
-  pub part : Part s lo hi (expression-words e)
+  pub part : Part s lo hi (expression_words e)
 
 abbrev pub ExpressionRoute : List ℕ → ℕ → Route → Type 0
-ExpressionRoute s hi r = (source : ℕ → plan.Label) (lo : ℕ) (e : Expression) → Part s lo hi (expression-words e) → routed-by source r ≡ routed source e
+ExpressionRoute s hi r = (source : ℕ → plan.Label) (lo : ℕ) (e : Expression) → Part s lo hi (expression_words e) → routed_by source r ≡ routed source e
 
 pub record ItemEnds (s : List ℕ) (hi : ℕ) : Type 0 where
   pub lo : ℕ
   pub item : Expression × plan.Label × ℕ
-  pub part : Part s lo hi (item-words item)
+  pub part : Part s lo hi (item_words item)
 
 abbrev pub ItemRoute : List ℕ → ℕ → Route → Type 0
-ItemRoute s hi r = (source : ℕ → plan.Label) (lo : ℕ) (item : Expression × plan.Label × ℕ) → Part s lo hi (item-words item) → routed-by source r ≡ item-label source item
+ItemRoute s hi r = (source : ℕ → plan.Label) (lo : ℕ) (item : Expression × plan.Label × ℕ) → Part s lo hi (item_words item) → routed_by source r ≡ item_label source item
 
 pub record TargetsUp (s : List ℕ) (lo hi : ℕ) : Type 0 where
   pub targets : List (Option ℕ × ℕ)
-  pub part : Part s lo hi (all_words target-words targets)
+  pub part : Part s lo hi (all_words target_words targets)
 
 abbrev pub RemapRoute : List ℕ → ℕ → ℕ → ℕ → Route → Type 0
 RemapRoute s lo hi i r =
-    (source : ℕ → plan.Label) (targets : List (Option ℕ × ℕ)) → Part s lo hi (all_words target-words targets)
-    → routed-by source r ≡ optional-label source (remap-source 0 targets i)
+    (source : ℕ → plan.Label) (targets : List (Option ℕ × ℕ)) → Part s lo hi (all_words target_words targets)
+    → routed_by source r ≡ optional_label source (remap_source 0 targets i)
 
 -- r is the route of column i of the node there, if that is over a source and no Filter.
 abbrev pub Routes : List ℕ → ℕ → ℕ → ℕ → Route → Type 0
 Routes s lo hi i r =
-    (source : ℕ → plan.Label) (og : ℕ) (o : Other) (n : Node) → NodeHere s lo hi (over og (other o) n) → routed-by source r ≡ other-label o source i
+    (source : ℕ → plan.Label) (og : ℕ) (o : Other) (n : Node) → NodeHere s lo hi (over og (other o) n) → routed_by source r ≡ other_label o source i
 
 -- whether a cell of a Scan (bit 1 of its flag) or of a lookup says an alias
-abbrev pub is-aliased : (tag flag : ℕ) → Bool
-is-aliased tag flag = cond (eqb tag Tags.scan) (leb 2 flag) (leb 1 flag)
+abbrev pub is_aliased : (tag flag : ℕ) → Bool
+is_aliased tag flag = cond (eqb tag Tags.scan) (leb 2 flag) (leb 1 flag)
 
 -- Aggregate, Projection and Remap, among the nodes with one source
-abbrev pub says-columns : ℕ → Bool
-says-columns tag = eqb tag Tags.aggregate || leb Tags.projection tag
+abbrev pub says_columns : ℕ → Bool
+says_columns tag = eqb tag Tags.aggregate || leb Tags.projection tag
 
 -- r is what column i's label of the node there comes from, if that has no source.
 abbrev pub LeafTraced : List ℕ → ℕ → ℕ → ℕ → Traced → Type 0
-LeafTraced s lo hi i r = (schema : Schema) (og : ℕ) (l : Leaf) → NodeHere s lo hi (leaf og l) → named schema r ≡ leaf-label schema l i
+LeafTraced s lo hi i r = (schema : Schema) (og : ℕ) (l : Leaf) → NodeHere s lo hi (leaf og l) → named schema r ≡ leaf_label schema l i
 
 -- p has w columns, where that is asked for: if its columns are those of its sources.
 abbrev pub Asked : Schema → Node → ℕ → Type 0
@@ -111,14 +111,14 @@ LeftColumns records s lo hi w r =
 
 -- r is what the label of column i of the node there comes from.
 abbrev pub Traces : List ℕ → List ℕ → ℕ → ℕ → ℕ → Traced → Type 0
-Traces records s lo hi i r = (schema : Schema) (p : Node) → Tables records schema → NodeHere s lo hi p → named schema r ≡ column-label schema p i
+Traces records s lo hi i r = (schema : Schema) (p : Node) → Tables records schema → NodeHere s lo hi p → named schema r ≡ column_label schema p i
 
 -- Column i of p has the label of column c of the node from lo to hi, which has w columns, where that is asked for.
 pub record Reached (schema : Schema) (s : List ℕ) (p : Node) (i lo hi c w : ℕ) : Type 0 where
   pub q : Node
   pub here : NodeHere s lo hi q
   pub count : Asked schema q w
-  pub same : column-label schema q c ≡ column-label schema p i
+  pub same : column_label schema q c ≡ column_label schema p i
 
 -- A step to another column, of a shorter node.
 pub record Moves (records s : List ℕ) (lo hi i w : ℕ) (x : Spot) : Type 0 where

@@ -1,13 +1,13 @@
 // plan.rs, column_label: the label of a column of a node in its working form, traced through the plan.
 ghost use Rattle.std.specs.Prelude.{◌⊎◌, ◌&&◌, ◌≡◌, ◌≤◌, eqb};
 ghost use Rattle.sql.specs.Plan;
-ghost use Rattle.cells.specs.Cells.{tag_at, start-at};
+ghost use Rattle.cells.specs.Cells.{tag_at, start_at};
 ghost use Rattle.words.specs.Place.{NodeAt};
 ghost use Rattle.nodes.specs.Own.{OwnStart, SourceCount};
 ghost use Rattle.nodes.specs.Columns.{ColumnsAt, ColumnCount};
-ghost use Rattle.labels.specs.Names.{ColumnName, TableLabel, qualifier-text, ColumnLabel};
+ghost use Rattle.labels.specs.Names.{ColumnName, TableLabel, qualifier_text, ColumnLabel};
 ghost use Rattle.records.specs.Records.{RecordsAt};
-ghost use Rattle.labels.specs.Labels.{Labelled, ExpressionRoute, ExpressionEnds, ItemRoute, ItemEnds, RemapRoute, TargetsUp, Routes, alias-if, is-aliased, says-columns, LeafTraced, AskedCount, CountedAt, LeftColumns, Steps, Traces};
+ghost use Rattle.labels.specs.Labels.{Labelled, ExpressionRoute, ExpressionEnds, ItemRoute, ItemEnds, RemapRoute, TargetsUp, Routes, alias_if, is_aliased, says_columns, LeafTraced, AskedCount, CountedAt, LeftColumns, Steps, Traces};
 
 // The label of a column: none, a name, or a name behind its qualifier, a table's name or alias; all are text references.
 #[derive(Drop)]
@@ -164,7 +164,7 @@ fn own_route(s: &[u32], lo: usize, hi: usize, m: usize, i: usize) -> Route
 
 // Whether the cell of a Scan or a lookup says an alias.
 fn aliased(tag: u32, flag: u32) -> bool
-    ensures { result ≡ is-aliased tag flag }
+    ensures { result ≡ is_aliased tag flag }
 {
     if tag == tags::SCAN {
         return 2 <= flag;
@@ -194,7 +194,7 @@ fn leaf_traced(s: &[u32], lo: usize, hi: usize, i: usize) -> Traced
 
 // Whether a node with this tag says its columns itself: an Aggregate, a Projection, a Remap, a Scan or a Values. A leaf of another tag isn't asked.
 pub fn says_columns(tag: u32) -> bool
-    ensures { result ≡ says-columns tag }
+    ensures { result ≡ says_columns tag }
 {
     if tag == tags::AGGREGATE {
         return true;
@@ -261,7 +261,7 @@ fn left_columns(
     requires counted_at { CountedAt tables.now s.now lo hi w }
     requires source_count { SourceCount s.now lo hi 2 }
     requires own_start { OwnStart s.now lo hi m }
-    requires mid_value { mid ≡ start-at s.now m }
+    requires mid_value { mid ≡ start_at s.now m }
     ensures { LeftColumns tables.now s.now lo hi w result }
 {
     if mid - lo <= m - mid {
@@ -352,7 +352,7 @@ fn column_name(t: usize, i: usize, tables: &[u8], columns: &[u8]) -> u32
 
 // The alias if there is one, also an empty one, otherwise the table's name; both are text references.
 pub fn qualifier(aliased: bool, alias: u32, name: u32) -> u32
-    ensures { result ≡ Plan.qualifier (alias-if aliased alias) name }
+    ensures { result ≡ Plan.qualifier (alias_if aliased alias) name }
 {
     if aliased {
         return alias;
@@ -362,7 +362,7 @@ pub fn qualifier(aliased: bool, alias: u32, name: u32) -> u32
 
 // The same of the two texts: both are lent, and the chosen one is handed back.
 pub fn qualifier_text<'a>(aliased: bool, alias: &'a [u8], name: &'a [u8]) -> &'a [u8]
-    ensures { result.now ≡ qualifier-text aliased alias.now name.now }
+    ensures { result.now ≡ qualifier_text aliased alias.now name.now }
 {
     if aliased {
         return alias;

@@ -9,13 +9,13 @@ use lib.Dec.{leb, ltb, eqb}
 use lib.ListN.{length}
 use borrow.Author.Tests.{lt-ltb, le-ltb, le-leb, lt-leb, eq-eqb, ne_eqb, leb-true, ltb-true, eqb-true}
 use Rattle.sheet.specs.Bytes.{byte, half, word}
-use Rattle.sheet.specs.Parts.{length-ok, parts-ok, records-ok, tables-at, columns-at, cells_at, table-count, column-count, cell-count, said-length, inside, columns-before, table-ok, column-ok, record-ok, first-failing, bad-record}
+use Rattle.sheet.specs.Parts.{length_ok, parts_ok, records_ok, tables_at, columns_at, cells_at, table_count, column_count, cell_count, said_length, inside, columns_before, table_ok, column_ok, record_ok, first_failing, bad_record}
 use Rattle.sheet.specs.Cell as Sheet
 use Rattle.layout.specs.declared.Cell.{Cell}
 use Rattle.layout.specs.declared.Column.{Column}
 use Rattle.layout.specs.declared.Parts.{Parts}
 use Rattle.layout.specs.declared.Table.{Table}
-use Rattle.layout.specs.Layout.{Number, Whole, Laid, IsTable, IsColumn, IsCell, parts-of, table-from, table_at, column-from, column-at, column-fields-ok, bad-column}
+use Rattle.layout.specs.Layout.{Number, Whole, Laid, IsTable, IsColumn, IsCell, parts_of, table_from, table_at, column_from, column_at, column_fields_ok, bad_column}
 
 -- ---- a conjunction of tests
 
@@ -53,14 +53,14 @@ pub half_is : (s : List ℕ) (i : ℕ) {x y : ℕ} → (x ≡ byte s i) × (x < 
 unfolding half
 half_is s i p q = record { is = let p0 = p.0 in let q0 = q.0 in cc; small = let p1 = p.1 in let q1 = q.1 in omega arith }
 
-pub word-is : (s : List ℕ) (i : ℕ) {x y z w : ℕ}
+pub word_is : (s : List ℕ) (i : ℕ) {x y z w : ℕ}
     → (x ≡ byte s i) × (x < 256)
     → (y ≡ byte s (i + 1)) × (y < 256)
     → (z ≡ byte s (i + 2)) × (z < 256)
     → (w ≡ byte s (i + 3)) × (w < 256)
     → Number 4294967296 (word s i) (x + 256 * y + 65536 * z + 16777216 * w)
 unfolding word
-word-is s i p q r t = record { is = cc (p.0, q.0, r.0, t.0); small = omega (arith, p.1, q.1, r.1, t.1) }
+word_is s i p q r t = record { is = cc (p.0, q.0, r.0, t.0); small = omega (arith, p.1, q.1, r.1, t.1) }
 
 -- ---- the length and the parts
 
@@ -68,11 +68,11 @@ word-is s i p q r t = record { is = cc (p.0, q.0, r.0, t.0); small = omega (arit
 pub record Length (s : List ℕ) : Type 0 where
   pub least : 20 ≤ length s
   pub most : length s ≤ 45332
-  pub said : said-length s ≡ length s
+  pub said : said_length s ≡ length s
 
-pub length-known : (s : List ℕ) → length-ok s ≡ true → Length s
-unfolding length-ok
-length-known s e =
+pub length_known : (s : List ℕ) → length_ok s ≡ true → Length s
+unfolding length_ok
+length_known s e =
     let f = and_right (leb 20 (length s)) _ e in
     record {
       least = leb-true _ _ (and_left (leb 20 (length s)) _ e);
@@ -81,17 +81,17 @@ length-known s e =
     }
 
 module _ (s : List ℕ) where
-  pub too_short : length s < 20 → false ≡ length-ok s
-  unfolding length-ok
+  pub too_short : length s < 20 → false ≡ length_ok s
+  unfolding length_ok
   too_short h = fails _ (lt-leb _ _ h)
 
-  pub too_long : 20 ≤ length s → 45332 < length s → false ≡ length-ok s
-  unfolding length-ok
+  pub too_long : 20 ≤ length s → 45332 < length s → false ≡ length_ok s
+  unfolding length_ok
   too_long h k = goes_on _ (le-leb _ _ h) (fails _ (lt-leb _ _ k))
 
-  pub length-is-said : {r : ℕ} → 20 ≤ length s → length s ≤ 45332 → r ≡ said-length s → eqb r (length s) ≡ length-ok s
-  unfolding length-ok
-  length-is-said h k e = goes_on _ (le-leb _ _ h) (goes_on _ (le-leb _ _ k) (ap (λ (n : ℕ). eqb n (length s)) e))
+  pub length_is_said : {r : ℕ} → 20 ≤ length s → length s ≤ 45332 → r ≡ said_length s → eqb r (length s) ≡ length_ok s
+  unfolding length_ok
+  length_is_said h k e = goes_on _ (le-leb _ _ h) (goes_on _ (le-leb _ _ k) (ap (λ (n : ℕ). eqb n (length s)) e))
 
 -- What the test of a part says: it is a whole number of records.
 pub record Records (from upto few many : ℕ) : Type 0 where
@@ -100,8 +100,8 @@ pub record Records (from upto few many : ℕ) : Type 0 where
   pub least : few ≤ (upto - from) / 16
   pub most : (upto - from) / 16 ≤ many
 
-pub records-known : (from upto few many : ℕ) → records-ok from upto few many ≡ true → Records from upto few many
-records-known from upto few many e =
+pub records_known : (from upto few many : ℕ) → records_ok from upto few many ≡ true → Records from upto few many
+records_known from upto few many e =
     let n = upto - from in
     let f = and_right (leb from upto) _ e in
     let g = and_right (eqb (n % 16) 0) _ f in
@@ -112,132 +112,132 @@ records-known from upto few many e =
     record { order = order; fills = omega arith; least = omega arith; most = omega arith }
 
 module _ (from upto few many : ℕ) where
-  pub out_of_order : upto < from → false ≡ records-ok from upto few many
+  pub out_of_order : upto < from → false ≡ records_ok from upto few many
   out_of_order h = fails _ (lt-leb _ _ h)
 
   module _ (h : from ≤ upto) where
-    pub broken : ((upto - from) % 16 ≡ 0 → ⊥) → false ≡ records-ok from upto few many
+    pub broken : ((upto - from) % 16 ≡ 0 → ⊥) → false ≡ records_ok from upto few many
     broken k = goes_on _ (le-leb _ _ h) (fails _ (ne_eqb _ _ k))
 
     module _ (k : (upto - from) % 16 ≡ 0) where
-      pub too_few : upto - from < few * 16 → false ≡ records-ok from upto few many
+      pub too_few : upto - from < few * 16 → false ≡ records_ok from upto few many
       too_few l = goes_on _ (le-leb _ _ h) (goes_on _ (eq-eqb _ _ k) (fails _ (lt-leb _ _ l)))
 
-      pub not-too-many : few * 16 ≤ upto - from → leb (upto - from) (many * 16) ≡ records-ok from upto few many
-      not-too-many l = goes_on _ (le-leb _ _ h) (goes_on _ (eq-eqb _ _ k) (goes_on _ (le-leb _ _ l) refl))
+      pub not_too_many : few * 16 ≤ upto - from → leb (upto - from) (many * 16) ≡ records_ok from upto few many
+      not_too_many l = goes_on _ (le-leb _ _ h) (goes_on _ (eq-eqb _ _ k) (goes_on _ (le-leb _ _ l) refl))
 
 -- The answers of `parts_ok`, from the three words that it read.
-module _ (s : List ℕ) {x y z : ℕ} (tables : x ≡ tables-at s) (columns : y ≡ columns-at s) (cells : z ≡ cells_at s) where
-  pub text-too-long : 8192 < x → false ≡ parts-ok s
-  unfolding parts-ok
-  text-too-long h = fails _ (lt-leb _ _ (subst (λ (n : ℕ). 8192 < n) tables h))
+module _ (s : List ℕ) {x y z : ℕ} (tables : x ≡ tables_at s) (columns : y ≡ columns_at s) (cells : z ≡ cells_at s) where
+  pub text_too_long : 8192 < x → false ≡ parts_ok s
+  unfolding parts_ok
+  text_too_long h = fails _ (lt-leb _ _ (subst (λ (n : ℕ). 8192 < n) tables h))
 
   module _ (h : x ≤ 8192) where
-    first : leb (tables-at s) 8192 ≡ true
+    first : leb (tables_at s) 8192 ≡ true
     first = le-leb _ _ (subst (λ (n : ℕ). n ≤ 8192) tables h)
 
-    tables-test : {b r : Bool} → r ≡ records-ok x y 0 16 → r ≡ b → records-ok (tables-at s) (columns-at s) 0 16 ≡ b
-    tables-test e f = sym (e ∙ cc) ∙ f
+    tables_test : {b r : Bool} → r ≡ records_ok x y 0 16 → r ≡ b → records_ok (tables_at s) (columns_at s) 0 16 ≡ b
+    tables_test e f = sym (e ∙ cc) ∙ f
 
-    columns-test : {b r : Bool} → r ≡ records-ok y z 0 256 → r ≡ b → records-ok (columns-at s) (cells_at s) 0 256 ≡ b
-    columns-test e f = sym (e ∙ cc) ∙ f
+    columns_test : {b r : Bool} → r ≡ records_ok y z 0 256 → r ≡ b → records_ok (columns_at s) (cells_at s) 0 256 ≡ b
+    columns_test e f = sym (e ∙ cc) ∙ f
 
-    pub tables-fail : {r : Bool} → r ≡ records-ok x y 0 16 → r ≡ false → false ≡ parts-ok s
-    unfolding parts-ok
-    tables-fail e f = goes_on _ first (fails _ (tables-test e f))
+    pub tables_fail : {r : Bool} → r ≡ records_ok x y 0 16 → r ≡ false → false ≡ parts_ok s
+    unfolding parts_ok
+    tables_fail e f = goes_on _ first (fails _ (tables_test e f))
 
-    module _ {r : Bool} (e : r ≡ records-ok x y 0 16) (f : r ≡ true) where
-      pub columns-fail : {q : Bool} → q ≡ records-ok y z 0 256 → q ≡ false → false ≡ parts-ok s
-      unfolding parts-ok
-      columns-fail g j = goes_on _ first (goes_on _ (tables-test e f) (fails _ (columns-test g j)))
+    module _ {r : Bool} (e : r ≡ records_ok x y 0 16) (f : r ≡ true) where
+      pub columns_fail : {q : Bool} → q ≡ records_ok y z 0 256 → q ≡ false → false ≡ parts_ok s
+      unfolding parts_ok
+      columns_fail g j = goes_on _ first (goes_on _ (tables_test e f) (fails _ (columns_test g j)))
 
-      pub cells_left : {q p : Bool} → q ≡ records-ok y z 0 256 → q ≡ true → p ≡ records-ok z (length s - 20) 1 2048 → p ≡ parts-ok s
-      unfolding parts-ok
+      pub cells_left : {q p : Bool} → q ≡ records_ok y z 0 256 → q ≡ true → p ≡ records_ok z (length s - 20) 1 2048 → p ≡ parts_ok s
+      unfolding parts_ok
       cells_left g j k =
-          goes_on _ first (goes_on _ (tables-test e f) (goes_on _ (columns-test g j) (k ∙ ap (λ (n : ℕ). records-ok n (length s - 20) 1 2048) cells)))
+          goes_on _ first (goes_on _ (tables_test e f) (goes_on _ (columns_test g j) (k ∙ ap (λ (n : ℕ). records_ok n (length s - 20) 1 2048) cells)))
 
 module _ {s : List ℕ} (g : Whole s) where
   pub whole_length : Length s
-  whole_length = length-known s g.length-is
+  whole_length = length_known s g.length_is
 
-  pub text-within : tables-at s ≤ 8192
-  unfolding parts-ok
-  text-within = leb-true _ _ (and_left (leb (tables-at s) 8192) _ g.parts_are)
+  pub text_within : tables_at s ≤ 8192
+  unfolding parts_ok
+  text_within = leb-true _ _ (and_left (leb (tables_at s) 8192) _ g.parts_are)
 
-  records-are : (records-ok (tables-at s) (columns-at s) 0 16 && (records-ok (columns-at s) (cells_at s) 0 256 && records-ok (cells_at s) (length s - 20) 1 2048)) ≡ true
-  unfolding parts-ok
-  records-are = and_right (leb (tables-at s) 8192) _ g.parts_are
+  records_are : (records_ok (tables_at s) (columns_at s) 0 16 && (records_ok (columns_at s) (cells_at s) 0 256 && records_ok (cells_at s) (length s - 20) 1 2048)) ≡ true
+  unfolding parts_ok
+  records_are = and_right (leb (tables_at s) 8192) _ g.parts_are
 
-  pub tables-known : Records (tables-at s) (columns-at s) 0 16
-  tables-known = records-known _ _ _ _ (and_left (records-ok (tables-at s) (columns-at s) 0 16) _ records-are)
+  pub tables_known : Records (tables_at s) (columns_at s) 0 16
+  tables_known = records_known _ _ _ _ (and_left (records_ok (tables_at s) (columns_at s) 0 16) _ records_are)
 
-  rest-are : (records-ok (columns-at s) (cells_at s) 0 256 && records-ok (cells_at s) (length s - 20) 1 2048) ≡ true
-  rest-are = and_right (records-ok (tables-at s) (columns-at s) 0 16) _ records-are
+  rest_are : (records_ok (columns_at s) (cells_at s) 0 256 && records_ok (cells_at s) (length s - 20) 1 2048) ≡ true
+  rest_are = and_right (records_ok (tables_at s) (columns_at s) 0 16) _ records_are
 
-  pub columns-known : Records (columns-at s) (cells_at s) 0 256
-  columns-known = records-known _ _ _ _ (and_left (records-ok (columns-at s) (cells_at s) 0 256) _ rest-are)
+  pub columns_known : Records (columns_at s) (cells_at s) 0 256
+  columns_known = records_known _ _ _ _ (and_left (records_ok (columns_at s) (cells_at s) 0 256) _ rest_are)
 
-  pub cells-known : Records (cells_at s) (length s - 20) 1 2048
-  cells-known = records-known _ _ _ _ (and_right (records-ok (columns-at s) (cells_at s) 0 256) _ rest-are)
+  pub cells_known : Records (cells_at s) (length s - 20) 1 2048
+  cells_known = records_known _ _ _ _ (and_right (records_ok (columns_at s) (cells_at s) 0 256) _ rest_are)
 
-  pub laid : Laid s (parts-of s)
+  pub laid : Laid s (parts_of s)
   laid =
       record {
         is = refl;
-        text-few = text-within;
-        tables-few = tables-known.most;
-        columns-few = columns-known.most;
-        cells-few = cells-known.most;
-        cells-some = cells-known.least;
-        tables_end = tables-known.fills;
-        columns-end = columns-known.fills;
-        cells-end = let h = cells-known.fills in let l = whole_length.least in omega arith;
+        text_few = text_within;
+        tables_few = tables_known.most;
+        columns_few = columns_known.most;
+        cells_few = cells_known.most;
+        cells_some = cells_known.least;
+        tables_end = tables_known.fills;
+        columns_end = columns_known.fills;
+        cells_end = let h = cells_known.fills in let l = whole_length.least in omega arith;
       }
 
 -- The numbers that `parts_of` puts together, from the words that it read.
-pub laid-is : {s : List ℕ} {x y z : ℕ} → Whole s → x ≡ tables-at s → y ≡ columns-at s → z ≡ cells_at s
+pub laid_is : {s : List ℕ} {x y z : ℕ} → Whole s → x ≡ tables_at s → y ≡ columns_at s → z ≡ cells_at s
     → Laid s (record {
       tables = record { at = x; count = (y - x) / 16 };
       columns = record { at = y; count = (z - y) / 16 };
       cells = record { at = z; count = (length s - 20 - z) / 16 };
     })
-laid-is {s} g e f h = subst (λ (p : Parts). Laid s p) (cc) (laid g)
+laid_is {s} g e f h = subst (λ (p : Parts). Laid s p) (cc) (laid g)
 
 -- ---- records
 
-pub table-reads : (s : List ℕ) (i : ℕ) {x y z w : ℕ}
+pub table_reads : (s : List ℕ) (i : ℕ) {x y z w : ℕ}
     → Number 4294967296 (word s i) x
     → Number 4294967296 (word s (i + 4)) y
     → Number 4294967296 (word s (i + 8)) z
     → Number 4294967296 (word s (i + 12)) w
-    → IsTable (table-from s i) (record { name = x; first = y; count = z; key = w })
-table-reads s i x y z w =
-    record { is = cc (x.is, y.is, z.is, w.is); name-small = x.small; first_small = y.small; count_small = z.small; key-small = w.small }
+    → IsTable (table_from s i) (record { name = x; first = y; count = z; key = w })
+table_reads s i x y z w =
+    record { is = cc (x.is, y.is, z.is, w.is); name_small = x.small; first_small = y.small; count_small = z.small; key_small = w.small }
 
-pub column-reads : (s : List ℕ) (i : ℕ) {x y z : ℕ}
+pub column_reads : (s : List ℕ) (i : ℕ) {x y z : ℕ}
     → Number 4294967296 (word s i) x
     → Number 256 (byte s (i + 4)) y
     → Number 256 (byte s (i + 5)) z
-    → IsColumn (column-from s i) (record { name = x; kind = y; index = z })
-column-reads s i x y z = record { is = cc (x.is, y.is, z.is); name-small = x.small; kind-small = y.small; index-small = z.small }
+    → IsColumn (column_from s i) (record { name = x; kind = y; index = z })
+column_reads s i x y z = record { is = cc (x.is, y.is, z.is); name_small = x.small; kind_small = y.small; index_small = z.small }
 
 -- A column's kind, index mark and two zeros are tested as one word.
 module _ (s : List ℕ) (i : ℕ) where
-  marks-are : word s (i + 4) ≡ byte s (i + 4) + 256 * byte s (i + 5) + 65536 * half s (i + 6)
+  marks_are : word s (i + 4) ≡ byte s (i + 4) + 256 * byte s (i + 5) + 65536 * half s (i + 6)
   unfolding word half
-  marks-are =
+  marks_are =
       let e : i + 4 + 1 ≡ i + 5 = omega arith in
       let f : i + 4 + 2 ≡ i + 6 = omega arith in
       let g : i + 4 + 3 ≡ i + 6 + 1 = omega arith in
       omega (arith, ap (byte s) e, ap (byte s) f, ap (byte s) g)
 
-  marks-tested : byte s (i + 4) < 256 → byte s (i + 5) < 256
+  marks_tested : byte s (i + 4) < 256 → byte s (i + 5) < 256
       → (ltb (word s (i + 4)) 512 && ltb (word s (i + 4) % 256) 4) ≡ (ltb (byte s (i + 4)) 4 && (ltb (byte s (i + 5)) 2 && eqb (half s (i + 6)) 0))
-  marks-tested hk hx =
+  marks_tested hk hx =
       let m = word s (i + 4) in
       let k = byte s (i + 4) in
       let x = byte s (i + 5) in
-      let are = marks-are in
+      let are = marks_are in
       same _ _
       (λ e.
       let p = ltb-true m 512 (and_left (ltb m 512) _ e) in
@@ -250,7 +250,7 @@ module _ (s : List ℕ) (i : ℕ) where
       let r = eqb-true (half s (i + 6)) 0 (and_right (ltb x 2) _ f) in
       both_hold (lt-ltb m 512 (omega arith)) (lt-ltb (m % 256) 4 (omega arith)))
 
-  pub fields-tested : (text : ℕ) {x m y z : ℕ} {a b c d e : Bool}
+  pub fields_tested : (text : ℕ) {x m y z : ℕ} {a b c d e : Bool}
       → byte s (i + 4) < 256
       → byte s (i + 5) < 256
       → m ≡ word s (i + 4)
@@ -262,102 +262,102 @@ module _ (s : List ℕ) (i : ℕ) where
       → c ≡ inside text x
       → d ≡ (a && b)
       → e ≡ (c && d)
-      → e ≡ column-fields-ok s i text
-  fields-tested text {x} {m} {y} {z} {a} {b} {c} {d} {e} hk hx em ea ey ez eb ex ec ed ee =
+      → e ≡ column_fields_ok s i text
+  fields_tested text {x} {m} {y} {z} {a} {b} {c} {d} {e} hk hx em ea ey ez eb ex ec ed ee =
       let k = ltb (byte s (i + 4)) 4 in
       let j = ltb (byte s (i + 5)) 2 in
       let h = eqb (half s (i + 6)) 0 in
-      let f : a ≡ (k && (j && h)) = ea ∙ ap (λ (n : ℕ). ltb n 512 && ltb (n % 256) 4) em ∙ marks-tested hk hx in
+      let f : a ≡ (k && (j && h)) = ea ∙ ap (λ (n : ℕ). ltb n 512 && ltb (n % 256) 4) em ∙ marks_tested hk hx in
       let g : b ≡ (eqb (word s (i + 8)) 0 && eqb (word s (i + 12)) 0) = cc in
       let l : d ≡ (k && (j && (h && b))) = ed ∙ ap (λ (n : Bool). n && b) f ∙ and_assoc k (j && h) b ∙ ap (λ (n : Bool). k && n) (and_assoc j h b) in
       cc
 
 -- The tests of a table record, on the numbers that the code holds.
-abbrev table-tests : (text columns before : ℕ) → Table → Bool
-table-tests text columns before t =
+abbrev table_tests : (text columns before : ℕ) → Table → Bool
+table_tests text columns before t =
     inside text t.name
     && (eqb t.first before && (leb 1 t.count && (leb (t.first + t.count) columns && ltb t.key t.count)))
 
 module _ {s : List ℕ} {p : Parts} (g : Laid s p) where
-  pub text-is : p.tables.at ≡ tables-at s
-  text-is = ap (λ (q : Parts). q.tables.at) g.is
+  pub text_is : p.tables.at ≡ tables_at s
+  text_is = ap (λ (q : Parts). q.tables.at) g.is
 
-  pub tables-are : p.tables.count ≡ table-count s
-  tables-are = ap (λ (q : Parts). q.tables.count) g.is
+  pub tables_are : p.tables.count ≡ table_count s
+  tables_are = ap (λ (q : Parts). q.tables.count) g.is
 
-  pub columns-start : p.columns.at ≡ columns-at s
-  columns-start = ap (λ (q : Parts). q.columns.at) g.is
+  pub columns_start : p.columns.at ≡ columns_at s
+  columns_start = ap (λ (q : Parts). q.columns.at) g.is
 
-  pub columns-are : p.columns.count ≡ column-count s
-  columns-are = ap (λ (q : Parts). q.columns.count) g.is
+  pub columns_are : p.columns.count ≡ column_count s
+  columns_are = ap (λ (q : Parts). q.columns.count) g.is
 
-  pub cells-start : p.cells.at ≡ cells_at s
-  cells-start = ap (λ (q : Parts). q.cells.at) g.is
+  pub cells_start : p.cells.at ≡ cells_at s
+  cells_start = ap (λ (q : Parts). q.cells.at) g.is
 
-  pub cells_are : p.cells.count ≡ cell-count s
+  pub cells_are : p.cells.count ≡ cell_count s
   cells_are = ap (λ (q : Parts). q.cells.count) g.is
 
   -- Table i stands at i times 16 bytes behind the start of the tables.
-  pub table-there : {t : Table} (i : ℕ) → IsTable (table-from s (p.tables.at + i * 16)) t → IsTable (table_at s i) t
-  table-there {t} i h = subst (λ (n : ℕ). IsTable (table-from s (n + i * 16)) t) text-is h
+  pub table_there : {t : Table} (i : ℕ) → IsTable (table_from s (p.tables.at + i * 16)) t → IsTable (table_at s i) t
+  table_there {t} i h = subst (λ (n : ℕ). IsTable (table_from s (n + i * 16)) t) text_is h
 
-  pub columns-before-is : {t : Table} (i : ℕ) → (i ≡ 0 → ⊥) → IsTable (table-from s (p.tables.at + (i - 1) * 16)) t → t.first + t.count ≡ columns-before s i
-  columns-before-is zero z h = absurd (z refl)
-  columns-before-is {t} (suc i) z h =
+  pub columns_before_is : {t : Table} (i : ℕ) → (i ≡ 0 → ⊥) → IsTable (table_from s (p.tables.at + (i - 1) * 16)) t → t.first + t.count ≡ columns_before s i
+  columns_before_is zero z h = absurd (z refl)
+  columns_before_is {t} (suc i) z h =
       let e : suc i - 1 ≡ i = omega arith in
-      ap (λ (x : Table). x.first + x.count) (table-there i (subst (λ (n : ℕ). IsTable (table-from s (p.tables.at + n * 16)) t) e h)).is
+      ap (λ (x : Table). x.first + x.count) (table_there i (subst (λ (n : ℕ). IsTable (table_from s (p.tables.at + n * 16)) t) e h)).is
 
-  pub table-tested : {t : Table} (i : ℕ) → IsTable (table-from s (p.tables.at + i * 16)) t
+  pub table_tested : {t : Table} (i : ℕ) → IsTable (table_from s (p.tables.at + i * 16)) t
       → {before : ℕ} {a b c d e : Bool}
-      → before ≡ columns-before s i
+      → before ≡ columns_before s i
       → a ≡ (leb (t.first + t.count) p.columns.count && ltb t.key t.count)
       → b ≡ (leb 1 t.count && a)
       → c ≡ inside p.tables.at t.name
       → d ≡ (eqb t.first before && b)
       → e ≡ (c && d)
-      → e ≡ table-ok s i
-  unfolding table-ok
-  table-tested {t} i h {before} {a} {b} {c} {d} {e} f ea eb ec ed ee =
-      let k : e ≡ table-tests p.tables.at p.columns.count before t = cc in
-      let m : table-tests p.tables.at p.columns.count before t ≡ table-tests (tables-at s) (column-count s) (columns-before s i) (table_at s i) = cc (text-is, columns-are, (table-there i h).is) in
+      → e ≡ table_ok s i
+  unfolding table_ok
+  table_tested {t} i h {before} {a} {b} {c} {d} {e} f ea eb ec ed ee =
+      let k : e ≡ table_tests p.tables.at p.columns.count before t = cc in
+      let m : table_tests p.tables.at p.columns.count before t ≡ table_tests (tables_at s) (column_count s) (columns_before s i) (table_at s i) = cc (text_is, columns_are, (table_there i h).is) in
       k ∙ m
 
   -- Column i stands at i times 16 bytes behind the start of the columns.
-  pub column-there : {k : Column} (i : ℕ) → IsColumn (column-from s (p.columns.at + i * 16)) k → IsColumn (column-at s i) k
-  column-there {k} i h = subst (λ (n : ℕ). IsColumn (column-from s (n + i * 16)) k) columns-start h
+  pub column_there : {k : Column} (i : ℕ) → IsColumn (column_from s (p.columns.at + i * 16)) k → IsColumn (column_at s i) k
+  column_there {k} i h = subst (λ (n : ℕ). IsColumn (column_from s (n + i * 16)) k) columns_start h
 
   -- Its number tells its range.
-  pub column-out : (i : ℕ) {before : ℕ} → before ≡ columns-before s p.tables.count → before ≤ i → column-ok s i ≡ false
-  unfolding column-ok
-  column-out i e h = sym (fails _ (le-ltb i (columns-before s (table-count s)) (subst (λ (n : ℕ). n ≤ i) (e ∙ ap (columns-before s) tables-are) h)))
+  pub column_out : (i : ℕ) {before : ℕ} → before ≡ columns_before s p.tables.count → before ≤ i → column_ok s i ≡ false
+  unfolding column_ok
+  column_out i e h = sym (fails _ (le-ltb i (columns_before s (table_count s)) (subst (λ (n : ℕ). n ≤ i) (e ∙ ap (columns_before s) tables_are) h)))
 
-  pub column-in : (i : ℕ) {before : ℕ} {r : Bool} → before ≡ columns-before s p.tables.count → i < before
-      → r ≡ column-fields-ok s (p.columns.at + i * 16) p.tables.at → r ≡ column-ok s i
-  unfolding column-ok
-  column-in i e h f =
-      goes_on _ (lt-ltb i (columns-before s (table-count s)) (subst (λ (n : ℕ). i < n) (e ∙ ap (columns-before s) tables-are) h))
-      (f ∙ ap (λ (n : ℕ). column-fields-ok s (n + i * 16) p.tables.at) columns-start ∙ ap (λ (n : ℕ). column-fields-ok s (columns-at s + i * 16) n) text-is)
+  pub column_in : (i : ℕ) {before : ℕ} {r : Bool} → before ≡ columns_before s p.tables.count → i < before
+      → r ≡ column_fields_ok s (p.columns.at + i * 16) p.tables.at → r ≡ column_ok s i
+  unfolding column_ok
+  column_in i e h f =
+      goes_on _ (lt-ltb i (columns_before s (table_count s)) (subst (λ (n : ℕ). i < n) (e ∙ ap (columns_before s) tables_are) h))
+      (f ∙ ap (λ (n : ℕ). column_fields_ok s (n + i * 16) p.tables.at) columns_start ∙ ap (λ (n : ℕ). column_fields_ok s (columns_at s + i * 16) n) text_is)
 
   -- Record i is a table's or, behind the tables, a column's.
-  pub record-table : (i : ℕ) {r : Bool} → i < p.tables.count → r ≡ table-ok s i → r ≡ record-ok s i
-  record-table i {r} h e =
-      e ∙ ap (λ (b : Bool). cond b (table-ok s i) (column-ok s (i - table-count s))) (sym (lt-ltb i (table-count s) (subst (λ (n : ℕ). i < n) tables-are h)))
+  pub record_table : (i : ℕ) {r : Bool} → i < p.tables.count → r ≡ table_ok s i → r ≡ record_ok s i
+  record_table i {r} h e =
+      e ∙ ap (λ (b : Bool). cond b (table_ok s i) (column_ok s (i - table_count s))) (sym (lt-ltb i (table_count s) (subst (λ (n : ℕ). i < n) tables_are h)))
 
-  pub record-column : (i : ℕ) {r : Bool} → p.tables.count ≤ i → r ≡ column-ok s (i - p.tables.count) → r ≡ record-ok s i
-  record-column i {r} h e =
-      e ∙ ap (λ (n : ℕ). column-ok s (i - n)) tables-are
-      ∙ ap (λ (b : Bool). cond b (table-ok s i) (column-ok s (i - table-count s))) (sym (le-ltb i (table-count s) (subst (λ (n : ℕ). n ≤ i) tables-are h)))
+  pub record_column : (i : ℕ) {r : Bool} → p.tables.count ≤ i → r ≡ column_ok s (i - p.tables.count) → r ≡ record_ok s i
+  record_column i {r} h e =
+      e ∙ ap (λ (n : ℕ). column_ok s (i - n)) tables_are
+      ∙ ap (λ (b : Bool). cond b (table_ok s i) (column_ok s (i - table_count s))) (sym (le-ltb i (table_count s) (subst (λ (n : ℕ). n ≤ i) tables_are h)))
 
-  -- The number of records is the one that `bad-record` walks.
-  pub records-walked : {o : Option ℕ} → o ≡ first-failing (record-ok s) 0 (p.tables.count + p.columns.count) → o ≡ bad-record s
-  unfolding bad-record
-  records-walked e =
-      let n : p.tables.count + p.columns.count ≡ table-count s + column-count s = cc (tables-are, columns-are) in
-      e ∙ ap (first-failing (record-ok s) 0) n
+  -- The number of records is the one that `bad_record` walks.
+  pub records_walked : {o : Option ℕ} → o ≡ first_failing (record_ok s) 0 (p.tables.count + p.columns.count) → o ≡ bad_record s
+  unfolding bad_record
+  records_walked e =
+      let n : p.tables.count + p.columns.count ≡ table_count s + column_count s = cc (tables_are, columns_are) in
+      e ∙ ap (first_failing (record_ok s) 0) n
 
-  -- and that behind the tables is the one that `bad-column` walks
-  pub columns-walked : {o : Option ℕ} → o ≡ first-failing (record-ok s) p.tables.count p.columns.count → o ≡ bad-column s
-  columns-walked e = e ∙ ap (λ (n : ℕ). first-failing (record-ok s) n p.columns.count) tables-are ∙ ap (first-failing (record-ok s) (table-count s)) columns-are
+  -- and that behind the tables is the one that `bad_column` walks
+  pub columns_walked : {o : Option ℕ} → o ≡ first_failing (record_ok s) p.tables.count p.columns.count → o ≡ bad_column s
+  columns_walked e = e ∙ ap (λ (n : ℕ). first_failing (record_ok s) n p.columns.count) tables_are ∙ ap (first_failing (record_ok s) (table_count s)) columns_are
 
 -- ---- cells
 
@@ -368,19 +368,19 @@ pub cell_holds : (s : List ℕ) (i : ℕ) {x y z a b c : ℕ}
     → Number 4294967296 (word s (i + 4)) a
     → Number 4294967296 (word s (i + 8)) b
     → Number 4294967296 (word s (i + 12)) c
-    → IsCell (Sheet.cell-from s i) (record { tag = x; flag = y; origin = z; a = a; b = b; c = c })
+    → IsCell (Sheet.cell_from s i) (record { tag = x; flag = y; origin = z; a = a; b = b; c = c })
 cell_holds s i x y z a b c =
     record {
       is = cc (x.is, y.is, z.is, a.is, b.is, c.is);
       tag_small = x.small;
       flag_small = y.small;
-      origin-small = z.small;
+      origin_small = z.small;
       a_small = a.small;
-      b-small = b.small;
-      c-small = c.small;
+      b_small = b.small;
+      c_small = c.small;
     }
 
 -- Cell i stands at i times 16 bytes behind the start of the cells.
-pub cell-there : {s : List ℕ} {p : Parts} {k : Cell} (i : ℕ) → Laid s p → IsCell (Sheet.cell-from s (p.cells.at + i * 16)) k → IsCell (Sheet.cell s i) k
+pub cell_there : {s : List ℕ} {p : Parts} {k : Cell} (i : ℕ) → Laid s p → IsCell (Sheet.cell_from s (p.cells.at + i * 16)) k → IsCell (Sheet.cell s i) k
 unfolding Sheet.cell
-cell-there {s} {p} {k} i g h = subst (λ (n : ℕ). IsCell (Sheet.cell-from s (n + i * 16)) k) (cells-start g) h
+cell_there {s} {p} {k} i g h = subst (λ (n : ℕ). IsCell (Sheet.cell_from s (n + i * 16)) k) (cells_start g) h

@@ -12,7 +12,7 @@ field_of (suc (suc (suc (suc zero)))) = small 1
 field_of (suc (suc (suc (suc (suc k))))) = text k
 
 -- What a row says of its tag. The rows 0 and 16 have no flags, so no cell passes by them: 0 says that the tag is unknown, 16 that it is not carried over.
-unfoldable pub tag-from : ℕ → Tag
-tag-from row =
+unfoldable pub tag_from : ℕ → Tag
+tag_from row =
     cond (eqb row 0) unknown
     (cond (eqb row 16) not_carried (carried (row % 16) (field_of (row / 16 % 16)) (field_of (row / 256 % 16)) (field_of (row / 4096))))

@@ -2,11 +2,11 @@
 // Bytes, halves and words are read as `usize`: they are positions, counts and amounts, and a sum of two of them doesn't wrap.
 ghost use Rattle.std.specs.Prelude.{◌≡◌, Bool, true, false, ◌&&◌, ℕ, ◌+◌, ◌-◌, ◌*◌, ◌≤◌, ◌<◌, length};
 ghost use Rattle.sheet.specs.Bytes.{byte, half, word};
-ghost use Rattle.sheet.specs.Parts.{length-ok, edition-ok, records-ok, parts-ok, table-count, column-count, cell-count, columns-before, table-ok, bad-record};
+ghost use Rattle.sheet.specs.Parts.{length_ok, edition_ok, records_ok, parts_ok, table_count, column_count, cell_count, columns_before, table_ok, bad_record};
 ghost use Rattle.sheet.specs.Parts as Sheet;
-ghost use Rattle.sheet.specs.Cell.{cell, cell-from, origins, tag_of, field-ok, fields-ok, float_ok, cell-ok, bad-cell, bad-number};
-ghost use Rattle.layout.specs.Layout.{Number, Whole, Laid, IsTable, IsCell, IsColumn, table-from, table_at, column-from, column-at, column-fields-ok, bad-column, as-cell, found};
-ghost use Rattle.layout.specs.Row.{field_of, tag-from};
+ghost use Rattle.sheet.specs.Cell.{cell, cell_from, origins, tag_of, field_ok, fields_ok, float_ok, cell_ok, bad_cell, bad_number};
+ghost use Rattle.layout.specs.Layout.{Number, Whole, Laid, IsTable, IsCell, IsColumn, table_from, table_at, column_from, column_at, column_fields_ok, bad_column, as_cell, found};
+ghost use Rattle.layout.specs.Row.{field_of, tag_from};
 
 // ---- numbers, little-endian
 
@@ -59,7 +59,7 @@ pub fn word_at(s: &[u8], i: usize) -> usize
 
 // Refusal 2 is not met.
 pub fn length_ok(s: &[u8]) -> bool
-    ensures { result ≡ length-ok s.now }
+    ensures { result ≡ length_ok s.now }
 {
     if s.len() < 20 {
         return false;
@@ -80,8 +80,8 @@ fn word_from_end(s: &[u8], k: usize) -> usize
 
 // Refusal 3 is not met.
 pub fn edition_ok(s: &[u8]) -> bool
-    requires { length-ok s.now ≡ true }
-    ensures { result ≡ edition-ok s.now }
+    requires { length_ok s.now ≡ true }
+    ensures { result ≡ edition_ok s.now }
 {
     let edition = word_from_end(s, 8);
     if edition == 1 {
@@ -92,7 +92,7 @@ pub fn edition_ok(s: &[u8]) -> bool
 
 // How many origins there are for a cell, counted from 0: an edition 1 sheet has 0 alone.
 fn origins_of(s: &[u8]) -> usize
-    requires { length-ok s.now ≡ true }
+    requires { length_ok s.now ≡ true }
     ensures { result ≡ origins s.now }
 {
     if word_from_end(s, 8) == 1 { 1 } else { 65536 }
@@ -101,7 +101,7 @@ fn origins_of(s: &[u8]) -> usize
 // From a byte up to another there are whole records, at least `few` and at most `many`.
 fn records_ok(from: usize, upto: usize, few: usize, many: usize) -> bool
     requires { (few ≤ 2048) × (many ≤ 2048) }
-    ensures { result ≡ records-ok from upto few many }
+    ensures { result ≡ records_ok from upto few many }
 {
     if upto < from {
         return false;
@@ -118,8 +118,8 @@ fn records_ok(from: usize, upto: usize, few: usize, many: usize) -> bool
 
 // Refusal 4 is not met.
 pub fn parts_ok(s: &[u8]) -> bool
-    requires { length-ok s.now ≡ true }
-    ensures { result ≡ parts-ok s.now }
+    requires { length_ok s.now ≡ true }
+    ensures { result ≡ parts_ok s.now }
 {
     let tables_at = word_from_end(s, 20);
     let columns_at = word_from_end(s, 16);
@@ -210,7 +210,7 @@ pub struct Table {
 // The table record that starts at byte i.
 fn table_from(s: &[u8], i: usize) -> Table
     requires { i + 16 ≤ length s.now }
-    ensures { IsTable (table-from s.now i) result }
+    ensures { IsTable (table_from s.now i) result }
 {
     Table {
         name: word_at(s, i),
@@ -222,7 +222,7 @@ fn table_from(s: &[u8], i: usize) -> Table
 
 // The record of table i.
 pub fn table_at(s: &[u8], i: usize) -> Table
-    requires { Whole s.now × (i < table-count s.now) }
+    requires { Whole s.now × (i < table_count s.now) }
     ensures { IsTable (table_at s.now i) result }
 {
     let p = parts_of(s);
@@ -232,7 +232,7 @@ pub fn table_at(s: &[u8], i: usize) -> Table
 // The number of columns that the first i tables have.
 fn columns_before(s: &[u8], p: Parts, i: usize) -> usize
     requires { Laid s.now p × (i ≤ p.tables.count) }
-    ensures { result ≡ columns-before s.now i }
+    ensures { result ≡ columns_before s.now i }
 {
     if i == 0 {
         return 0;
@@ -244,7 +244,7 @@ fn columns_before(s: &[u8], p: Parts, i: usize) -> usize
 // The record of table i is as it should be.
 fn table_ok(s: &[u8], p: Parts, i: usize) -> bool
     requires { Laid s.now p × (i < p.tables.count) }
-    ensures { result ≡ table-ok s.now i }
+    ensures { result ≡ table_ok s.now i }
 {
     let t = table_from(s, p.tables.at + i * 16);
     let in_order = t.first == columns_before(s, p, i);
@@ -264,7 +264,7 @@ pub struct Column {
 // The column record that starts at byte i.
 fn column_from(s: &[u8], i: usize) -> Column
     requires { i + 16 ≤ length s.now }
-    ensures { IsColumn (column-from s.now i) result }
+    ensures { IsColumn (column_from s.now i) result }
 {
     Column {
         name: word_at(s, i),
@@ -275,8 +275,8 @@ fn column_from(s: &[u8], i: usize) -> Column
 
 // The record of column i.
 pub fn column_at(s: &[u8], i: usize) -> Column
-    requires { Whole s.now × (i < column-count s.now) }
-    ensures { IsColumn (column-at s.now i) result }
+    requires { Whole s.now × (i < column_count s.now) }
+    ensures { IsColumn (column_at s.now i) result }
 {
     let p = parts_of(s);
     column_from(s, p.columns.at + i * 16)
@@ -286,7 +286,7 @@ pub fn column_at(s: &[u8], i: usize) -> Column
 // and two zeros are one word.
 fn column_fields_ok(s: &[u8], i: usize, text: usize) -> bool
     requires { i + 16 ≤ length s.now }
-    ensures { result ≡ column-fields-ok s.now i text }
+    ensures { result ≡ column_fields_ok s.now i text }
 {
     let marks = word_at(s, i + 4);
     let marked = both(marks < 512, marks % 256 < 4);
@@ -298,7 +298,7 @@ fn column_fields_ok(s: &[u8], i: usize, text: usize) -> bool
 // have is read once.
 fn bad_column(s: &[u8], p: Parts) -> Found
     requires { Laid s.now p }
-    ensures { found result ≡ bad-column s.now }
+    ensures { found result ≡ bad_column s.now }
 {
     let tables = p.tables.count;
     let count = tables + p.columns.count;
@@ -320,7 +320,7 @@ fn bad_column(s: &[u8], p: Parts) -> Found
 // Refusal 5: the lowest record that breaks its layout.
 pub fn bad_record(s: &[u8]) -> Found
     requires { Whole s.now }
-    ensures { found result ≡ bad-record s.now }
+    ensures { found result ≡ bad_record s.now }
 {
     let p = parts_of(s);
     let tables = p.tables.count;
@@ -350,7 +350,7 @@ pub struct Cell {
 // The cell that starts at byte i.
 pub fn cell_from(s: &[u8], i: usize) -> Cell
     requires { i + 16 ≤ length s.now }
-    ensures { IsCell (cell-from s.now i) result }
+    ensures { IsCell (cell_from s.now i) result }
 {
     Cell {
         tag: tag_at(s, i),
@@ -364,7 +364,7 @@ pub fn cell_from(s: &[u8], i: usize) -> Cell
 
 // Cell number i.
 pub fn cell_at(s: &[u8], i: usize) -> Cell
-    requires { Whole s.now × (i < cell-count s.now) }
+    requires { Whole s.now × (i < cell_count s.now) }
     ensures { IsCell (cell s.now i) result }
 {
     let p = parts_of(s);
@@ -382,7 +382,7 @@ const NOT_CARRIED: usize = 0x0010;
 // 1 Null, 2 Boolean, 3 Integer, 4 Float, 5 String, 6 Column.
 fn row_to_9(tag: u32) -> usize
     requires { tag < 10 }
-    ensures { tag-from result ≡ tag_of tag }
+    ensures { tag_from result ≡ tag_of tag }
 {
     if tags::COLUMN < tag {
         return UNKNOWN;
@@ -402,7 +402,7 @@ fn row_to_9(tag: u32) -> usize
 // 36 SquareRoot.
 fn row_to_39(tag: u32) -> usize
     requires { (10 ≤ tag) × (tag < 40) }
-    ensures { tag-from result ≡ tag_of tag }
+    ensures { tag_from result ≡ tag_of tag }
 {
     if tag < tags::EXPONENTIATE {
         return 0x0001;
@@ -428,7 +428,7 @@ fn row_to_39(tag: u32) -> usize
 // 40 Label, 41 Item, 42 Key, 43 Target, 44 Agg, 45 Row.
 fn row_to_49(tag: u32) -> usize
     requires { (40 ≤ tag) × (tag < 50) }
-    ensures { tag-from result ≡ tag_of tag }
+    ensures { tag_from result ≡ tag_of tag }
 {
     match tag {
         tags::LABEL => 0x0763,
@@ -444,7 +444,7 @@ fn row_to_49(tag: u32) -> usize
 // 50 Aggregate, 51 Filter, 52 HashJoin, 53 IndexLookup, 54 KeyLookup, 55 Limit, 56 NestedLoopJoin.
 fn row_to_56(tag: u32) -> usize
     requires { (50 ≤ tag) × (tag < 57) }
-    ensures { tag-from result ≡ tag_of tag }
+    ensures { tag_from result ≡ tag_of tag }
 {
     match tag {
         tags::AGGREGATE => 0x0111,
@@ -460,7 +460,7 @@ fn row_to_56(tag: u32) -> usize
 // 57 Nothing, 58 Offset, 59 Order, 60 Projection, 61 Remap, 62 Scan, 63 Values.
 fn row_to_63(tag: u32) -> usize
     requires { (57 ≤ tag) × (tag < 64) }
-    ensures { tag-from result ≡ tag_of tag }
+    ensures { tag_from result ≡ tag_of tag }
 {
     if tag == tags::NOTHING {
         return 0x0011;
@@ -479,7 +479,7 @@ fn row_to_63(tag: u32) -> usize
 
 // The row of a tag. Those from 64 on are unknown.
 fn row_of(tag: u32) -> usize
-    ensures { tag-from result ≡ tag_of tag }
+    ensures { tag_from result ≡ tag_of tag }
 {
     if tag < tags::BINARY {
         return row_to_9(tag);
@@ -501,7 +501,7 @@ fn row_of(tag: u32) -> usize
 
 // A field of this code may hold the number v.
 fn field_ok(text: usize, tables: usize, flag: usize, code: usize, v: usize) -> bool
-    ensures { result ≡ field-ok text tables flag (field_of code) v }
+    ensures { result ≡ field_ok text tables flag (field_of code) v }
 {
     match code {
         0 => v == 0,
@@ -521,7 +521,7 @@ fn field_ok(text: usize, tables: usize, flag: usize, code: usize, v: usize) -> b
 
 // A cell has what its tag allows in the flag and the fields, and one of the sheet's origins. `text` is the length of the text, `tables` the number of tables.
 fn fields_ok(origins: usize, text: usize, tables: usize, k: Cell) -> bool
-    ensures { result ≡ fields-ok origins text tables (as-cell k) (tag_of k.tag) }
+    ensures { result ≡ fields_ok origins text tables (as_cell k) (tag_of k.tag) }
 {
     let row = row_of(k.tag);
     let a = field_ok(text, tables, k.flag, row / 16 % 16, k.a);
@@ -536,7 +536,7 @@ fn fields_ok(origins: usize, text: usize, tables: usize, k: Cell) -> bool
 // A Float is no NaN but the one that a sheet may hold. With the sign's bit taken off, a NaN is above the infinity.
 fn float_ok(k: Cell) -> bool
     requires { (k.a < 4294967296) × (k.b < 4294967296) }
-    ensures { result ≡ float_ok (as-cell k) }
+    ensures { result ≡ float_ok (as_cell k) }
 {
     if k.tag != tags::FLOAT {
         return true;
@@ -551,7 +551,7 @@ fn float_ok(k: Cell) -> bool
 // A cell is as it should be.
 fn cell_ok(origins: usize, text: usize, tables: usize, k: Cell) -> bool
     requires { (k.a < 4294967296) × (k.b < 4294967296) }
-    ensures { result ≡ cell-ok origins text tables (as-cell k) }
+    ensures { result ≡ cell_ok origins text tables (as_cell k) }
 {
     both(fields_ok(origins, text, tables, k), float_ok(k))
 }
@@ -559,7 +559,7 @@ fn cell_ok(origins: usize, text: usize, tables: usize, k: Cell) -> bool
 // Refusals 6 and 7: the lowest cell that breaks its layout.
 pub fn bad_cell(s: &[u8]) -> Found
     requires { Whole s.now }
-    ensures { found result ≡ bad-cell s.now }
+    ensures { found result ≡ bad_cell s.now }
 {
     let p = parts_of(s);
     let count = p.cells.count;
@@ -577,7 +577,7 @@ pub fn bad_cell(s: &[u8]) -> Found
 
 // The number of the refusal where a cell with this tag breaks its layout.
 pub fn bad_number(tag: u32) -> usize
-    ensures { result ≡ bad-number (tag_of tag) }
+    ensures { result ≡ bad_number (tag_of tag) }
 {
     if row_of(tag) == NOT_CARRIED { 7 } else { 6 }
 }

@@ -5,38 +5,38 @@ use mathlib.Core.Path.{◌≡◌, refl, sym, ap, subst}
 use mathlib.Core.List.{List}
 use Rattle.sql.specs.Plan.{Node}
 use Rattle.sql.specs.Answer.{Answer, done, refused}
-use Rattle.sheet.specs.Parts.{cell-count}
+use Rattle.sheet.specs.Parts.{cell_count}
 use Rattle.sheet.specs.Cell.{cell}
 use Rattle.sheet.specs.Check.{Numbers, plan, check, checked}
-use Rattle.sheet.specs.Operations.{all-five}
+use Rattle.sheet.specs.Operations.{all_five}
 use Rattle.sheet.specs.Listing.{listing}
 use Rattle.sheet_laws.specs.Accepted.{accepted}
-use Rattle.sheet_laws.specs.Plan.{Bytes, parts-of}
-use Rattle.sheet_laws.specs.Tags.{tags-small}
-use Rattle.sound.specs.Refusals.{Refused-by, From-to, plan-refused}
-use Rattle.sound.specs.Operations.{sheet-of, all-five-sound}
-use Rattle.listing.specs.ReadBack.{Totals-right}
-use Rattle.listing.proofs.ReadBack.{totals-right}
+use Rattle.sheet_laws.specs.Plan.{Bytes, parts_of}
+use Rattle.sheet_laws.specs.Tags.{tags_small}
+use Rattle.sound.specs.Refusals.{RefusedBy, FromTo, plan_refused}
+use Rattle.sound.specs.Operations.{sheet_of, all_five_sound}
+use Rattle.listing.specs.ReadBack.{TotalsRight}
+use Rattle.listing.proofs.ReadBack.{totals_right}
 use Rattle.list_plan.specs.Listed.{blank, listed}
 use Rattle.list_plan.specs.Totals.{Prints}
-use Rattle.list_plan.proofs.Handed.{found-lines, refused-lines}
+use Rattle.list_plan.proofs.Handed.{found_lines, refused_lines}
 
 -- a sheet that passes the check
-checked-right : (t : List ℕ) (columns : ℕ) → (check t).number ≡ 0 → Totals-right (listing t columns)
+checked_right : (t : List ℕ) (columns : ℕ) → (check t).number ≡ 0 → TotalsRight (listing t columns)
 unfolding check
-checked-right t columns = go (plan t) refl (plan-refused t)
+checked_right t columns = go (plan t) refl (plan_refused t)
   where
-    go : (r : Answer Node) → plan t ≡ r → Refused-by (From-to 2 10) r → (checked t r).number ≡ 0 → Totals-right (listing t columns)
-    go (done n) h x e = totals-right t columns (λ i low. omega (arith, tags-small t n h i low)) (parts-of (accepted t n h)).cells-few
+    go : (r : Answer Node) → plan t ≡ r → RefusedBy (FromTo 2 10) r → (checked t r).number ≡ 0 → TotalsRight (listing t columns)
+    go (done n) h x e = totals_right t columns (λ i low. omega (arith, tags_small t n h i low)) (parts_of (accepted t n h)).cells_few
     go (refused number place) h x e = let (p, q) = x in absurd (omega arith)
 
 pub prints : Prints
 unfolding listed
 prints s b =
-    let o = all-five s blank in
+    let o = all_five s blank in
     record {
-      of-a-plan =
-          λ h. subst Totals-right (sym (found-lines o.numbers.number o h))
-          (checked-right (sheet-of o) o.numbers.columns (ap (λ (n : Numbers). n.number) (all-five-sound s b blank h).checks));
-      of-a-refusal = λ h. refused-lines o.numbers.number o h;
+      of_a_plan =
+          λ h. subst TotalsRight (sym (found_lines o.numbers.number o h))
+          (checked_right (sheet_of o) o.numbers.columns (ap (λ (n : Numbers). n.number) (all_five_sound s b blank h).checks));
+      of_a_refusal = λ h. refused_lines o.numbers.number o h;
     }

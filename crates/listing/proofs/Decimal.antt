@@ -30,13 +30,13 @@ behind (suc k) n later = go (ltb n 10) (behind k (n / 10) ((48 + n % 10) ∷ lat
     go true e f = refl
     go false e f = e ∙ sym (append_assoc (digits k (n / 10) []) ((48 + n % 10) ∷ []) later) ∙ ap (λ (l : List ℕ). l ++ later) (sym f)
 
-pub last-digit : (k n : ℕ) → ltb n 10 ≡ true → digits (suc k) n [] ≡ (48 + n) ∷ []
+pub last_digit : (k n : ℕ) → ltb n 10 ≡ true → digits (suc k) n [] ≡ (48 + n) ∷ []
 unfolding digits
-last-digit k n h = ap (λ (b : Bool). elim b [ true ↦ (48 + n) ∷ [] | false ↦ digits k (n / 10) ((48 + n % 10) ∷ []) ]) h
+last_digit k n h = ap (λ (b : Bool). elim b [ true ↦ (48 + n) ∷ [] | false ↦ digits k (n / 10) ((48 + n % 10) ∷ []) ]) h
 
-pub more-digits : (k n : ℕ) → ltb n 10 ≡ false → digits (suc k) n [] ≡ digits k (n / 10) [] ++ ((48 + n % 10) ∷ [])
+pub more_digits : (k n : ℕ) → ltb n 10 ≡ false → digits (suc k) n [] ≡ digits k (n / 10) [] ++ ((48 + n % 10) ∷ [])
 unfolding digits
-more-digits k n h =
+more_digits k n h =
     ap (λ (b : Bool). elim b [ true ↦ (48 + n) ∷ [] | false ↦ digits k (n / 10) ((48 + n % 10) ∷ []) ]) h ∙ behind k (n / 10) ((48 + n % 10) ∷ [])
 
 pub no_digit : (k n : ℕ) → k ≡ 0 → digits k n [] ≡ []
@@ -46,12 +46,12 @@ no_digit (suc k) n h = absurd (omega arith)
 
 pub digits_last : (k n : ℕ) → 1 ≤ k → n < 10 → digits k n [] ≡ (48 + n) ∷ []
 digits_last zero n s h = absurd (omega arith)
-digits_last (suc k) n s h = last-digit k n (lt-ltb n 10 h)
+digits_last (suc k) n s h = last_digit k n (lt-ltb n 10 h)
 
 pub digits_more : (k n : ℕ) → 1 ≤ k → 10 ≤ n → digits k n [] ≡ digits (k - 1) (n / 10) [] ++ ((48 + n % 10) ∷ [])
 digits_more zero n s h = absurd (omega arith)
 digits_more (suc k) n s h =
-    let e : k ≡ suc k - 1 = omega arith in more-digits k n (le-ltb n 10 h) ∙ ap (λ (j : ℕ). digits j (n / 10) [] ++ ((48 + n % 10) ∷ [])) e
+    let e : k ≡ suc k - 1 = omega arith in more_digits k n (le-ltb n 10 h) ∙ ap (λ (j : ℕ). digits j (n / 10) [] ++ ((48 + n % 10) ∷ [])) e
 
 -- the same words, written under another name
 pub as_written : {d : List ℕ} {at r : ℕ} {v w d' : List ℕ} → v ≡ w → Wrote d at v r d' → Wrote d at w r d'

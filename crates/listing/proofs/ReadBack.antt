@@ -11,15 +11,15 @@ use lib.Dec.{eqb, ltb, leb}
 use lib.ListN.{length, length-append, get_or}
 use borrow.Author.Tests.{lt-ltb, le-ltb, le-leb, eq-eqb, ne_eqb}
 use Rattle.sql.specs.Plan.{up_to}
-use Rattle.sheet.specs.Parts.{cell-count}
+use Rattle.sheet.specs.Parts.{cell_count}
 use Rattle.sheet.specs.Cell.{Cell, cell}
 use Rattle.sheet.specs.Check.{cells_of}
-use Rattle.sheet.specs.Listing.{digits, decimal, space, newline, line, cell-line, cell-lines, header, is-expression, is-part, is-node, of-kind, totals-line, totals, listing}
-use Rattle.cells.proofs.Laws.{lt-or-ge}
-use Rattle.listing.specs.ReadBack.{next-piece, split, word, is_digit, number-from, number, passes, tagged, count, Totals-right}
-use Rattle.listing.proofs.Decimal.{last-digit, more-digits}
+use Rattle.sheet.specs.Listing.{digits, decimal, space, newline, line, cell_line, cell_lines, header, is_expression, is_part, is_node, of_kind, totals_line, totals, listing}
+use Rattle.cells.proofs.Laws.{lt_or_ge}
+use Rattle.listing.specs.ReadBack.{next_piece, split, word, is_digit, number_from, number, passes, tagged, count, TotalsRight}
+use Rattle.listing.proofs.Decimal.{last_digit, more_digits}
 use Rattle.listing.proofs.Size.{tens}
-use Rattle.listing.proofs.Counted.{one-if, each-counted, all-long}
+use Rattle.listing.proofs.Counted.{one_if, each_counted, all_long}
 
 -- ---- pieces
 
@@ -28,102 +28,102 @@ abbrev Without : ℕ → List ℕ → Type 0
 Without b [] = Unit {0}
 Without b (x ∷ xs) = (eqb x b ≡ false) × Without b xs
 
-without-both : (b : ℕ) (xs ys : List ℕ) → Without b xs → Without b ys → Without b (xs ++ ys)
-without-both b [] ys p q = q
-without-both b (x ∷ xs) ys p q = (p.0, without-both b xs ys p.1 q)
+without_both : (b : ℕ) (xs ys : List ℕ) → Without b xs → Without b ys → Without b (xs ++ ys)
+without_both b [] ys p q = q
+without_both b (x ∷ xs) ys p q = (p.0, without_both b xs ys p.1 q)
 
 -- what stands before a separator is a piece
 split_at : (b : ℕ) (xs ys : List ℕ) → Without b xs → split b (xs ++ (b ∷ ys)) ≡ xs ∷ split b ys
 unfolding split
-split_at b [] ys p = ap (λ (t : Bool). next-piece t b (split b ys)) (eq-eqb b b refl)
+split_at b [] ys p = ap (λ (t : Bool). next_piece t b (split b ys)) (eq-eqb b b refl)
 split_at b (x ∷ xs) ys p =
-    ap (λ (t : Bool). next-piece t x (split b (xs ++ (b ∷ ys)))) p.0 ∙ ap (next-piece false x) (split_at b xs ys p.1)
+    ap (λ (t : Bool). next_piece t x (split b (xs ++ (b ∷ ys)))) p.0 ∙ ap (next_piece false x) (split_at b xs ys p.1)
 
 -- and so is what stands behind the last
-split-last : (b : ℕ) (xs : List ℕ) → Without b xs → split b xs ≡ xs ∷ []
+split_last : (b : ℕ) (xs : List ℕ) → Without b xs → split b xs ≡ xs ∷ []
 unfolding split
-split-last b [] p = refl
-split-last b (x ∷ xs) p = ap (λ (t : Bool). next-piece t x (split b xs)) p.0 ∙ ap (next-piece false x) (split-last b xs p.1)
+split_last b [] p = refl
+split_last b (x ∷ xs) p = ap (λ (t : Bool). next_piece t x (split b xs)) p.0 ∙ ap (next_piece false x) (split_last b xs p.1)
 
 -- ---- numbers
 
 -- digits aren't below "0"
-no-digit-below : (b : ℕ) → b < 48 → (k n : ℕ) → Without b (digits k n [])
+no_digit_below : (b : ℕ) → b < 48 → (k n : ℕ) → Without b (digits k n [])
 unfolding digits
-no-digit-below b h zero n = tt
-no-digit-below b h (suc k) n = go (lt-or-ge n 10) (no-digit-below b h k (n / 10))
+no_digit_below b h zero n = tt
+no_digit_below b h (suc k) n = go (lt_or_ge n 10) (no_digit_below b h k (n / 10))
   where
     go : (n < 10) ⊎ (10 ≤ n) → Without b (digits k (n / 10) []) → Without b (digits (suc k) n [])
-    go (inl p) later = subst (Without b) (sym (last-digit k n (lt-ltb n 10 p))) (ne_eqb (48 + n) b (λ e. absurd (omega arith)), tt)
+    go (inl p) later = subst (Without b) (sym (last_digit k n (lt-ltb n 10 p))) (ne_eqb (48 + n) b (λ e. absurd (omega arith)), tt)
     go (inr p) later =
-        subst (Without b) (sym (more-digits k n (le-ltb n 10 p)))
-        (without-both b (digits k (n / 10) []) ((48 + n % 10) ∷ []) later (ne_eqb (48 + n % 10) b (λ e. absurd (omega arith)), tt))
+        subst (Without b) (sym (more_digits k n (le-ltb n 10 p)))
+        (without_both b (digits k (n / 10) []) ((48 + n % 10) ∷ []) later (ne_eqb (48 + n % 10) b (λ e. absurd (omega arith)), tt))
 
-no-space : (n : ℕ) → Without space (decimal n)
-no-space n = no-digit-below 32 (omega arith) 20 n
+no_space : (n : ℕ) → Without space (decimal n)
+no_space n = no_digit_below 32 (omega arith) 20 n
 
-no-newline : (n : ℕ) → Without newline (decimal n)
-no-newline n = no-digit-below 10 (omega arith) 20 n
+no_newline : (n : ℕ) → Without newline (decimal n)
+no_newline n = no_digit_below 10 (omega arith) 20 n
 
 -- one digit more behind others
-abbrev then-digit : Option ℕ → ℕ → Option ℕ
-then-digit none d = none
-then-digit (some n) d = some (n * 10 + d)
+abbrev then_digit : Option ℕ → ℕ → Option ℕ
+then_digit none d = none
+then_digit (some n) d = some (n * 10 + d)
 
-a-digit : (d : ℕ) → d < 10 → is_digit (48 + d) ≡ true
-a-digit d h = ap (λ (t : Bool). t && leb (48 + d) 57) (le-leb 48 (48 + d) (omega arith)) ∙ le-leb (48 + d) 57 (omega arith)
+a_digit : (d : ℕ) → d < 10 → is_digit (48 + d) ≡ true
+a_digit d h = ap (λ (t : Bool). t && leb (48 + d) 57) (le-leb 48 (48 + d) (omega arith)) ∙ le-leb (48 + d) 57 (omega arith)
 
-one-digit : (n d : ℕ) → d < 10 → number-from n ((48 + d) ∷ []) ≡ some (n * 10 + d)
-unfolding number-from
-one-digit n d h =
+one_digit : (n d : ℕ) → d < 10 → number_from n ((48 + d) ∷ []) ≡ some (n * 10 + d)
+unfolding number_from
+one_digit n d h =
     let e : n * 10 + (48 + d - 48) ≡ n * 10 + d = omega arith in
-    ap (λ (t : Bool). elim t [ true ↦ some (n * 10 + (48 + d - 48)) | false ↦ none ]) (a-digit d h) ∙ ap (λ (m : ℕ). some m) e
+    ap (λ (t : Bool). elim t [ true ↦ some (n * 10 + (48 + d - 48)) | false ↦ none ]) (a_digit d h) ∙ ap (λ (m : ℕ). some m) e
 
-digit-behind : (n : ℕ) (xs : List ℕ) (d : ℕ) → d < 10 → number-from n (xs ++ ((48 + d) ∷ [])) ≡ then-digit (number-from n xs) d
-unfolding number-from
-digit-behind n [] d h = one-digit n d h
-digit-behind n (x ∷ xs) d h = go (is_digit x) (digit-behind (n * 10 + (x - 48)) xs d h)
+digit_behind : (n : ℕ) (xs : List ℕ) (d : ℕ) → d < 10 → number_from n (xs ++ ((48 + d) ∷ [])) ≡ then_digit (number_from n xs) d
+unfolding number_from
+digit_behind n [] d h = one_digit n d h
+digit_behind n (x ∷ xs) d h = go (is_digit x) (digit_behind (n * 10 + (x - 48)) xs d h)
   where
-    go : (t : Bool) → number-from (n * 10 + (x - 48)) (xs ++ ((48 + d) ∷ [])) ≡ then-digit (number-from (n * 10 + (x - 48)) xs) d
-        → elim t [ true ↦ number-from (n * 10 + (x - 48)) (xs ++ ((48 + d) ∷ [])) | false ↦ none ]
-        ≡ then-digit (elim t [ true ↦ number-from (n * 10 + (x - 48)) xs | false ↦ none ]) d
+    go : (t : Bool) → number_from (n * 10 + (x - 48)) (xs ++ ((48 + d) ∷ [])) ≡ then_digit (number_from (n * 10 + (x - 48)) xs) d
+        → elim t [ true ↦ number_from (n * 10 + (x - 48)) (xs ++ ((48 + d) ∷ [])) | false ↦ none ]
+        ≡ then_digit (elim t [ true ↦ number_from (n * 10 + (x - 48)) xs | false ↦ none ]) d
     go true e = e
     go false e = refl
 
-digits-read : (k n : ℕ) → n < tens k → number-from 0 (digits k n []) ≡ some n
-unfolding digits number-from
-digits-read zero n h = let e : 0 ≡ n = omega arith in ap (λ (m : ℕ). some m) e
-digits-read (suc k) n h = go (lt-or-ge n 10) (digits-read k (n / 10) ((div-lt_iff_lt-mul {k = 10} {x = n} {y = tens k} (omega arith)).1 (omega arith)))
+digits_read : (k n : ℕ) → n < tens k → number_from 0 (digits k n []) ≡ some n
+unfolding digits number_from
+digits_read zero n h = let e : 0 ≡ n = omega arith in ap (λ (m : ℕ). some m) e
+digits_read (suc k) n h = go (lt_or_ge n 10) (digits_read k (n / 10) ((div-lt_iff_lt-mul {k = 10} {x = n} {y = tens k} (omega arith)).1 (omega arith)))
   where
-    go : (n < 10) ⊎ (10 ≤ n) → number-from 0 (digits k (n / 10) []) ≡ some (n / 10) → number-from 0 (digits (suc k) n []) ≡ some n
+    go : (n < 10) ⊎ (10 ≤ n) → number_from 0 (digits k (n / 10) []) ≡ some (n / 10) → number_from 0 (digits (suc k) n []) ≡ some n
     go (inl p) later =
         let e : 0 * 10 + n ≡ n = omega arith in
-        ap (number-from 0) (last-digit k n (lt-ltb n 10 p)) ∙ one-digit 0 n p ∙ ap (λ (m : ℕ). some m) e
+        ap (number_from 0) (last_digit k n (lt-ltb n 10 p)) ∙ one_digit 0 n p ∙ ap (λ (m : ℕ). some m) e
     go (inr p) later =
         let e : n / 10 * 10 + n % 10 ≡ n = omega arith in
-        ap (number-from 0) (more-digits k n (le-ltb n 10 p))
-        ∙ digit-behind 0 (digits k (n / 10) []) (n % 10) (omega arith)
-        ∙ ap (λ (o : Option ℕ). then-digit o (n % 10)) later
+        ap (number_from 0) (more_digits k n (le-ltb n 10 p))
+        ∙ digit_behind 0 (digits k (n / 10) []) (n % 10) (omega arith)
+        ∙ ap (λ (o : Option ℕ). then_digit o (n % 10)) later
         ∙ ap (λ (m : ℕ). some m) e
 
 -- A word that isn't empty is read digit by digit.
-some_word : (w : List ℕ) → 1 ≤ length w → number w ≡ number-from 0 w
+some_word : (w : List ℕ) → 1 ≤ length w → number w ≡ number_from 0 w
 some_word [] h = absurd (omega arith)
 some_word (b ∷ w) h = refl
 
 -- digits before any others
-some-digit : (k n : ℕ) → 1 ≤ length (digits (suc k) n [])
-some-digit k n = go (lt-or-ge n 10)
+some_digit : (k n : ℕ) → 1 ≤ length (digits (suc k) n [])
+some_digit k n = go (lt_or_ge n 10)
   where
     go : (n < 10) ⊎ (10 ≤ n) → 1 ≤ length (digits (suc k) n [])
-    go (inl p) = subst (λ (l : List ℕ). 1 ≤ length l) (sym (last-digit k n (lt-ltb n 10 p))) (omega arith)
+    go (inl p) = subst (λ (l : List ℕ). 1 ≤ length l) (sym (last_digit k n (lt-ltb n 10 p))) (omega arith)
     go (inr p) =
-        subst (λ (l : List ℕ). 1 ≤ length l) (sym (more-digits k n (le-ltb n 10 p)))
+        subst (λ (l : List ℕ). 1 ≤ length l) (sym (more_digits k n (le-ltb n 10 p)))
         (omega (arith, length-append (digits k (n / 10) []) ((48 + n % 10) ∷ [])))
 
 -- A number of at most 20 digits is read back.
 number_read : (n : ℕ) → n < tens 20 → number (decimal n) ≡ some n
-number_read n h = some_word (decimal n) (some-digit 19 n) ∙ digits-read 20 n h
+number_read n h = some_word (decimal n) (some_digit 19 n) ∙ digits_read 20 n h
 
 -- ---- lines
 
@@ -133,159 +133,159 @@ spaced [] = []
 spaced (n ∷ []) = decimal n
 spaced (n ∷ m ∷ ns) = decimal n ++ (space ∷ spaced (m ∷ ns))
 
-line-ends : (ns : List ℕ) → line ns ≡ spaced ns ++ (newline ∷ [])
-line-ends [] = refl
-line-ends (n ∷ []) = refl
-line-ends (n ∷ m ∷ ns) =
-    ap (λ (l : List ℕ). decimal n ++ (space ∷ l)) (line-ends (m ∷ ns)) ∙ sym (append_assoc (decimal n) (space ∷ spaced (m ∷ ns)) (newline ∷ []))
+line_ends : (ns : List ℕ) → line ns ≡ spaced ns ++ (newline ∷ [])
+line_ends [] = refl
+line_ends (n ∷ []) = refl
+line_ends (n ∷ m ∷ ns) =
+    ap (λ (l : List ℕ). decimal n ++ (space ∷ l)) (line_ends (m ∷ ns)) ∙ sym (append_assoc (decimal n) (space ∷ spaced (m ∷ ns)) (newline ∷ []))
 
 one_line : (ns : List ℕ) → Without newline (spaced ns)
 one_line [] = tt
-one_line (n ∷ []) = no-newline n
-one_line (n ∷ m ∷ ns) = without-both newline (decimal n) (space ∷ spaced (m ∷ ns)) (no-newline n) (refl, one_line (m ∷ ns))
+one_line (n ∷ []) = no_newline n
+one_line (n ∷ m ∷ ns) = without_both newline (decimal n) (space ∷ spaced (m ∷ ns)) (no_newline n) (refl, one_line (m ∷ ns))
 
-abbrev cell-text : ℕ → Cell → List ℕ
-cell-text i k = spaced (i ∷ k.tag ∷ k.flag ∷ k.a ∷ k.b ∷ k.c ∷ [])
+abbrev cell_text : ℕ → Cell → List ℕ
+cell_text i k = spaced (i ∷ k.tag ∷ k.flag ∷ k.a ∷ k.b ∷ k.c ∷ [])
 
 -- the lines of cells, without their newlines
-abbrev cell-texts : ℕ → List Cell → List (List ℕ)
-cell-texts i [] = []
-cell-texts i (k ∷ ks) = cell-text i k ∷ cell-texts (suc i) ks
+abbrev cell_texts : ℕ → List Cell → List (List ℕ)
+cell_texts i [] = []
+cell_texts i (k ∷ ks) = cell_text i k ∷ cell_texts (suc i) ks
 
-lines_split : (i : ℕ) (ks : List Cell) (later : List ℕ) → split newline (cell-lines i ks ++ later) ≡ cell-texts i ks ++ split newline later
-unfolding cell-lines
+lines_split : (i : ℕ) (ks : List Cell) (later : List ℕ) → split newline (cell_lines i ks ++ later) ≡ cell_texts i ks ++ split newline later
+unfolding cell_lines
 lines_split i [] later = refl
 lines_split i (k ∷ ks) later =
-    ap (λ (l : List ℕ). split newline ((l ++ cell-lines (suc i) ks) ++ later)) (line-ends (i ∷ k.tag ∷ k.flag ∷ k.a ∷ k.b ∷ k.c ∷ []))
-    ∙ ap (split newline) (append_assoc (cell-text i k ++ (newline ∷ [])) (cell-lines (suc i) ks) later ∙ append_assoc (cell-text i k) (newline ∷ []) (cell-lines (suc i) ks ++ later))
-    ∙ split_at newline (cell-text i k) (cell-lines (suc i) ks ++ later) (one_line (i ∷ k.tag ∷ k.flag ∷ k.a ∷ k.b ∷ k.c ∷ []))
-    ∙ ap (λ (ls : List (List ℕ)). cell-text i k ∷ ls) (lines_split (suc i) ks later)
+    ap (λ (l : List ℕ). split newline ((l ++ cell_lines (suc i) ks) ++ later)) (line_ends (i ∷ k.tag ∷ k.flag ∷ k.a ∷ k.b ∷ k.c ∷ []))
+    ∙ ap (split newline) (append_assoc (cell_text i k ++ (newline ∷ [])) (cell_lines (suc i) ks) later ∙ append_assoc (cell_text i k) (newline ∷ []) (cell_lines (suc i) ks ++ later))
+    ∙ split_at newline (cell_text i k) (cell_lines (suc i) ks ++ later) (one_line (i ∷ k.tag ∷ k.flag ∷ k.a ∷ k.b ∷ k.c ∷ []))
+    ∙ ap (λ (ls : List (List ℕ)). cell_text i k ∷ ls) (lines_split (suc i) ks later)
 
-texts-long : (i : ℕ) (ks : List Cell) → length (cell-texts i ks) ≡ length ks
-texts-long i [] = refl
-texts-long i (k ∷ ks) = ap suc (texts-long (suc i) ks)
+texts_long : (i : ℕ) (ks : List Cell) → length (cell_texts i ks) ≡ length ks
+texts_long i [] = refl
+texts_long i (k ∷ ks) = ap suc (texts_long (suc i) ks)
 
 -- the second word of a cell's line
-tag_word : (i : ℕ) (k : Cell) → word 1 (cell-text i k) ≡ decimal k.tag
+tag_word : (i : ℕ) (k : Cell) → word 1 (cell_text i k) ≡ decimal k.tag
 tag_word i k =
     ap (λ (ws : List (List ℕ)). get_or ws 1 [])
-    (split_at space (decimal i) (spaced (k.tag ∷ k.flag ∷ k.a ∷ k.b ∷ k.c ∷ [])) (no-space i)
-    ∙ ap (λ (ws : List (List ℕ)). decimal i ∷ ws) (split_at space (decimal k.tag) (spaced (k.flag ∷ k.a ∷ k.b ∷ k.c ∷ [])) (no-space k.tag)))
+    (split_at space (decimal i) (spaced (k.tag ∷ k.flag ∷ k.a ∷ k.b ∷ k.c ∷ [])) (no_space i)
+    ∙ ap (λ (ws : List (List ℕ)). decimal i ∷ ws) (split_at space (decimal k.tag) (spaced (k.flag ∷ k.a ∷ k.b ∷ k.c ∷ [])) (no_space k.tag)))
 
-tagged-as : (test : ℕ → Bool) (i : ℕ) (k : Cell) → k.tag < 256 → tagged test (cell-text i k) ≡ test k.tag
-tagged-as test i k h = ap (λ (w : List ℕ). passes test (number w)) (tag_word i k) ∙ ap (passes test) (number_read k.tag (omega arith))
+tagged_as : (test : ℕ → Bool) (i : ℕ) (k : Cell) → k.tag < 256 → tagged test (cell_text i k) ≡ test k.tag
+tagged_as test i k h = ap (λ (w : List ℕ). passes test (number w)) (tag_word i k) ∙ ap (passes test) (number_read k.tag (omega arith))
 
-texts-counted : (test : ℕ → Bool) (f : ℕ → Cell) (n j : ℕ) → ((i : ℕ) → i < j + n → (f i).tag < 256)
-    → count (tagged test) (cell-texts j (map f (up_to j n))) ≡ of-kind test (map f (up_to j n))
-texts-counted test f zero j m = refl
-texts-counted test f (suc n) j m =
-    let first = ap one-if (tagged-as test j (f j) (m j (omega arith))) in
-    omega (arith, first, texts-counted test f n (suc j) (λ i h. m i (omega arith)))
+texts_counted : (test : ℕ → Bool) (f : ℕ → Cell) (n j : ℕ) → ((i : ℕ) → i < j + n → (f i).tag < 256)
+    → count (tagged test) (cell_texts j (map f (up_to j n))) ≡ of_kind test (map f (up_to j n))
+texts_counted test f zero j m = refl
+texts_counted test f (suc n) j m =
+    let first = ap one_if (tagged_as test j (f j) (m j (omega arith))) in
+    omega (arith, first, texts_counted test f n (suc j) (λ i h. m i (omega arith)))
 
 -- ---- the first line and the last
 
-abbrev header-text : (cells bytes columns : ℕ) → List ℕ
-header-text cells bytes columns =
+abbrev header_text : (cells bytes columns : ℕ) → List ℕ
+header_text cells bytes columns =
     (99 ∷ 101 ∷ 108 ∷ 108 ∷ 115 ∷ space ∷ decimal cells)
     ++ ((space ∷ 98 ∷ 121 ∷ 116 ∷ 101 ∷ 115 ∷ space ∷ decimal bytes) ++ (space ∷ 99 ∷ 111 ∷ 108 ∷ 117 ∷ 109 ∷ 110 ∷ 115 ∷ space ∷ decimal columns))
 
-header-ends : (cells bytes columns : ℕ) → header cells bytes columns ≡ header-text cells bytes columns ++ (newline ∷ [])
-header-ends cells bytes columns =
+header_ends : (cells bytes columns : ℕ) → header cells bytes columns ≡ header_text cells bytes columns ++ (newline ∷ [])
+header_ends cells bytes columns =
     let a : List ℕ = 99 ∷ 101 ∷ 108 ∷ 108 ∷ 115 ∷ space ∷ decimal cells in
     let b : List ℕ = space ∷ 98 ∷ 121 ∷ 116 ∷ 101 ∷ 115 ∷ space ∷ decimal bytes in
     let c : List ℕ = space ∷ 99 ∷ 111 ∷ 108 ∷ 117 ∷ 109 ∷ 110 ∷ 115 ∷ space ∷ decimal columns in
     ap (λ (l : List ℕ). a ++ l) (sym (append_assoc b c (newline ∷ []))) ∙ sym (append_assoc a (b ++ c) (newline ∷ []))
 
-header-one-line : (cells bytes columns : ℕ) → Without newline (header-text cells bytes columns)
-header-one-line cells bytes columns =
-    without-both newline (99 ∷ 101 ∷ 108 ∷ 108 ∷ 115 ∷ space ∷ decimal cells) _ (refl, (refl, (refl, (refl, (refl, (refl, no-newline cells))))))
-    (without-both newline (space ∷ 98 ∷ 121 ∷ 116 ∷ 101 ∷ 115 ∷ space ∷ decimal bytes) _ (refl, (refl, (refl, (refl, (refl, (refl, (refl, no-newline bytes)))))))
-    (refl, (refl, (refl, (refl, (refl, (refl, (refl, (refl, (refl, no-newline columns))))))))))
+header_one_line : (cells bytes columns : ℕ) → Without newline (header_text cells bytes columns)
+header_one_line cells bytes columns =
+    without_both newline (99 ∷ 101 ∷ 108 ∷ 108 ∷ 115 ∷ space ∷ decimal cells) _ (refl, (refl, (refl, (refl, (refl, (refl, no_newline cells))))))
+    (without_both newline (space ∷ 98 ∷ 121 ∷ 116 ∷ 101 ∷ 115 ∷ space ∷ decimal bytes) _ (refl, (refl, (refl, (refl, (refl, (refl, (refl, no_newline bytes)))))))
+    (refl, (refl, (refl, (refl, (refl, (refl, (refl, (refl, (refl, no_newline columns))))))))))
 
-header-words : (cells bytes columns : ℕ) → split space (header-text cells bytes columns)
+header_words : (cells bytes columns : ℕ) → split space (header_text cells bytes columns)
     ≡ (99 ∷ 101 ∷ 108 ∷ 108 ∷ 115 ∷ []) ∷ decimal cells
     ∷ split space (98 ∷ 121 ∷ 116 ∷ 101 ∷ 115 ∷ space ∷ (decimal bytes ++ (space ∷ 99 ∷ 111 ∷ 108 ∷ 117 ∷ 109 ∷ 110 ∷ 115 ∷ space ∷ decimal columns)))
-header-words cells bytes columns =
+header_words cells bytes columns =
     let later : List ℕ = 98 ∷ 121 ∷ 116 ∷ 101 ∷ 115 ∷ space ∷ (decimal bytes ++ (space ∷ 99 ∷ 111 ∷ 108 ∷ 117 ∷ 109 ∷ 110 ∷ 115 ∷ space ∷ decimal columns)) in
     split_at space (99 ∷ 101 ∷ 108 ∷ 108 ∷ 115 ∷ []) (decimal cells ++ (space ∷ later)) (refl, (refl, (refl, (refl, (refl, tt)))))
-    ∙ ap (λ (ws : List (List ℕ)). (99 ∷ 101 ∷ 108 ∷ 108 ∷ 115 ∷ []) ∷ ws) (split_at space (decimal cells) later (no-space cells))
+    ∙ ap (λ (ws : List (List ℕ)). (99 ∷ 101 ∷ 108 ∷ 108 ∷ 115 ∷ []) ∷ ws) (split_at space (decimal cells) later (no_space cells))
 
-abbrev totals-text : (e p n : ℕ) → List ℕ
-totals-text e p n =
+abbrev totals_text : (e p n : ℕ) → List ℕ
+totals_text e p n =
     107 ∷ 105 ∷ 110 ∷ 100 ∷ 115 ∷ space ∷ (decimal e ++ (space ∷ (decimal p ++ (space ∷ (decimal n ++ (space ∷ 116 ∷ 111 ∷ 116 ∷ 97 ∷ 108 ∷ space ∷ decimal (e + p + n)))))))
 
-totals-ends : (e p n : ℕ) → totals-line e p n ≡ totals-text e p n ++ (newline ∷ [])
-totals-ends e p n =
+totals_ends : (e p n : ℕ) → totals_line e p n ≡ totals_text e p n ++ (newline ∷ [])
+totals_ends e p n =
     let t : List ℕ = space ∷ 116 ∷ 111 ∷ 116 ∷ 97 ∷ 108 ∷ space ∷ decimal (e + p + n) in
     ap (λ (l : List ℕ). 107 ∷ 105 ∷ 110 ∷ 100 ∷ 115 ∷ space ∷ l)
     (ap (λ (l : List ℕ). decimal e ++ (space ∷ l)) (ap (λ (l : List ℕ). decimal p ++ (space ∷ l)) (sym (append_assoc (decimal n) t (newline ∷ []))) ∙ sym (append_assoc (decimal p) (space ∷ (decimal n ++ t)) (newline ∷ [])))
     ∙ sym (append_assoc (decimal e) (space ∷ (decimal p ++ (space ∷ (decimal n ++ t)))) (newline ∷ [])))
 
-totals-one-line : (e p n : ℕ) → Without newline (totals-text e p n)
-totals-one-line e p n =
-    let last : Without newline (space ∷ 116 ∷ 111 ∷ 116 ∷ 97 ∷ 108 ∷ space ∷ decimal (e + p + n)) = (refl, (refl, (refl, (refl, (refl, (refl, (refl, no-newline (e + p + n)))))))) in
-    let nodes = without-both newline (decimal n) (space ∷ 116 ∷ 111 ∷ 116 ∷ 97 ∷ 108 ∷ space ∷ decimal (e + p + n)) (no-newline n) last in
-    let parts = without-both newline (decimal p) (space ∷ (decimal n ++ (space ∷ 116 ∷ 111 ∷ 116 ∷ 97 ∷ 108 ∷ space ∷ decimal (e + p + n)))) (no-newline p) (refl, nodes) in
+totals_one_line : (e p n : ℕ) → Without newline (totals_text e p n)
+totals_one_line e p n =
+    let last : Without newline (space ∷ 116 ∷ 111 ∷ 116 ∷ 97 ∷ 108 ∷ space ∷ decimal (e + p + n)) = (refl, (refl, (refl, (refl, (refl, (refl, (refl, no_newline (e + p + n)))))))) in
+    let nodes = without_both newline (decimal n) (space ∷ 116 ∷ 111 ∷ 116 ∷ 97 ∷ 108 ∷ space ∷ decimal (e + p + n)) (no_newline n) last in
+    let parts = without_both newline (decimal p) (space ∷ (decimal n ++ (space ∷ 116 ∷ 111 ∷ 116 ∷ 97 ∷ 108 ∷ space ∷ decimal (e + p + n)))) (no_newline p) (refl, nodes) in
     let expressions =
-    without-both newline (decimal e) (space ∷ (decimal p ++ (space ∷ (decimal n ++ (space ∷ 116 ∷ 111 ∷ 116 ∷ 97 ∷ 108 ∷ space ∷ decimal (e + p + n)))))) (no-newline e) (refl, parts) in
+    without_both newline (decimal e) (space ∷ (decimal p ++ (space ∷ (decimal n ++ (space ∷ 116 ∷ 111 ∷ 116 ∷ 97 ∷ 108 ∷ space ∷ decimal (e + p + n)))))) (no_newline e) (refl, parts) in
     (refl, (refl, (refl, (refl, (refl, (refl, expressions))))))
 
-totals-words : (e p n : ℕ) → split space (totals-text e p n)
+totals_words : (e p n : ℕ) → split space (totals_text e p n)
     ≡ (107 ∷ 105 ∷ 110 ∷ 100 ∷ 115 ∷ []) ∷ decimal e ∷ decimal p ∷ decimal n ∷ (116 ∷ 111 ∷ 116 ∷ 97 ∷ 108 ∷ []) ∷ decimal (e + p + n) ∷ []
-totals-words e p n =
+totals_words e p n =
     let total : List ℕ = 116 ∷ 111 ∷ 116 ∷ 97 ∷ 108 ∷ [] in
     let last : List ℕ = decimal (e + p + n) in
-    let from-nodes : List ℕ = decimal n ++ (space ∷ (total ++ (space ∷ last))) in
-    let from_parts : List ℕ = decimal p ++ (space ∷ from-nodes) in
+    let from_nodes : List ℕ = decimal n ++ (space ∷ (total ++ (space ∷ last))) in
+    let from_parts : List ℕ = decimal p ++ (space ∷ from_nodes) in
     split_at space (107 ∷ 105 ∷ 110 ∷ 100 ∷ 115 ∷ []) (decimal e ++ (space ∷ from_parts)) (refl, (refl, (refl, (refl, (refl, tt)))))
     ∙ ap (λ (ws : List (List ℕ)). (107 ∷ 105 ∷ 110 ∷ 100 ∷ 115 ∷ []) ∷ ws)
-    (split_at space (decimal e) from_parts (no-space e)
+    (split_at space (decimal e) from_parts (no_space e)
     ∙ ap (λ (ws : List (List ℕ)). decimal e ∷ ws)
-    (split_at space (decimal p) from-nodes (no-space p)
+    (split_at space (decimal p) from_nodes (no_space p)
     ∙ ap (λ (ws : List (List ℕ)). decimal p ∷ ws)
-    (split_at space (decimal n) (total ++ (space ∷ last)) (no-space n)
+    (split_at space (decimal n) (total ++ (space ∷ last)) (no_space n)
     ∙ ap (λ (ws : List (List ℕ)). decimal n ∷ ws)
     (split_at space total last (refl, (refl, (refl, (refl, (refl, tt)))))
-    ∙ ap (λ (ws : List (List ℕ)). total ∷ ws) (split-last space last (no-space (e + p + n)))))))
+    ∙ ap (λ (ws : List (List ℕ)). total ∷ ws) (split_last space last (no_space (e + p + n)))))))
 
 -- ---- the whole listing
 
-pub totals-right : (s : List ℕ) (columns : ℕ) → ((i : ℕ) → i < cell-count s → (cell s i).tag < 256) → cell-count s ≤ 2048 → Totals-right (listing s columns)
+pub totals_right : (s : List ℕ) (columns : ℕ) → ((i : ℕ) → i < cell_count s → (cell s i).tag < 256) → cell_count s ≤ 2048 → TotalsRight (listing s columns)
 unfolding listing cells_of split
-totals-right s columns tags-few h =
+totals_right s columns tags_few h =
     let cells = cells_of s in
-    let e = of-kind is-expression cells in
-    let p = of-kind is-part cells in
-    let n = of-kind is-node cells in
-    let sum : e + p + n ≡ cell-count s = each-counted cells ∙ all-long s in
-    let long : length (cell-texts 0 cells) ≡ cell-count s = texts-long 0 cells ∙ all-long s in
-    let small : (i : ℕ) → i < 0 + cell-count s → (cell s i).tag < 256 = λ i low. tags-few i (omega arith) in
-    let e-is = texts-counted is-expression (cell s) (cell-count s) 0 small in
-    let p-is = texts-counted is-part (cell s) (cell-count s) 0 small in
-    let n-is = texts-counted is-node (cell s) (cell-count s) 0 small in
-    let words = totals-words e p n in
-    let first-words = header-words (cell-count s) (length s) columns in
+    let e = of_kind is_expression cells in
+    let p = of_kind is_part cells in
+    let n = of_kind is_node cells in
+    let sum : e + p + n ≡ cell_count s = each_counted cells ∙ all_long s in
+    let long : length (cell_texts 0 cells) ≡ cell_count s = texts_long 0 cells ∙ all_long s in
+    let small : (i : ℕ) → i < 0 + cell_count s → (cell s i).tag < 256 = λ i low. tags_few i (omega arith) in
+    let e_is = texts_counted is_expression (cell s) (cell_count s) 0 small in
+    let p_is = texts_counted is_part (cell s) (cell_count s) 0 small in
+    let n_is = texts_counted is_node (cell s) (cell_count s) 0 small in
+    let words = totals_words e p n in
+    let first_words = header_words (cell_count s) (length s) columns in
     record {
-      header = header-text (cell-count s) (length s) columns;
-      cells = cell-texts 0 cells;
-      last = totals-text e p n;
+      header = header_text (cell_count s) (length s) columns;
+      cells = cell_texts 0 cells;
+      last = totals_text e p n;
       lines =
-          ap (λ (l : List ℕ). split newline (l ++ (cell-lines 0 cells ++ totals cells))) (header-ends (cell-count s) (length s) columns)
-          ∙ ap (split newline) (append_assoc (header-text (cell-count s) (length s) columns) (newline ∷ []) (cell-lines 0 cells ++ totals cells))
-          ∙ split_at newline (header-text (cell-count s) (length s) columns) (cell-lines 0 cells ++ totals cells) (header-one-line (cell-count s) (length s) columns)
-          ∙ ap (λ (ls : List (List ℕ)). header-text (cell-count s) (length s) columns ∷ ls)
+          ap (λ (l : List ℕ). split newline (l ++ (cell_lines 0 cells ++ totals cells))) (header_ends (cell_count s) (length s) columns)
+          ∙ ap (split newline) (append_assoc (header_text (cell_count s) (length s) columns) (newline ∷ []) (cell_lines 0 cells ++ totals cells))
+          ∙ split_at newline (header_text (cell_count s) (length s) columns) (cell_lines 0 cells ++ totals cells) (header_one_line (cell_count s) (length s) columns)
+          ∙ ap (λ (ls : List (List ℕ)). header_text (cell_count s) (length s) columns ∷ ls)
           (lines_split 0 cells (totals cells)
-          ∙ ap (λ (ls : List (List ℕ)). cell-texts 0 cells ++ ls) (ap (split newline) (totals-ends e p n) ∙ split_at newline (totals-text e p n) [] (totals-one-line e p n)));
-      header-named = ap (λ (ws : List (List ℕ)). get_or ws 0 []) first-words;
-      kinds-named = ap (λ (ws : List (List ℕ)). get_or ws 0 []) words;
-      total-named = ap (λ (ws : List (List ℕ)). get_or ws 4 []) words;
-      nothing-else = ap length words;
+          ∙ ap (λ (ls : List (List ℕ)). cell_texts 0 cells ++ ls) (ap (split newline) (totals_ends e p n) ∙ split_at newline (totals_text e p n) [] (totals_one_line e p n)));
+      header_named = ap (λ (ws : List (List ℕ)). get_or ws 0 []) first_words;
+      kinds_named = ap (λ (ws : List (List ℕ)). get_or ws 0 []) words;
+      total_named = ap (λ (ws : List (List ℕ)). get_or ws 4 []) words;
+      nothing_else = ap length words;
       expressions =
-          ap (λ (ws : List (List ℕ)). number (get_or ws 1 [])) words ∙ number_read e (omega arith) ∙ ap (λ (m : ℕ). some m) (sym e-is);
-      parts = ap (λ (ws : List (List ℕ)). number (get_or ws 2 [])) words ∙ number_read p (omega arith) ∙ ap (λ (m : ℕ). some m) (sym p-is);
-      nodes = ap (λ (ws : List (List ℕ)). number (get_or ws 3 [])) words ∙ number_read n (omega arith) ∙ ap (λ (m : ℕ). some m) (sym n-is);
+          ap (λ (ws : List (List ℕ)). number (get_or ws 1 [])) words ∙ number_read e (omega arith) ∙ ap (λ (m : ℕ). some m) (sym e_is);
+      parts = ap (λ (ws : List (List ℕ)). number (get_or ws 2 [])) words ∙ number_read p (omega arith) ∙ ap (λ (m : ℕ). some m) (sym p_is);
+      nodes = ap (λ (ws : List (List ℕ)). number (get_or ws 3 [])) words ∙ number_read n (omega arith) ∙ ap (λ (m : ℕ). some m) (sym n_is);
       total = ap (λ (ws : List (List ℕ)). number (get_or ws 5 [])) words ∙ number_read (e + p + n) (omega arith) ∙ ap (λ (m : ℕ). some m) (sum ∙ sym long);
-      header-count =
-          ap (λ (ws : List (List ℕ)). number (get_or ws 1 [])) first-words ∙ number_read (cell-count s) (omega arith) ∙ ap (λ (m : ℕ). some m) (sym long);
-      sum = omega (arith, e-is, p-is, n-is, sum, long);
+      header_count =
+          ap (λ (ws : List (List ℕ)). number (get_or ws 1 [])) first_words ∙ number_read (cell_count s) (omega arith) ∙ ap (λ (m : ℕ). some m) (sym long);
+      sum = omega (arith, e_is, p_is, n_is, sum, long);
     }

@@ -1,7 +1,7 @@
 -- The contracts of the functions that write the listing (crate sheet, Listing).
 use Rattle.std.specs.Prelude.{ℕ, ◌+◌, ◌≤◌, ◌<◌, List, [], ◌∷◌, ◌++◌, length, ◌≡◌, Bool, cond}
 use Rattle.sheet.specs.Cell.{Cell}
-use Rattle.sheet.specs.Listing.{decimal, listing, is-expression, is-part, is-node, of-kind}
+use Rattle.sheet.specs.Listing.{decimal, listing, is_expression, is_part, is_node, of_kind}
 use Rattle.cells.specs.Room.{Wrote}
 use Rattle.listing.specs.declared.Kinds.{Kinds}
 
@@ -13,19 +13,19 @@ ended n end = decimal n ++ (end ∷ [])
 pub record FewKinds (k : Kinds) : Type 0 where
   pub few : k.expressions + k.parts + k.nodes < 2048
 
-abbrev one-if : Bool → ℕ
-one-if b = cond b 1 0
+abbrev one_if : Bool → ℕ
+one_if b = cond b 1 0
 
 pub record OneMore (k : Kinds) (tag : ℕ) (r : Kinds) : Type 0 where
-  pub more-expressions : r.expressions ≡ one-if (is-expression tag) + k.expressions
-  pub more_parts : r.parts ≡ one-if (is-part tag) + k.parts
-  pub more-nodes : r.nodes ≡ one-if (is-node tag) + k.nodes
+  pub more_expressions : r.expressions ≡ one_if (is_expression tag) + k.expressions
+  pub more_parts : r.parts ≡ one_if (is_part tag) + k.parts
+  pub more_nodes : r.nodes ≡ one_if (is_node tag) + k.nodes
 
 pub record IsKinds (cells : List Cell) (r : Kinds) : Type 0 where
-  pub expressions-are : r.expressions ≡ of-kind is-expression cells
-  pub parts_are : r.parts ≡ of-kind is-part cells
-  pub nodes-are : r.nodes ≡ of-kind is-node cells
-  pub sum-few : r.expressions + r.parts + r.nodes ≤ 2048
+  pub expressions_are : r.expressions ≡ of_kind is_expression cells
+  pub parts_are : r.parts ≡ of_kind is_part cells
+  pub nodes_are : r.nodes ≡ of_kind is_node cells
+  pub sum_few : r.expressions + r.parts + r.nodes ≤ 2048
 
 -- The listing of the sheet s is written after the first `at` bytes of d. No sheet's listing is longer than 94,323 bytes, so that a slice of that length has
 -- room for every one.

@@ -2,7 +2,7 @@
 // the end of the slice (crate cells).
 ghost use Rattle.std.specs.Prelude.{◌≡◌, [], ◌∷◌, ◌++◌, ◌+◌, ◌*◌, ◌≤◌, ◌<◌, length};
 ghost use Rattle.sheet.specs.Check.{cells_of};
-ghost use Rattle.layout.specs.Layout.{Whole, as-cell};
+ghost use Rattle.layout.specs.Layout.{Whole, as_cell};
 ghost use Rattle.sheet.specs.Listing;
 ghost use Rattle.cells.specs.Room.{Wrote};
 ghost use Rattle.listing.specs.Lines.{ended, Listed, FewKinds, OneMore, IsKinds};
@@ -64,7 +64,7 @@ const NEWLINE: u8 = 10;
 
 // The line of cell i.
 fn cell_line(i: usize, k: layout::Cell, d: &mut [u8], at: usize) -> usize
-    ensures { Wrote d.old at (Listing.cell-line i (as-cell k)) result d.new }
+    ensures { Wrote d.old at (Listing.cell_line i (as_cell k)) result d.new }
 {
     let tag = number(i, SPACE, d, at);
     let flag = number(k.tag as usize, SPACE, d, tag);
@@ -77,7 +77,7 @@ fn cell_line(i: usize, k: layout::Cell, d: &mut [u8], at: usize) -> usize
 // The lines of all cells of the sheet s.
 fn cell_lines(s: &[u8], d: &mut [u8], at: usize) -> usize
     requires { Whole s.now }
-    ensures { Wrote d.old at (Listing.cell-lines 0 (cells_of s.now)) result d.new }
+    ensures { Wrote d.old at (Listing.cell_lines 0 (cells_of s.now)) result d.new }
 {
     let p = layout::parts_of(s);
     let count = p.cells.count;
@@ -189,7 +189,7 @@ pub fn listing(s: &[u8], columns: usize, d: &mut [u8], at: usize) -> usize
 
 // "refused N place P"
 pub fn refusal_line(refused: usize, place: usize, d: &mut [u8], at: usize) -> usize
-    ensures { Wrote d.old at (Listing.refusal-line refused place) result d.new }
+    ensures { Wrote d.old at (Listing.refusal_line refused place) result d.new }
 {
     let a = text(b"refused ", d, at);
     let b = number(refused, SPACE, d, a);

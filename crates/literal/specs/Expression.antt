@@ -7,9 +7,9 @@ use Rattle.std.specs.Float.Ieee as Ieee
 use Rattle.std.specs.Float.{binary64}
 use Rattle.value.specs.Value.{Value, truth, integer, float, string, datum, the_nan, null, mismatch}
 use Rattle.sql.specs.Expression.{Marked, And, Or, IsNull, IsNaN, Identity, Negate, SquareRoot, GreaterThan, LessThan, Add, Divide, Subtract, Multiply, Not, logical, Equal, function, Expression, constant, column, unary, binary, and, or, size, Row}
-use Rattle.literal.specs.Rust.{Run, Ok, Err, Panic, ◌>>=◌, unwrap, expect, assert-eq, ◌⇒◌, ◌&◌, ◌∣◌, ◌if◌, ◌else◌, and_then, push, get, pop, for-each}
-use Rattle.literal.specs.Value.{Departures, i64-eq, as-f64, bytes_eq, bytes_lt, Null?, Boolean?, Integer?, Float?, String?, number?, Boolean, Integer-or, Float, eq, is-undefined, checked-add, checked-div, checked-mul, checked-sub}
-use Rattle.ieee754.specs.Ieee754.{square-root-bits}
+use Rattle.literal.specs.Rust.{Run, Ok, Err, Panic, ◌>>=◌, unwrap, expect, assert_eq, ◌⇒◌, ◌&◌, ◌∣◌, ◌if◌, ◌else◌, and_then, push, get, pop, for_each}
+use Rattle.literal.specs.Value.{Departures, i64_eq, as_f64, bytes_eq, bytes_lt, Null?, Boolean?, Integer?, Float?, String?, number?, Boolean, IntegerOr, Float, eq, is_undefined, checked_add, checked_div, checked_mul, checked_sub}
+use Rattle.ieee754.specs.Ieee754.{square_root_bits}
 
 -- ---- 19: enum Expression, as patterns: the origin, and what the Rust's pattern binds
 
@@ -60,74 +60,74 @@ Equal? (binary og (function f) l r) = none
 
 -- ---- 75: fn evaluate. First the inner matches, in the order in which they stand.
 
-abbrev pub evaluate-and : Value → Value → Run Value
-evaluate-and l r =
+abbrev pub evaluate_and : Value → Value → Run Value
+evaluate_and l r =
     (Boolean? l & Boolean? r ⇒ λ (lhs, rhs). Ok (Boolean (lhs && rhs)))
     else (((Boolean? l & Null? r ⇒ λ (b, n). b) if not) ∣ ((Null? l & Boolean? r ⇒ λ (n, b). b) if not) ⇒ λ b. Ok (Boolean false))
     else ((Boolean? l & Null? r ⇒ λ p. l) ∣ (Null? l & Boolean? r ⇒ λ p. l) ∣ (Null? l & Null? r ⇒ λ p. l) ⇒ λ p. Ok null)
     else Err mismatch
 
-abbrev pub evaluate-or : Value → Value → Run Value
-evaluate-or l r =
+abbrev pub evaluate_or : Value → Value → Run Value
+evaluate_or l r =
     (Boolean? l & Boolean? r ⇒ λ (lhs, rhs). Ok (Boolean (lhs || rhs)))
     else (((Boolean? l & Null? r ⇒ λ (b, n). b) if (λ b. b)) ∣ ((Null? l & Boolean? r ⇒ λ (n, b). b) if (λ b. b)) ⇒ λ b. Ok (Boolean true))
     else ((Boolean? l & Null? r ⇒ λ p. l) ∣ (Null? l & Boolean? r ⇒ λ p. l) ∣ (Null? l & Null? r ⇒ λ p. l) ⇒ λ p. Ok null)
     else Err mismatch
 
-abbrev pub evaluate-not : Value → Run Value
-evaluate-not v =
+abbrev pub evaluate_not : Value → Run Value
+evaluate_not v =
     (Boolean? v ⇒ λ b. Ok (Boolean (not b)))
     else (Null? v ⇒ λ n. Ok null)
     else Err mismatch
 
-abbrev pub evaluate-equal : Value → Value → Run Value
-evaluate-equal l r =
+abbrev pub evaluate_equal : Value → Value → Run Value
+evaluate_equal l r =
     (Boolean? l & Boolean? r ⇒ λ (lhs, rhs). Ok (Boolean (beq lhs rhs)))
-    else (Integer? l & Integer? r ⇒ λ (lhs, rhs). Ok (Boolean (i64-eq lhs rhs)))
-    else (Integer? l & Float? r ⇒ λ (lhs, rhs). Ok (Boolean (Ieee.eq (as-f64 lhs) rhs)))
-    else (Float? l & Integer? r ⇒ λ (lhs, rhs). Ok (Boolean (Ieee.eq lhs (as-f64 rhs))))
+    else (Integer? l & Integer? r ⇒ λ (lhs, rhs). Ok (Boolean (i64_eq lhs rhs)))
+    else (Integer? l & Float? r ⇒ λ (lhs, rhs). Ok (Boolean (Ieee.eq (as_f64 lhs) rhs)))
+    else (Float? l & Integer? r ⇒ λ (lhs, rhs). Ok (Boolean (Ieee.eq lhs (as_f64 rhs))))
     else (Float? l & Float? r ⇒ λ (lhs, rhs). Ok (Boolean (Ieee.eq lhs rhs)))
     else (String? l & String? r ⇒ λ (lhs, rhs). Ok (Boolean (bytes_eq lhs rhs)))
     else (Null? l ∣ Null? r ⇒ λ n. Ok null)
     else Err mismatch
 
-abbrev pub evaluate-greater-than : Value → Value → Run Value
-evaluate-greater-than l r =
+abbrev pub evaluate_greater_than : Value → Value → Run Value
+evaluate_greater_than l r =
     (Boolean? l & Boolean? r ⇒ λ (lhs, rhs). Ok (Boolean (lhs && not rhs)))
     else (Integer? l & Integer? r ⇒ λ (lhs, rhs). Ok (Boolean (lt_z rhs lhs)))
-    else (Integer? l & Float? r ⇒ λ (lhs, rhs). Ok (Boolean (Ieee.lt rhs (as-f64 lhs))))
-    else (Float? l & Integer? r ⇒ λ (lhs, rhs). Ok (Boolean (Ieee.lt (as-f64 rhs) lhs)))
+    else (Integer? l & Float? r ⇒ λ (lhs, rhs). Ok (Boolean (Ieee.lt rhs (as_f64 lhs))))
+    else (Float? l & Integer? r ⇒ λ (lhs, rhs). Ok (Boolean (Ieee.lt (as_f64 rhs) lhs)))
     else (Float? l & Float? r ⇒ λ (lhs, rhs). Ok (Boolean (Ieee.lt rhs lhs)))
     else (String? l & String? r ⇒ λ (lhs, rhs). Ok (Boolean (bytes_lt rhs lhs)))
     else (Null? l ∣ Null? r ⇒ λ n. Ok null)
     else Err mismatch
 
-abbrev pub evaluate-less-than : Value → Value → Run Value
-evaluate-less-than l r =
+abbrev pub evaluate_less_than : Value → Value → Run Value
+evaluate_less_than l r =
     (Boolean? l & Boolean? r ⇒ λ (lhs, rhs). Ok (Boolean (not lhs && rhs)))
     else (Integer? l & Integer? r ⇒ λ (lhs, rhs). Ok (Boolean (lt_z lhs rhs)))
-    else (Integer? l & Float? r ⇒ λ (lhs, rhs). Ok (Boolean (Ieee.lt (as-f64 lhs) rhs)))
-    else (Float? l & Integer? r ⇒ λ (lhs, rhs). Ok (Boolean (Ieee.lt lhs (as-f64 rhs))))
+    else (Integer? l & Float? r ⇒ λ (lhs, rhs). Ok (Boolean (Ieee.lt (as_f64 lhs) rhs)))
+    else (Float? l & Integer? r ⇒ λ (lhs, rhs). Ok (Boolean (Ieee.lt lhs (as_f64 rhs))))
     else (Float? l & Float? r ⇒ λ (lhs, rhs). Ok (Boolean (Ieee.lt lhs rhs)))
     else (String? l & String? r ⇒ λ (lhs, rhs). Ok (Boolean (bytes_lt lhs rhs)))
     else (Null? l ∣ Null? r ⇒ λ n. Ok null)
     else Err mismatch
 
-abbrev pub evaluate-is-nan : Value → Run Value
-evaluate-is-nan v =
+abbrev pub evaluate_is_nan : Value → Run Value
+evaluate_is_nan v =
     (Float? v ⇒ λ f. Ok (Boolean (Ieee.is_nan f)))
     else (Null? v ⇒ λ n. Ok null)
     else Err mismatch
 
-abbrev pub evaluate-identity : Value → Run Value
-evaluate-identity v =
+abbrev pub evaluate_identity : Value → Run Value
+evaluate_identity v =
     (number? v ∣ Null? v ⇒ λ value. Ok value)
     else Err mismatch
 
 -- `-i` panics where the negative has no 64 bits, unless document 01 departs.
-abbrev pub evaluate-negate : Departures → Value → Run Value
-evaluate-negate departures v =
-    (Integer? v ⇒ λ i. Integer-or departures.overflowed (neg_ℤ i))
+abbrev pub evaluate_negate : Departures → Value → Run Value
+evaluate_negate departures v =
+    (Integer? v ⇒ λ i. IntegerOr departures.overflowed (neg_ℤ i))
     else (Float? v ⇒ λ f. Ok (Float (Ieee.neg f)))
     else (Null? v ⇒ λ n. Ok null)
     else Err mismatch
@@ -145,11 +145,11 @@ pattern? (datum (float bits)) = some bits
 pattern? (datum (string r t)) = none
 
 abbrev pub sqrt : ℕ → Value
-sqrt bits = datum (float (square-root-bits bits))
+sqrt bits = datum (float (square_root_bits bits))
 
-abbrev pub evaluate-square-root : Value → Run Value
-evaluate-square-root v =
-    (Integer? v if from_zero ⇒ λ i. Ok (sqrt (Ieee.to_bits binary64 (as-f64 i))))
+abbrev pub evaluate_square_root : Value → Run Value
+evaluate_square_root v =
+    (Integer? v if from_zero ⇒ λ i. Ok (sqrt (Ieee.to_bits binary64 (as_f64 i))))
     else (pattern? v ⇒ λ bits. Ok (sqrt bits))
     else (Null? v ⇒ λ n. Ok null)
     else Err mismatch
@@ -159,34 +159,34 @@ module _ (departures : Departures) where
   abbrev pub evaluate : Option Row → Expression → Run Value
   evaluate row (constant og value) = Ok value
   evaluate row (column og index) = expect (and_then row (λ r. get r index))
-  evaluate row (binary og (logical And) lhs rhs) = evaluate row lhs >>= λ l. evaluate row rhs >>= λ r. evaluate-and l r
-  evaluate row (binary og (logical Or) lhs rhs) = evaluate row lhs >>= λ l. evaluate row rhs >>= λ r. evaluate-or l r
-  evaluate row (unary og Not expr) = evaluate row expr >>= λ v. evaluate-not v
-  evaluate row (binary og Equal lhs rhs) = evaluate row lhs >>= λ l. evaluate row rhs >>= λ r. evaluate-equal l r
-  evaluate row (binary og (function GreaterThan) lhs rhs) = evaluate row lhs >>= λ l. evaluate row rhs >>= λ r. evaluate-greater-than l r
-  evaluate row (binary og (function LessThan) lhs rhs) = evaluate row lhs >>= λ l. evaluate row rhs >>= λ r. evaluate-less-than l r
+  evaluate row (binary og (logical And) lhs rhs) = evaluate row lhs >>= λ l. evaluate row rhs >>= λ r. evaluate_and l r
+  evaluate row (binary og (logical Or) lhs rhs) = evaluate row lhs >>= λ l. evaluate row rhs >>= λ r. evaluate_or l r
+  evaluate row (unary og Not expr) = evaluate row expr >>= λ v. evaluate_not v
+  evaluate row (binary og Equal lhs rhs) = evaluate row lhs >>= λ l. evaluate row rhs >>= λ r. evaluate_equal l r
+  evaluate row (binary og (function GreaterThan) lhs rhs) = evaluate row lhs >>= λ l. evaluate row rhs >>= λ r. evaluate_greater_than l r
+  evaluate row (binary og (function LessThan) lhs rhs) = evaluate row lhs >>= λ l. evaluate row rhs >>= λ r. evaluate_less_than l r
   evaluate row (unary og (function IsNull) expr) = evaluate row expr >>= λ v. Ok (Boolean (eq v null))
-  evaluate row (unary og (function IsNaN) expr) = evaluate row expr >>= λ v. evaluate-is-nan v
-  evaluate row (binary og (function Add) lhs rhs) = evaluate row lhs >>= λ l. evaluate row rhs >>= λ r. checked-add l r
-  evaluate row (binary og (function Divide) lhs rhs) = evaluate row lhs >>= λ l. evaluate row rhs >>= λ r. checked-div departures l r
-  evaluate row (binary og (function Multiply) lhs rhs) = evaluate row lhs >>= λ l. evaluate row rhs >>= λ r. checked-mul l r
-  evaluate row (unary og (function Identity) expr) = evaluate row expr >>= λ v. evaluate-identity v
-  evaluate row (unary og (function Negate) expr) = evaluate row expr >>= λ v. evaluate-negate departures v
-  evaluate row (unary og (function SquareRoot) expr) = evaluate row expr >>= λ v. evaluate-square-root v
-  evaluate row (binary og (function Subtract) lhs rhs) = evaluate row lhs >>= λ l. evaluate row rhs >>= λ r. checked-sub l r
+  evaluate row (unary og (function IsNaN) expr) = evaluate row expr >>= λ v. evaluate_is_nan v
+  evaluate row (binary og (function Add) lhs rhs) = evaluate row lhs >>= λ l. evaluate row rhs >>= λ r. checked_add l r
+  evaluate row (binary og (function Divide) lhs rhs) = evaluate row lhs >>= λ l. evaluate row rhs >>= λ r. checked_div departures l r
+  evaluate row (binary og (function Multiply) lhs rhs) = evaluate row lhs >>= λ l. evaluate row rhs >>= λ r. checked_mul l r
+  evaluate row (unary og (function Identity) expr) = evaluate row expr >>= λ v. evaluate_identity v
+  evaluate row (unary og (function Negate) expr) = evaluate row expr >>= λ v. evaluate_negate departures v
+  evaluate row (unary og (function SquareRoot) expr) = evaluate row expr >>= λ v. evaluate_square_root v
+  evaluate row (binary og (function Subtract) lhs rhs) = evaluate row lhs >>= λ l. evaluate row rhs >>= λ r. checked_sub l r
 
 -- ---- 212: fn walk. The visitor writes to s.
 
 -- `if !visitor(self) { return false; }`, and &&
-abbrev pub and-on : {S : Type 0} → S × Bool → (S → S × Bool) → S × Bool
-and-on (s, false) f = (s, false)
-and-on (s, true) f = f s
+abbrev pub and_on : {S : Type 0} → S × Bool → (S → S × Bool) → S × Bool
+and_on (s, false) f = (s, false)
+and_on (s, true) f = f s
 
 abbrev pub walk : {S : Type 0} → (S → Expression → S × Bool) → S → Expression → S × Bool
-walk visitor s (binary og o lhs rhs) = and-on (visitor s (binary og o lhs rhs)) (λ t. and-on (walk visitor t lhs) (λ u. walk visitor u rhs))
-walk visitor s (unary og o expr) = and-on (visitor s (unary og o expr)) (λ t. walk visitor t expr)
-walk visitor s (constant og v) = and-on (visitor s (constant og v)) (λ t. (t, true))
-walk visitor s (column og c) = and-on (visitor s (column og c)) (λ t. (t, true))
+walk visitor s (binary og o lhs rhs) = and_on (visitor s (binary og o lhs rhs)) (λ t. and_on (walk visitor t lhs) (λ u. walk visitor u rhs))
+walk visitor s (unary og o expr) = and_on (visitor s (unary og o expr)) (λ t. walk visitor t expr)
+walk visitor s (constant og v) = and_on (visitor s (constant og v)) (λ t. (t, true))
+walk visitor s (column og c) = and_on (visitor s (column og c)) (λ t. (t, true))
 
 -- ---- 244: fn contains
 
@@ -195,145 +195,145 @@ contains visitor self = not (walk (λ s e. (s, not (visitor e))) true self).1
 
 -- ---- 250: fn transform
 
-abbrev pub transform-operands : (Expression → Run Expression) → Expression → Run Expression
-transform-operands xform (binary og o lhs rhs) = do
+abbrev pub transform_operands : (Expression → Run Expression) → Expression → Run Expression
+transform_operands xform (binary og o lhs rhs) = do
   l ← xform lhs
   r ← xform rhs
   Ok (binary og o l r)
-transform-operands xform (unary og o expr) = do
+transform_operands xform (unary og o expr) = do
   e ← xform expr
   Ok (unary og o e)
-transform-operands xform (constant og v) = Ok (constant og v)
-transform-operands xform (column og c) = Ok (column og c)
+transform_operands xform (constant og v) = Ok (constant og v)
+transform_operands xform (column og c) = Ok (column og c)
 
 abbrev pub transform : (before after : Expression → Run Expression) → ℕ → Expression → Run Expression
 transform before after zero self = Panic
-transform before after (suc depth) self = before self >>= transform-operands (transform before after depth) >>= after
+transform before after (suc depth) self = before self >>= transform_operands (transform before after depth) >>= after
 
 -- ---- 331: fn into_nnf
 
 -- match *inner
-abbrev pub nnf-match : ℕ → Expression → Expression
-nnf-match og inner =
+abbrev pub nnf_match : ℕ → Expression → Expression
+nnf_match og inner =
     (And? inner ⇒ λ (o, lhs, rhs). or og (unary og Not lhs) (unary og Not rhs))
     else (Or? inner ⇒ λ (o, lhs, rhs). and og (unary og Not lhs) (unary og Not rhs))
     else (Not? inner ⇒ λ (o, inner). inner)
     else unary og Not inner
 
 -- let Not(inner) = expr else { return expr; }
-abbrev pub nnf-xform : Expression → Expression
-nnf-xform expr =
-    (Not? expr ⇒ λ (og, inner). nnf-match og inner)
+abbrev pub nnf_xform : Expression → Expression
+nnf_xform expr =
+    (Not? expr ⇒ λ (og, inner). nnf_match og inner)
     else expr
 
-abbrev pub into-nnf : Expression → Run Expression
-into-nnf self = unwrap (transform (λ e. Ok (nnf-xform e)) Ok (size self) self)
+abbrev pub into_nnf : Expression → Run Expression
+into_nnf self = unwrap (transform (λ e. Ok (nnf_xform e)) Ok (size self) self)
 
 -- ---- 292: fn into_cnf
 
 -- match (*lhs, *rhs)
-abbrev pub cnf-match : ℕ → Expression → Expression → Expression
-cnf-match og lhs rhs =
+abbrev pub cnf_match : ℕ → Expression → Expression → Expression
+cnf_match og lhs rhs =
     (And? lhs ⇒ λ (o, l, r). and og (or og l rhs) (or og r rhs))
     else (And? rhs ⇒ λ (o, l, r). and og (or og lhs l) (or og lhs r))
     else or og lhs rhs
 
 -- let Or(lhs, rhs) = expr else { return expr; }
-abbrev pub cnf-xform : Expression → Expression
-cnf-xform expr =
-    (Or? expr ⇒ λ (og, lhs, rhs). cnf-match og lhs rhs)
+abbrev pub cnf_xform : Expression → Expression
+cnf_xform expr =
+    (Or? expr ⇒ λ (og, lhs, rhs). cnf_match og lhs rhs)
     else expr
 
-abbrev pub into-cnf : Expression → Run Expression
-into-cnf self = do
-  nnf ← into-nnf self
-  unwrap (transform (λ e. Ok (cnf-xform e)) Ok (size nnf) nnf)
+abbrev pub into_cnf : Expression → Run Expression
+into_cnf self = do
+  nnf ← into_nnf self
+  unwrap (transform (λ e. Ok (cnf_xform e)) Ok (size nnf) nnf)
 
 -- ---- 314: fn into_cnf_vec
 
 -- the loop's body; `on` is its next round
-abbrev pub cnf-round : (on : (cnf stack : List Expression) → Run (List Expression)) → (cnf : List Expression) → Expression → (stack : List Expression) → Run (List Expression)
-cnf-round on cnf expr stack =
+abbrev pub cnf_round : (on : (cnf stack : List Expression) → Run (List Expression)) → (cnf : List Expression) → Expression → (stack : List Expression) → Run (List Expression)
+cnf_round on cnf expr stack =
     (And? expr ⇒ λ (og, lhs, rhs). on cnf (stack ++ (rhs ∷ lhs ∷ [])))
     else on (push cnf expr) stack
 
 -- while let Some(expr) = stack.pop()
-abbrev pub cnf-loop : ℕ → (cnf stack : List Expression) → Run (List Expression)
-cnf-loop zero cnf stack = Panic
-cnf-loop (suc rounds) cnf stack =
-    (pop stack ⇒ λ (expr, stack). cnf-round (cnf-loop rounds) cnf expr stack)
+abbrev pub cnf_loop : ℕ → (cnf stack : List Expression) → Run (List Expression)
+cnf_loop zero cnf stack = Panic
+cnf_loop (suc rounds) cnf stack =
+    (pop stack ⇒ λ (expr, stack). cnf_round (cnf_loop rounds) cnf expr stack)
     else Ok cnf
 
-abbrev pub into-cnf-vec : Expression → Run (List Expression)
-into-cnf-vec self = do
-  cnf ← into-cnf self
-  cnf-loop (suc (size cnf)) [] (cnf ∷ [])
+abbrev pub into_cnf_vec : Expression → Run (List Expression)
+into_cnf_vec self = do
+  cnf ← into_cnf self
+  cnf_loop (suc (size cnf)) [] (cnf ∷ [])
 
 -- ---- 354: fn and_vec
 
-abbrev pub and-vec : ℕ → List Expression → Option Expression
-and-vec new [] = none
-and-vec new (expr ∷ iter) = some (for-each (λ expr rhs. and new expr rhs) expr iter)
+abbrev pub and_vec : ℕ → List Expression → Option Expression
+and_vec new [] = none
+and_vec new (expr ∷ iter) = some (for_each (λ expr rhs. and new expr rhs) expr iter)
 
 -- ---- 365: fn is_column_lookup
 
-abbrev pub is-column-lookup : Expression → Option ℕ
-is-column-lookup (binary og Equal lhs rhs) = (Column? lhs & Constant? rhs ⇒ λ (c, v). c.1) ∣ (Constant? lhs & Column? rhs ⇒ λ (v, c). c.1)
-is-column-lookup (unary og (function IsNull) expr) = Column? expr ⇒ λ c. c.1
-is-column-lookup (unary og (function IsNaN) expr) = Column? expr ⇒ λ c. c.1
-is-column-lookup (binary og (logical Or) lhs rhs) = (is-column-lookup lhs & is-column-lookup rhs) if (λ (l, r). eqb l r) ⇒ λ (l, r). l
-is-column-lookup (constant og v) = none
-is-column-lookup (column og c) = none
-is-column-lookup (unary og Not x) = none
-is-column-lookup (unary og (function Identity) x) = none
-is-column-lookup (unary og (function Negate) x) = none
-is-column-lookup (unary og (function SquareRoot) x) = none
-is-column-lookup (binary og (logical And) l r) = none
-is-column-lookup (binary og (function f) l r) = none
+abbrev pub is_column_lookup : Expression → Option ℕ
+is_column_lookup (binary og Equal lhs rhs) = (Column? lhs & Constant? rhs ⇒ λ (c, v). c.1) ∣ (Constant? lhs & Column? rhs ⇒ λ (v, c). c.1)
+is_column_lookup (unary og (function IsNull) expr) = Column? expr ⇒ λ c. c.1
+is_column_lookup (unary og (function IsNaN) expr) = Column? expr ⇒ λ c. c.1
+is_column_lookup (binary og (logical Or) lhs rhs) = (is_column_lookup lhs & is_column_lookup rhs) if (λ (l, r). eqb l r) ⇒ λ (l, r). l
+is_column_lookup (constant og v) = none
+is_column_lookup (column og c) = none
+is_column_lookup (unary og Not x) = none
+is_column_lookup (unary og (function Identity) x) = none
+is_column_lookup (unary og (function Negate) x) = none
+is_column_lookup (unary og (function SquareRoot) x) = none
+is_column_lookup (binary og (logical And) l r) = none
+is_column_lookup (binary og (function f) l r) = none
 
 -- ---- 393: fn into_column_values. Each value gets the origin of the constant, or of the Is, that it was.
 
-abbrev pub into-column-values : ℕ → Expression → Run (List (Marked Value))
-into-column-values index (binary og Equal lhs rhs) =
+abbrev pub into_column_values : ℕ → Expression → Run (List (Marked Value))
+into_column_values index (binary og Equal lhs rhs) =
     ((Column? lhs & Constant? rhs) ∣ (Constant? lhs & Column? rhs ⇒ λ (v, c). (c, v))
-    ⇒ λ (c, value). assert-eq c.1 index (Ok (cond (is-undefined value.1) [] ((value.1, value.0) ∷ []))))
+    ⇒ λ (c, value). assert_eq c.1 index (Ok (cond (is_undefined value.1) [] ((value.1, value.0) ∷ []))))
     else Panic
-into-column-values index (unary og (function IsNull) expr) = (Column? expr ⇒ λ c. assert-eq c.1 index (Ok ((null, og) ∷ []))) else Panic
-into-column-values index (unary og (function IsNaN) expr) = (Column? expr ⇒ λ c. assert-eq c.1 index (Ok ((datum (float the_nan), og) ∷ []))) else Panic
-into-column-values index (binary og (logical Or) lhs rhs) = do
-  values ← into-column-values index lhs
-  more ← into-column-values index rhs
+into_column_values index (unary og (function IsNull) expr) = (Column? expr ⇒ λ c. assert_eq c.1 index (Ok ((null, og) ∷ []))) else Panic
+into_column_values index (unary og (function IsNaN) expr) = (Column? expr ⇒ λ c. assert_eq c.1 index (Ok ((datum (float the_nan), og) ∷ []))) else Panic
+into_column_values index (binary og (logical Or) lhs rhs) = do
+  values ← into_column_values index lhs
+  more ← into_column_values index rhs
   Ok (values ++ more)
-into-column-values index (constant og v) = Panic
-into-column-values index (column og c) = Panic
-into-column-values index (unary og Not x) = Panic
-into-column-values index (unary og (function Identity) x) = Panic
-into-column-values index (unary og (function Negate) x) = Panic
-into-column-values index (unary og (function SquareRoot) x) = Panic
-into-column-values index (binary og (logical And) l r) = Panic
-into-column-values index (binary og (function f) l r) = Panic
+into_column_values index (constant og v) = Panic
+into_column_values index (column og c) = Panic
+into_column_values index (unary og Not x) = Panic
+into_column_values index (unary og (function Identity) x) = Panic
+into_column_values index (unary og (function Negate) x) = Panic
+into_column_values index (unary og (function SquareRoot) x) = Panic
+into_column_values index (binary og (logical And) l r) = Panic
+into_column_values index (binary og (function f) l r) = Panic
 
 -- ---- 424: fn replace_column
 
-abbrev pub replace-xform : (from to : ℕ) → Expression → Expression
-replace-xform from to expr =
+abbrev pub replace_xform : (from to : ℕ) → Expression → Expression
+replace_xform from to expr =
     (Column? expr if (λ (og, i). eqb i from) ⇒ λ (og, i). column og to)
     else expr
 
-abbrev pub replace-column : (from to : ℕ) → Expression → Run Expression
-replace-column from to self = unwrap (transform (λ e. Ok (replace-xform from to e)) Ok (size self) self)
+abbrev pub replace_column : (from to : ℕ) → Expression → Run Expression
+replace_column from to self = unwrap (transform (λ e. Ok (replace_xform from to e)) Ok (size self) self)
 
 -- ---- 433: fn shift_column
 
 -- of an isize: below zero it wraps. (`i as isize` is i itself: a sheet's column numbers have 32 bits, and no pass shifts below zero, proofs/Right.antt.)
-abbrev pub as-usize : ℤ → ℕ
-as-usize (pos i) = i
-as-usize (negsuc i) = 2 ^ 64 - suc i
+abbrev pub as_usize : ℤ → ℕ
+as_usize (pos i) = i
+as_usize (negsuc i) = 2 ^ 64 - suc i
 
-abbrev pub shift-xform : ℤ → Expression → Expression
-shift-xform diff expr =
-    (Column? expr ⇒ λ (og, i). column og (as-usize (pos i +ℤ diff)))
+abbrev pub shift_xform : ℤ → Expression → Expression
+shift_xform diff expr =
+    (Column? expr ⇒ λ (og, i). column og (as_usize (pos i +ℤ diff)))
     else expr
 
-abbrev pub shift-column : ℤ → Expression → Run Expression
-shift-column diff self = unwrap (transform (λ e. Ok (shift-xform diff e)) Ok (size self) self)
+abbrev pub shift_column : ℤ → Expression → Run Expression
+shift_column diff self = unwrap (transform (λ e. Ok (shift_xform diff e)) Ok (size self) self)

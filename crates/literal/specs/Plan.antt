@@ -5,8 +5,8 @@ use Rattle.std.proofs.Math.Option.{Option, none, some}
 use Rattle.value.specs.Value.{Value}
 use Rattle.sql.specs.Schema.{Column, Schema, table_of}
 use Rattle.sql.specs.Expression.{Marked, Expression, size}
-use Rattle.sql.specs.Plan.{Label, unlabelled, unqualified, qualified, by_key, by_index, Leaf, scan, lookup, nothing, values, Other, limit, offset, order, projection, remap, aggregate, filter, other, nested-loop, hash, Node, leaf, over, join}
-use Rattle.literal.specs.Rust.{Run, Ok, Panic, ◌>>=◌, ◌⇒◌, ◌else◌, and_then, unwrap_or, get, first, flatten, position, maximum, try-fold, try-collect, set_at, replicate, enumerate, for-each}
+use Rattle.sql.specs.Plan.{Label, unlabelled, unqualified, qualified, by_key, by_index, Leaf, scan, lookup, nothing, values, Other, limit, offset, order, projection, remap, aggregate, filter, other, nested_loop, hash, Node, leaf, over, join}
+use Rattle.literal.specs.Rust.{Run, Ok, Panic, ◌>>=◌, ◌⇒◌, ◌else◌, and_then, unwrap_or, get, first, flatten, position, maximum, try_fold, try_collect, set_at, replicate, enumerate, for_each}
 use Rattle.literal.specs.Value.{Departures}
 use Rattle.literal.specs.Expression.{Column?}
 use Rattle.literal.specs.Expression as Expression
@@ -14,7 +14,7 @@ use Rattle.literal.specs.Expression as Expression
 -- ---- 88: Plan::optimize, of a Select
 
 abbrev pub optimize : List (Node → Run Node) → Node → Run Node
-optimize optimizers root = try-fold (λ node opt. opt node) root optimizers
+optimize optimizers root = try_fold (λ node opt. opt node) root optimizers
 
 -- ---- 108: enum Node, as patterns: what the Rust's patterns bind, in the order in which the enum declares it, the origin first where it is asked for
 
@@ -28,8 +28,8 @@ Filter? (join og outer j left right) = none
 abbrev pub HashJoin? : Node → Option (ℕ × Node × ℕ × Node × ℕ × Bool)
 HashJoin? (leaf og l) = none
 HashJoin? (over og o source) = none
-HashJoin? (join og outer (nested-loop predicate) left right) = none
-HashJoin? (join og outer (hash left-column right-column) left right) = some (og, left, left-column, right, right-column, outer)
+HashJoin? (join og outer (nested_loop predicate) left right) = none
+HashJoin? (join og outer (hash left_column right_column) left right) = some (og, left, left_column, right, right_column, outer)
 
 abbrev pub leaf? : Node → Option (ℕ × Leaf)
 leaf? (leaf og l) = some (og, l)
@@ -42,16 +42,16 @@ other? (over og (filter predicate) source) = none
 other? (over og (other o) source) = some (source, o)
 other? (join og outer j left right) = none
 
-abbrev pub index-values? : Leaf → Option (List (Marked Value))
-index-values? (scan table alias predicate) = none
-index-values? (lookup by_key table alias constants) = none
-index-values? (lookup (by_index c) table alias constants) = some constants
-index-values? (nothing labels) = none
-index-values? (values rows) = none
+abbrev pub index_values? : Leaf → Option (List (Marked Value))
+index_values? (scan table alias predicate) = none
+index_values? (lookup by_key table alias constants) = none
+index_values? (lookup (by_index c) table alias constants) = some constants
+index_values? (nothing labels) = none
+index_values? (values rows) = none
 
 -- its values
 abbrev pub IndexLookup? : Node → Option (List (Marked Value))
-IndexLookup? node = and_then (leaf? node) (λ (og, l). index-values? l)
+IndexLookup? node = and_then (leaf? node) (λ (og, l). index_values? l)
 
 abbrev pub keys? : Leaf → Option (List (Marked Value))
 keys? (scan table alias predicate) = none
@@ -70,7 +70,7 @@ limit? (offset amount) = none
 limit? (order key) = none
 limit? (projection items) = none
 limit? (remap targets) = none
-limit? (aggregate group-by aggregates) = none
+limit? (aggregate group_by aggregates) = none
 
 -- its limit
 abbrev pub Limit? : Node → Option ℕ
@@ -80,8 +80,8 @@ Limit? node = and_then (other? node) (λ (source, o). limit? o)
 abbrev pub NestedLoopJoin? : Node → Option (ℕ × Node × Node × Option Expression × Bool)
 NestedLoopJoin? (leaf og l) = none
 NestedLoopJoin? (over og o source) = none
-NestedLoopJoin? (join og outer (nested-loop predicate) left right) = some (og, left, right, predicate, outer)
-NestedLoopJoin? (join og outer (hash left-column right-column) left right) = none
+NestedLoopJoin? (join og outer (nested_loop predicate) left right) = some (og, left, right, predicate, outer)
+NestedLoopJoin? (join og outer (hash left_column right_column) left right) = none
 
 abbrev pub columns? : Leaf → Option (List (Marked Label))
 columns? (scan table alias predicate) = none
@@ -98,7 +98,7 @@ offset? (source, offset amount) = some source
 offset? (source, order key) = none
 offset? (source, projection items) = none
 offset? (source, remap targets) = none
-offset? (source, aggregate group-by aggregates) = none
+offset? (source, aggregate group_by aggregates) = none
 
 -- its source
 abbrev pub Offset? : Node → Option Node
@@ -110,7 +110,7 @@ order? (source, offset amount) = none
 order? (source, order key) = some source
 order? (source, projection items) = none
 order? (source, remap targets) = none
-order? (source, aggregate group-by aggregates) = none
+order? (source, aggregate group_by aggregates) = none
 
 -- its source
 abbrev pub Order? : Node → Option Node
@@ -122,7 +122,7 @@ projection? (source, offset amount) = none
 projection? (source, order key) = none
 projection? (source, projection items) = some (source, items)
 projection? (source, remap targets) = none
-projection? (source, aggregate group-by aggregates) = none
+projection? (source, aggregate group_by aggregates) = none
 
 -- its source and items
 abbrev pub Projection? : Node → Option (Node × List (Expression × Label × ℕ))
@@ -165,7 +165,7 @@ module _ (schema : Schema) where
   abbrev pub columns : Node → ℕ
   columns (leaf og (lookup access table alias constants)) = length (table_of schema table).columns
   columns (leaf og (scan table alias predicate)) = length (table_of schema table).columns
-  columns (over og (other (aggregate group-by aggregates)) source) = length aggregates + length group-by
+  columns (over og (other (aggregate group_by aggregates)) source) = length aggregates + length group_by
   columns (over og (other (projection items)) source) = length (expressions items)
   columns (over og (other (remap targets)) source) = unwrap_or 0 (maximum (map (λ i. suc i) (flatten (targets_of targets))))
   columns (join og outer j left right) = columns left + columns right
@@ -179,11 +179,11 @@ module _ (schema : Schema) where
 -- ---- 213: fn column_label
 
 -- Some(Label::None) | None
-abbrev pub no-alias? : Option Label → Option Bool
-no-alias? none = some true
-no-alias? (some unlabelled) = some true
-no-alias? (some (unqualified name)) = none
-no-alias? (some (qualified table name)) = none
+abbrev pub no_alias? : Option Label → Option Bool
+no_alias? none = some true
+no_alias? (some unlabelled) = some true
+no_alias? (some (unqualified name)) = none
+no_alias? (some (qualified table name)) = none
 
 -- t == Some(index)
 abbrev pub is_some : ℕ → Option ℕ → Bool
@@ -192,49 +192,49 @@ is_some index (some t) = eqb t index
 
 module _ (departures : Departures) (schema : Schema) where
   -- table.columns[index]
-  abbrev pub column-at : ℕ → ℕ → Run Column
-  column-at table index = (get (table_of schema table).columns index ⇒ λ c. Ok c) else departures.no-such-column
+  abbrev pub column_at : ℕ → ℕ → Run Column
+  column_at table index = (get (table_of schema table).columns index ⇒ λ c. Ok c) else departures.no_such_column
 
-  abbrev pub table-label : ℕ → Option ℕ → ℕ → Run Label
-  table-label table alias index = column-at table index >>= λ c. Ok (qualified (unwrap_or (table_of schema table).name alias) c.name)
+  abbrev pub table_label : ℕ → Option ℕ → ℕ → Run Label
+  table_label table alias index = column_at table index >>= λ c. Ok (qualified (unwrap_or (table_of schema table).name alias) c.name)
 
-  abbrev pub column-label : Node → ℕ → Run Label
-  column-label (leaf og (lookup access table alias constants)) index = table-label table alias index
-  column-label (leaf og (scan table alias predicate)) index = table-label table alias index
-  column-label (over og (other (aggregate group-by aggregates)) source) index =
-      (and_then (get group-by index) Column? ⇒ λ (o, i). column-label source i)
+  abbrev pub column_label : Node → ℕ → Run Label
+  column_label (leaf og (lookup access table alias constants)) index = table_label table alias index
+  column_label (leaf og (scan table alias predicate)) index = table_label table alias index
+  column_label (over og (other (aggregate group_by aggregates)) source) index =
+      (and_then (get group_by index) Column? ⇒ λ (o, i). column_label source i)
       else Ok unlabelled
-  column-label (over og (other (projection items)) source) index =
-      (no-alias? (get (aliases items) index) ⇒ λ n. (and_then (get (expressions items) index) Column? ⇒ λ (o, i). column-label source i) else Ok unlabelled)
+  column_label (over og (other (projection items)) source) index =
+      (no_alias? (get (aliases items) index) ⇒ λ n. (and_then (get (expressions items) index) Column? ⇒ λ (o, i). column_label source i) else Ok unlabelled)
       else (get (aliases items) index ⇒ λ alias. Ok alias)
       else Ok unlabelled
-  column-label (over og (other (remap targets)) source) index =
-      (position (is_some index) (targets_of targets) ⇒ λ i. column-label source i)
+  column_label (over og (other (remap targets)) source) index =
+      (position (is_some index) (targets_of targets) ⇒ λ i. column_label source i)
       else Ok unlabelled
-  column-label (join og outer j left right) index =
-      cond (ltb index (columns schema left)) (column-label left index) (column-label right (index - columns schema left))
-  column-label (over og (filter predicate) source) index = column-label source index
-  column-label (over og (other (limit amount)) source) index = column-label source index
-  column-label (over og (other (offset amount)) source) index = column-label source index
-  column-label (over og (other (order key)) source) index = column-label source index
-  column-label (leaf og (nothing labels)) index = Ok (unwrap_or unlabelled (get (map (λ (l : Marked Label). l.0) labels) index))
-  column-label (leaf og (values rows)) index = Ok unlabelled
+  column_label (join og outer j left right) index =
+      cond (ltb index (columns schema left)) (column_label left index) (column_label right (index - columns schema left))
+  column_label (over og (filter predicate) source) index = column_label source index
+  column_label (over og (other (limit amount)) source) index = column_label source index
+  column_label (over og (other (offset amount)) source) index = column_label source index
+  column_label (over og (other (order key)) source) index = column_label source index
+  column_label (leaf og (nothing labels)) index = Ok (unwrap_or unlabelled (get (map (λ (l : Marked Label). l.0) labels) index))
+  column_label (leaf og (values rows)) index = Ok unlabelled
 
 -- ---- 271: fn transform
 
-abbrev pub transform-sources : (Node → Run Node) → Node → Run Node
-transform-sources xform (over og o source) = do
+abbrev pub transform_sources : (Node → Run Node) → Node → Run Node
+transform_sources xform (over og o source) = do
   s ← xform source
   Ok (over og o s)
-transform-sources xform (join og outer j left right) = do
+transform_sources xform (join og outer j left right) = do
   l ← xform left
   r ← xform right
   Ok (join og outer j l r)
-transform-sources xform (leaf og l) = Ok (leaf og l)
+transform_sources xform (leaf og l) = Ok (leaf og l)
 
 abbrev pub transform : (before after : Node → Run Node) → ℕ → Node → Run Node
 transform before after zero self = Panic
-transform before after (suc depth) self = before self >>= transform-sources (transform before after depth) >>= after
+transform before after (suc depth) self = before self >>= transform_sources (transform before after depth) >>= after
 
 -- ---- 320: fn transform_expressions
 
@@ -242,43 +242,43 @@ module _ (before after : Expression → Run Expression) where
   abbrev pub transformed : Expression → Run Expression
   transformed e = Expression.transform before after (size e) e
 
-  abbrev pub transform-expressions : Node → Run Node
-  transform-expressions (over og (filter predicate) source) = do
+  abbrev pub transform_expressions : Node → Run Node
+  transform_expressions (over og (filter predicate) source) = do
     p ← transformed predicate
     Ok (over og (filter p) source)
-  transform-expressions (join og outer (nested-loop (some predicate)) left right) = do
+  transform_expressions (join og outer (nested_loop (some predicate)) left right) = do
     p ← transformed predicate
-    Ok (join og outer (nested-loop (some p)) left right)
-  transform-expressions (over og (other (order key)) source) = do
-    k ← try-collect (λ (e, direction, o). transformed e >>= λ x. Ok (x, direction, o)) key
+    Ok (join og outer (nested_loop (some p)) left right)
+  transform_expressions (over og (other (order key)) source) = do
+    k ← try_collect (λ (e, direction, o). transformed e >>= λ x. Ok (x, direction, o)) key
     Ok (over og (other (order k)) source)
-  transform-expressions (over og (other (projection items)) source) = do
-    i ← try-collect (λ (e, alias, o). transformed e >>= λ x. Ok (x, alias, o)) items
+  transform_expressions (over og (other (projection items)) source) = do
+    i ← try_collect (λ (e, alias, o). transformed e >>= λ x. Ok (x, alias, o)) items
     Ok (over og (other (projection i)) source)
-  transform-expressions (leaf og (scan table alias (some predicate))) = do
+  transform_expressions (leaf og (scan table alias (some predicate))) = do
     p ← transformed predicate
     Ok (leaf og (scan table alias (some p)))
-  transform-expressions (leaf og (values rows)) = do
-    r ← try-collect (λ (row, o). try-collect transformed row >>= λ es. Ok (es, o)) rows
+  transform_expressions (leaf og (values rows)) = do
+    r ← try_collect (λ (row, o). try_collect transformed row >>= λ es. Ok (es, o)) rows
     Ok (leaf og (values r))
-  transform-expressions (over og (other (aggregate group-by aggregates)) source) = Ok (over og (other (aggregate group-by aggregates)) source)
-  transform-expressions (join og outer (hash left-column right-column) left right) = Ok (join og outer (hash left-column right-column) left right)
-  transform-expressions (leaf og (lookup access table alias constants)) = Ok (leaf og (lookup access table alias constants))
-  transform-expressions (over og (other (limit amount)) source) = Ok (over og (other (limit amount)) source)
-  transform-expressions (join og outer (nested-loop none) left right) = Ok (join og outer (nested-loop none) left right)
-  transform-expressions (leaf og (nothing labels)) = Ok (leaf og (nothing labels))
-  transform-expressions (over og (other (offset amount)) source) = Ok (over og (other (offset amount)) source)
-  transform-expressions (over og (other (remap targets)) source) = Ok (over og (other (remap targets)) source)
-  transform-expressions (leaf og (scan table alias none)) = Ok (leaf og (scan table alias none))
+  transform_expressions (over og (other (aggregate group_by aggregates)) source) = Ok (over og (other (aggregate group_by aggregates)) source)
+  transform_expressions (join og outer (hash left_column right_column) left right) = Ok (join og outer (hash left_column right_column) left right)
+  transform_expressions (leaf og (lookup access table alias constants)) = Ok (leaf og (lookup access table alias constants))
+  transform_expressions (over og (other (limit amount)) source) = Ok (over og (other (limit amount)) source)
+  transform_expressions (join og outer (nested_loop none) left right) = Ok (join og outer (nested_loop none) left right)
+  transform_expressions (leaf og (nothing labels)) = Ok (leaf og (nothing labels))
+  transform_expressions (over og (other (offset amount)) source) = Ok (over og (other (offset amount)) source)
+  transform_expressions (over og (other (remap targets)) source) = Ok (over og (other (remap targets)) source)
+  transform_expressions (leaf og (scan table alias none)) = Ok (leaf og (scan table alias none))
 
 -- ---- 649: fn invert_remap
 
-abbrev pub invert-step : List (Option ℕ) → ℕ × Option ℕ → List (Option ℕ)
-invert-step sources (from, to) =
+abbrev pub invert_step : List (Option ℕ) → ℕ × Option ℕ → List (Option ℕ)
+invert_step sources (from, to) =
     (to ⇒ λ to. set_at sources to (some from))
     else sources
 
-abbrev pub invert-remap : List (Option ℕ) → List (Option ℕ)
-invert-remap targets =
+abbrev pub invert_remap : List (Option ℕ) → List (Option ℕ)
+invert_remap targets =
     let count = unwrap_or 0 (maximum (map (λ i. suc i) (flatten targets))) in
-    for-each invert-step (replicate count none) (enumerate 0 targets)
+    for_each invert_step (replicate count none) (enumerate 0 targets)

@@ -44,8 +44,8 @@ expect none = Panic
 expect (some a) = Ok a
 
 -- assert_eq! of two numbers
-abbrev pub assert-eq : {A : Type 0} → ℕ → ℕ → Run A → Run A
-assert-eq a b r = cond (eqb a b) r Panic
+abbrev pub assert_eq : {A : Type 0} → ℕ → ℕ → Run A → Run A
+assert_eq a b r = cond (eqb a b) r Panic
 
 -- ---- match
 
@@ -135,31 +135,31 @@ remove [] i = Panic
 remove (x ∷ xs) zero = Ok (x, xs)
 remove (x ∷ xs) (suc i) = remove xs i >>= λ p. Ok (p.0, x ∷ p.1)
 
-abbrev pub is-empty : {A : Type 0} → List A → Bool
-is-empty [] = true
-is-empty (x ∷ xs) = false
+abbrev pub is_empty : {A : Type 0} → List A → Bool
+is_empty [] = true
+is_empty (x ∷ xs) = false
 
 -- enumerate, from a number on
 abbrev pub enumerate : {A : Type 0} → ℕ → List A → List (ℕ × A)
 enumerate i [] = []
 enumerate i (x ∷ xs) = (i, x) ∷ enumerate (suc i) xs
 
-abbrev pub cons-some : {A : Type 0} → Option A → List A → List A
-cons-some none xs = xs
-cons-some (some x) xs = x ∷ xs
+abbrev pub cons_some : {A : Type 0} → Option A → List A → List A
+cons_some none xs = xs
+cons_some (some x) xs = x ∷ xs
 
 abbrev pub filter_map : {A B : Type 0} → (A → Option B) → List A → List B
 filter_map f [] = []
-filter_map f (x ∷ xs) = cons-some (f x) (filter_map f xs)
+filter_map f (x ∷ xs) = cons_some (f x) (filter_map f xs)
 
 -- flatten of Options
 abbrev pub flatten : {A : Type 0} → List (Option A) → List A
 flatten = filter_map (λ x. x)
 
 -- find_map, with a closure that may panic
-abbrev pub try-find-map : {A B : Type 0} → (A → Run (Option B)) → List A → Run (Option B)
-try-find-map f [] = Ok none
-try-find-map f (x ∷ xs) = f x >>= λ o. (o ⇒ λ y. Ok (some y)) else try-find-map f xs
+abbrev pub try_find_map : {A B : Type 0} → (A → Run (Option B)) → List A → Run (Option B)
+try_find_map f [] = Ok none
+try_find_map f (x ∷ xs) = f x >>= λ o. (o ⇒ λ y. Ok (some y)) else try_find_map f xs
 
 abbrev pub position : {A : Type 0} → (A → Bool) → List A → Option ℕ
 position test [] = none
@@ -170,30 +170,30 @@ all test [] = true
 all test (x ∷ xs) = test x && all test xs
 
 -- Iterator::max of numbers
-abbrev pub max-with : ℕ → Option ℕ → ℕ
-max-with n none = n
-max-with n (some m) = max n m
+abbrev pub max_with : ℕ → Option ℕ → ℕ
+max_with n none = n
+max_with n (some m) = max n m
 
 abbrev pub maximum : List ℕ → Option ℕ
 maximum [] = none
-maximum (n ∷ ns) = some (max-with n (maximum ns))
+maximum (n ∷ ns) = some (max_with n (maximum ns))
 
 -- for x in xs, with what the loop writes to
-abbrev pub for-each : {S A : Type 0} → (S → A → S) → S → List A → S
-for-each body s [] = s
-for-each body s (x ∷ xs) = for-each body (body s x) xs
+abbrev pub for_each : {S A : Type 0} → (S → A → S) → S → List A → S
+for_each body s [] = s
+for_each body s (x ∷ xs) = for_each body (body s x) xs
 
 -- the same of a body with ? or a panic, and try_fold
-abbrev pub try-fold : {S A : Type 0} → (S → A → Run S) → S → List A → Run S
-try-fold body s [] = Ok s
-try-fold body s (x ∷ xs) = body s x >>= λ t. try-fold body t xs
+abbrev pub try_fold : {S A : Type 0} → (S → A → Run S) → S → List A → Run S
+try_fold body s [] = Ok s
+try_fold body s (x ∷ xs) = body s x >>= λ t. try_fold body t xs
 
 -- map(..).try_collect()?
-abbrev pub try-collect : {A B : Type 0} → (A → Run B) → List A → Run (List B)
-try-collect f [] = Ok []
-try-collect f (x ∷ xs) = do
+abbrev pub try_collect : {A B : Type 0} → (A → Run B) → List A → Run (List B)
+try_collect f [] = Ok []
+try_collect f (x ∷ xs) = do
   y ← f x
-  ys ← try-collect f xs
+  ys ← try_collect f xs
   Ok (y ∷ ys)
 
 -- ---- HashMap, whose keys are numbers: the pairs in the order in which they were put in

@@ -5,8 +5,8 @@ use Rattle.std.proofs.Math.Option.{Option, none, some}
 use Rattle.std.specs.Int.Signed.{mag, quot_z}
 use Rattle.std.specs.Float.Ieee as Ieee
 use Rattle.std.specs.Float.{binary64}
-use Rattle.value.specs.Value.{False, Unknown, True, integer, float, string, Value, truth, datum, null, boolean, overflow, division-by-zero, mismatch}
-use Rattle.sql.specs.Schema.{Column, no-column}
+use Rattle.value.specs.Value.{False, Unknown, True, integer, float, string, Value, truth, datum, null, boolean, overflow, division_by_zero, mismatch}
+use Rattle.sql.specs.Schema.{Column, no_column}
 use Rattle.literal.specs.Rust.{Run, Ok, Err, Panic, ◌⇒◌, ◌&◌, ◌∣◌, ◌if◌, ◌else◌}
 
 -- ---- The places at which the definitions do something else than the Rust: two of document 01's departures, and a case that no plan in scope has. `toydb` is the Rust, but for
@@ -16,32 +16,32 @@ pub record Departures : Type 0 where
   -- an Integer's quotient or negative that has no 64 bits
   pub overflowed : Run Value
   -- whether hash_join acts, of the left source's columns and the two columns, the lower one first
-  pub one-on-each-side : ℕ → ℕ → ℕ → Bool
+  pub one_on_each_side : ℕ → ℕ → ℕ → Bool
   -- a column that the table hasn't. No plan that a sheet stands for has one (refusal 9); the definitions give it no name and no index.
-  pub no-such-column : Run Column
+  pub no_such_column : Run Column
 
 abbrev pub toydb : Departures
-toydb = record { overflowed = Panic; one-on-each-side = λ n l r. true; no-such-column = Panic }
+toydb = record { overflowed = Panic; one_on_each_side = λ n l r. true; no_such_column = Panic }
 
-abbrev pub document-01 : Departures
-document-01 = record { overflowed = Err overflow; one-on-each-side = λ n l r. ltb l n && not (ltb r n); no-such-column = Ok no-column }
+abbrev pub document_01 : Departures
+document_01 = record { overflowed = Err overflow; one_on_each_side = λ n l r. ltb l n && not (ltb r n); no_such_column = Ok no_column }
 
 -- ---- the Rust's own numbers and strings
 
 abbrev pub in_i64 : ℤ → Option ℤ
 in_i64 i = cond (ltb (mag i) (2 ^ 63)) (some i) none
 
-abbrev pub i64-eq : ℤ → ℤ → Bool
-i64-eq (pos a) (pos b) = eqb a b
-i64-eq (pos a) (negsuc b) = false
-i64-eq (negsuc a) (pos b) = false
-i64-eq (negsuc a) (negsuc b) = eqb a b
+abbrev pub i64_eq : ℤ → ℤ → Bool
+i64_eq (pos a) (pos b) = eqb a b
+i64_eq (pos a) (negsuc b) = false
+i64_eq (negsuc a) (pos b) = false
+i64_eq (negsuc a) (negsuc b) = eqb a b
 
 abbrev pub f64 : Type 0
 f64 = Ieee.Float
 
-abbrev pub as-f64 : ℤ → f64
-as-f64 i = Ieee.of_int binary64 i
+abbrev pub as_f64 : ℤ → f64
+as_f64 i = Ieee.of_int binary64 i
 
 abbrev pub bytes_eq : List ℕ → List ℕ → Bool
 bytes_eq [] [] = true
@@ -106,9 +106,9 @@ Float x = datum (float (Ieee.to_bits binary64 x))
 abbrev pub eq : Value → Value → Bool
 eq self other =
     (Boolean? self & Boolean? other ⇒ λ (a, b). beq a b)
-    else (Integer? self & Integer? other ⇒ λ (a, b). i64-eq a b)
-    else (Integer? self & Float? other ⇒ λ (a, b). Ieee.eq (as-f64 a) b)
-    else (Float? self & Integer? other ⇒ λ (a, b). Ieee.eq a (as-f64 b))
+    else (Integer? self & Integer? other ⇒ λ (a, b). i64_eq a b)
+    else (Integer? self & Float? other ⇒ λ (a, b). Ieee.eq (as_f64 a) b)
+    else (Float? self & Integer? other ⇒ λ (a, b). Ieee.eq a (as_f64 b))
     else (Float? self & Float? other ⇒ λ (a, b). Ieee.eq a b || (Ieee.is_nan a && Ieee.is_nan b))
     else (String? self & String? other ⇒ λ (a, b). bytes_eq a b)
     else (Null? self & Null? other ⇒ λ p. true)
@@ -116,23 +116,23 @@ eq self other =
 
 -- ---- 177: fn is_undefined
 
-abbrev pub is-undefined : Value → Bool
-is-undefined self =
+abbrev pub is_undefined : Value → Bool
+is_undefined self =
     (Null? self ⇒ λ n. true)
     else (Float? self if Ieee.is_nan ⇒ λ f. true)
     else false
 
 -- the i64 that an operation gives, or what happens where it has no 64 bits
-abbrev pub Integer-or : Run Value → ℤ → Run Value
-Integer-or overflow-is i = (in_i64 i ⇒ λ j. Ok (Integer j)) else overflow-is
+abbrev pub IntegerOr : Run Value → ℤ → Run Value
+IntegerOr overflow_is i = (in_i64 i ⇒ λ j. Ok (Integer j)) else overflow_is
 
 -- ---- 186: fn checked_add
 
-abbrev pub checked-add : Value → Value → Run Value
-checked-add self other =
-    (Integer? self & Integer? other ⇒ λ (lhs, rhs). Integer-or (Err overflow) (lhs +ℤ rhs))
-    else (Integer? self & Float? other ⇒ λ (lhs, rhs). Ok (Float (Ieee.add binary64 (as-f64 lhs) rhs)))
-    else (Float? self & Integer? other ⇒ λ (lhs, rhs). Ok (Float (Ieee.add binary64 lhs (as-f64 rhs))))
+abbrev pub checked_add : Value → Value → Run Value
+checked_add self other =
+    (Integer? self & Integer? other ⇒ λ (lhs, rhs). IntegerOr (Err overflow) (lhs +ℤ rhs))
+    else (Integer? self & Float? other ⇒ λ (lhs, rhs). Ok (Float (Ieee.add binary64 (as_f64 lhs) rhs)))
+    else (Float? self & Integer? other ⇒ λ (lhs, rhs). Ok (Float (Ieee.add binary64 lhs (as_f64 rhs))))
     else (Float? self & Float? other ⇒ λ (lhs, rhs). Ok (Float (Ieee.add binary64 lhs rhs)))
     else (Null? self & (number? other ∣ Null? other) ⇒ λ p. Ok null)
     else (number? self & Null? other ⇒ λ p. Ok null)
@@ -141,12 +141,12 @@ checked-add self other =
 -- ---- 204: fn checked_div
 
 -- `lhs / rhs` panics where the quotient has no 64 bits, unless document 01 departs.
-abbrev pub checked-div : Departures → Value → Value → Run Value
-checked-div departures self other =
-    (Integer? self & (Integer? other if i64-eq (pos 0)) ⇒ λ p. Err division-by-zero)
-    else (Integer? self & Integer? other ⇒ λ (lhs, rhs). Integer-or departures.overflowed (quot_z lhs rhs))
-    else (Integer? self & Float? other ⇒ λ (lhs, rhs). Ok (Float (Ieee.div binary64 (as-f64 lhs) rhs)))
-    else (Float? self & Integer? other ⇒ λ (lhs, rhs). Ok (Float (Ieee.div binary64 lhs (as-f64 rhs))))
+abbrev pub checked_div : Departures → Value → Value → Run Value
+checked_div departures self other =
+    (Integer? self & (Integer? other if i64_eq (pos 0)) ⇒ λ p. Err division_by_zero)
+    else (Integer? self & Integer? other ⇒ λ (lhs, rhs). IntegerOr departures.overflowed (quot_z lhs rhs))
+    else (Integer? self & Float? other ⇒ λ (lhs, rhs). Ok (Float (Ieee.div binary64 (as_f64 lhs) rhs)))
+    else (Float? self & Integer? other ⇒ λ (lhs, rhs). Ok (Float (Ieee.div binary64 lhs (as_f64 rhs))))
     else (Float? self & Float? other ⇒ λ (lhs, rhs). Ok (Float (Ieee.div binary64 lhs rhs)))
     else (Null? self & (number? other ∣ Null? other) ⇒ λ p. Ok null)
     else (number? self & Null? other ⇒ λ p. Ok null)
@@ -154,11 +154,11 @@ checked-div departures self other =
 
 -- ---- 220: fn checked_mul
 
-abbrev pub checked-mul : Value → Value → Run Value
-checked-mul self other =
-    (Integer? self & Integer? other ⇒ λ (lhs, rhs). Integer-or (Err overflow) (lhs *ℤ rhs))
-    else (Integer? self & Float? other ⇒ λ (lhs, rhs). Ok (Float (Ieee.mul binary64 (as-f64 lhs) rhs)))
-    else (Float? self & Integer? other ⇒ λ (lhs, rhs). Ok (Float (Ieee.mul binary64 lhs (as-f64 rhs))))
+abbrev pub checked_mul : Value → Value → Run Value
+checked_mul self other =
+    (Integer? self & Integer? other ⇒ λ (lhs, rhs). IntegerOr (Err overflow) (lhs *ℤ rhs))
+    else (Integer? self & Float? other ⇒ λ (lhs, rhs). Ok (Float (Ieee.mul binary64 (as_f64 lhs) rhs)))
+    else (Float? self & Integer? other ⇒ λ (lhs, rhs). Ok (Float (Ieee.mul binary64 lhs (as_f64 rhs))))
     else (Float? self & Float? other ⇒ λ (lhs, rhs). Ok (Float (Ieee.mul binary64 lhs rhs)))
     else (Null? self & (number? other ∣ Null? other) ⇒ λ p. Ok null)
     else (number? self & Null? other ⇒ λ p. Ok null)
@@ -166,11 +166,11 @@ checked-mul self other =
 
 -- ---- 280: fn checked_sub
 
-abbrev pub checked-sub : Value → Value → Run Value
-checked-sub self other =
-    (Integer? self & Integer? other ⇒ λ (lhs, rhs). Integer-or (Err overflow) (lhs -ℤ rhs))
-    else (Integer? self & Float? other ⇒ λ (lhs, rhs). Ok (Float (Ieee.sub binary64 (as-f64 lhs) rhs)))
-    else (Float? self & Integer? other ⇒ λ (lhs, rhs). Ok (Float (Ieee.sub binary64 lhs (as-f64 rhs))))
+abbrev pub checked_sub : Value → Value → Run Value
+checked_sub self other =
+    (Integer? self & Integer? other ⇒ λ (lhs, rhs). IntegerOr (Err overflow) (lhs -ℤ rhs))
+    else (Integer? self & Float? other ⇒ λ (lhs, rhs). Ok (Float (Ieee.sub binary64 (as_f64 lhs) rhs)))
+    else (Float? self & Integer? other ⇒ λ (lhs, rhs). Ok (Float (Ieee.sub binary64 lhs (as_f64 rhs))))
     else (Float? self & Float? other ⇒ λ (lhs, rhs). Ok (Float (Ieee.sub binary64 lhs rhs)))
     else (Null? self & (number? other ∣ Null? other) ⇒ λ p. Ok null)
     else (number? self & Null? other ⇒ λ p. Ok null)

@@ -1,15 +1,15 @@
 // optimizer.rs, index_lookup, of one Scan with a filter whose conjunctive normal form is known: the first conjunct that looks up a column with an index
 // becomes a lookup, and the others a Filter over it. Where there is none, the Scan stays as it was.
 ghost use Rattle.std.specs.Prelude.{◌≡◌, ◌≤◌, ◌<◌, length};
-ghost use Rattle.cells.specs.Room.{most-words};
+ghost use Rattle.cells.specs.Room.{most_words};
 ghost use Rattle.words.specs.Place.{ExpressionAt};
-ghost use Rattle.first_lookup.specs.First.{marks-in};
-ghost use Rattle.lookup_or_scan.specs.Scan.{lookup-cell, ScanAt, Looks, Filters, LooksOrScans};
+ghost use Rattle.first_lookup.specs.First.{marks_in};
+ghost use Rattle.lookup_or_scan.specs.Scan.{lookup_cell, ScanAt, Looks, Filters, LooksOrScans};
 
 // The cell of a lookup of column c with n constants, in the place of a Scan's cell. key is the column of the table's primary key.
 fn lookup_cell(scan: cells::Cell, key: usize, c: u32, n: u32) -> cells::Cell
     requires { (c < 65536) × (n < 65536) }
-    ensures { result ≡ lookup-cell scan key c n }
+    ensures { result ≡ lookup_cell scan key c n }
 {
     let alias = scan.flag / 2;
     if c as usize == key {
@@ -44,7 +44,7 @@ fn lookup(
     at: usize,
 ) -> usize
     requires expression_at { ExpressionAt w.now a b }
-    requires c_bound { (c < 65536) × (length y.old ≤ most-words) }
+    requires c_bound { (c < 65536) × (length y.old ≤ most_words) }
     ensures { Looks scan key c w.now a b y.old at result y.new }
 {
     let n = column_lookup::into_column_values(w, a, b, y, at);
@@ -71,8 +71,8 @@ fn filtered(
     columns: &[u8],
     origin: u32,
 ) -> usize
-    requires { ExpressionAt w.now 0 m × (length y.old ≤ most-words) }
-    ensures { Filters origin (marks-in key columns.now) w.now m y.old at n result y.new }
+    requires { ExpressionAt w.now 0 m × (length y.old ≤ most_words) }
+    ensures { Filters origin (marks_in key columns.now) w.now m y.old at n result y.new }
 {
     let rest = first_lookup::remaining(w, 0, m, y, n, n, key, columns, false, origin);
     let end = rest.at;

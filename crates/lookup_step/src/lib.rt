@@ -2,7 +2,7 @@
 // primary key, becomes a lookup. tables and columns are the schema's records (crate records).
 ghost use Rattle.std.specs.Prelude.{◌≡◌, ◌-◌, ◌≤◌, ◌<◌, length};
 ghost use Rattle.sql.specs.Room.{IndexLookup};
-ghost use Rattle.cells.specs.Room.{most-words};
+ghost use Rattle.cells.specs.Room.{most_words};
 ghost use Rattle.words.specs.Place.{ExpressionAt, NodeAt};
 ghost use Rattle.nodes.specs.Own.{SourceCount};
 ghost use Rattle.records.specs.Records.{Records};
@@ -24,7 +24,7 @@ fn has_filter(x: &[u32], lo: usize, hi: usize) -> bool
 // The conjunctive normal form of the expression from lo to hi, as the first words of w. What into_nnf gives stands in z, and counts for room too.
 fn into_cnf(x: &[u32], lo: usize, hi: usize, z: &mut [u32], w: &mut [u32]) -> usize
     requires expression_at { ExpressionAt x.now lo hi }
-    requires z_len { (length z.old ≡ length w.old) × (length w.old ≤ most-words) }
+    requires z_len { (length z.old ≡ length w.old) × (length w.old ≤ most_words) }
     ensures { Normalizes x.now lo hi result w.new }
 {
     let n = nnf::into_nnf(x, lo, hi, z, 0);

@@ -6,96 +6,96 @@ use mathlib.Core.Path.{◌≡◌, refl, sym, ap, ◌∙◌, subst}
 use mathlib.Core.List.{List, [], ◌∷◌, ◌++◌}
 use lib.ListN.{length, take, get_or}
 use Rattle.value.specs.Value.{Value}
-use Rattle.sql.specs.Expression.{Logical, And, Or, Unary, Not, function, Binary, logical, Equal, Expression, constant, column, unary, binary, into-nnf, into-nnf-not, into-nnf-operands}
-use Rattle.sheet.specs.Content.{unary-tag, binary-tag, unary-cell, binary-cell}
+use Rattle.sql.specs.Expression.{Logical, And, Or, Unary, Not, function, Binary, logical, Equal, Expression, constant, column, unary, binary, into_nnf, into_nnf_not, into_nnf_operands}
+use Rattle.sheet.specs.Content.{unary_tag, binary_tag, unary_cell, binary_cell}
 use Rattle.cells.specs.declared.Cell.{Cell}
-use Rattle.cells.specs.Cells.{cell-words, sized, cell_at, tag_at, origin-at, start-at}
+use Rattle.cells.specs.Cells.{cell_words, sized, cell_at, tag_at, origin_at, start_at}
 use Rattle.cells.specs.Room.{Wrote, Seals}
-use Rattle.words.specs.Words.{cell, root, expression-words, map-operands}
+use Rattle.words.specs.Words.{cell, root, expression_words, map_operands}
 use Rattle.words.specs.Place.{ExpressionHere, Maps}
-use Rattle.words.proofs.Expressions.{tag, by-unary, by-binary, by-not, by_and, by-or, root-tag, root-origin, here-operand}
-use Rattle.words.proofs.Writing.{plain, both-written}
+use Rattle.words.proofs.Expressions.{tag, by_unary, by_binary, by_not, by_and, by_or, root_tag, root_origin, here_operand}
+use Rattle.words.proofs.Writing.{plain, both_written}
 use Rattle.nnf.specs.Nnf.{negated}
 
 -- the definition's name for it
-as-operands : (e : Expression) → into-nnf-operands e ≡ map-operands into-nnf e
-as-operands (constant og v) = refl
-as-operands (column og i) = refl
-as-operands (unary og o x) = refl
-as-operands (binary og o l r) = refl
+as_operands : (e : Expression) → into_nnf_operands e ≡ map_operands into_nnf e
+as_operands (constant og v) = refl
+as_operands (column og i) = refl
+as_operands (unary og o x) = refl
+as_operands (binary og o l r) = refl
 
 -- ---- the rewrite at a cell, by its tag
 
-nnf-not : (og : ℕ) (o : Unary) (x : Expression) → unary-tag o ≡ 30 → into-nnf (unary og o x) ≡ into-nnf-not og x
-nnf-not og o x = by-not (λ p. into-nnf (unary og p x) ≡ into-nnf-not og x) refl o
+nnf_not : (og : ℕ) (o : Unary) (x : Expression) → unary_tag o ≡ 30 → into_nnf (unary og o x) ≡ into_nnf_not og x
+nnf_not og o x = by_not (λ p. into_nnf (unary og p x) ≡ into_nnf_not og x) refl o
 
-nnf-operands : (e : Expression) → (tag (root e) ≡ 30 → ⊥) → into-nnf e ≡ into-nnf-operands e
-nnf-operands (constant og v) h = refl
-nnf-operands (column og i) h = refl
-nnf-operands (unary og Not x) h = absurd (h refl)
-nnf-operands (unary og (function f) x) h = refl
-nnf-operands (binary og o l r) h = refl
+nnf_operands : (e : Expression) → (tag (root e) ≡ 30 → ⊥) → into_nnf e ≡ into_nnf_operands e
+nnf_operands (constant og v) h = refl
+nnf_operands (column og i) h = refl
+nnf_operands (unary og Not x) h = absurd (h refl)
+nnf_operands (unary og (function f) x) h = refl
+nnf_operands (binary og o l r) h = refl
 
-pub nnf-other : (e : Expression) → (tag (root e) ≡ 30 → ⊥) → into-nnf e ≡ map-operands into-nnf e
-nnf-other e h = nnf-operands e h ∙ as-operands e
+pub nnf_other : (e : Expression) → (tag (root e) ≡ 30 → ⊥) → into_nnf e ≡ map_operands into_nnf e
+nnf_other e h = nnf_operands e h ∙ as_operands e
 
-not-not : (new og : ℕ) (o : Unary) (x : Expression) → unary-tag o ≡ 30 → into-nnf-not new (unary og o x) ≡ into-nnf-operands x
-not-not new og o x = by-not (λ p. into-nnf-not new (unary og p x) ≡ into-nnf-operands x) refl o
+not_not : (new og : ℕ) (o : Unary) (x : Expression) → unary_tag o ≡ 30 → into_nnf_not new (unary og o x) ≡ into_nnf_operands x
+not_not new og o x = by_not (λ p. into_nnf_not new (unary og p x) ≡ into_nnf_operands x) refl o
 
-not-and : (new og : ℕ) (o : Binary) (l r : Expression) → binary-tag o ≡ 10 → into-nnf-not new (binary og o l r) ≡ negated 11 new (binary og o l r)
-not-and new og o l r = by_and (λ p. into-nnf-not new (binary og p l r) ≡ negated 11 new (binary og p l r)) refl o
+not_and : (new og : ℕ) (o : Binary) (l r : Expression) → binary_tag o ≡ 10 → into_nnf_not new (binary og o l r) ≡ negated 11 new (binary og o l r)
+not_and new og o l r = by_and (λ p. into_nnf_not new (binary og p l r) ≡ negated 11 new (binary og p l r)) refl o
 
-not-or : (new og : ℕ) (o : Binary) (l r : Expression) → binary-tag o ≡ 11 → into-nnf-not new (binary og o l r) ≡ negated 10 new (binary og o l r)
-not-or new og o l r = by-or (λ p. into-nnf-not new (binary og p l r) ≡ negated 10 new (binary og p l r)) refl o
+not_or : (new og : ℕ) (o : Binary) (l r : Expression) → binary_tag o ≡ 11 → into_nnf_not new (binary og o l r) ≡ negated 10 new (binary og o l r)
+not_or new og o l r = by_or (λ p. into_nnf_not new (binary og p l r) ≡ negated 10 new (binary og p l r)) refl o
 
-not-operands : (new : ℕ) (e : Expression) → (tag (root e) ≡ 30 → ⊥) → (tag (root e) ≡ 10 → ⊥) → (tag (root e) ≡ 11 → ⊥) → into-nnf-not new e ≡ unary new Not (into-nnf-operands e)
-not-operands new (constant og v) f g h = refl
-not-operands new (column og i) f g h = refl
-not-operands new (unary og Not x) f g h = absurd (f refl)
-not-operands new (unary og (function p) x) f g h = refl
-not-operands new (binary og (logical And) l r) f g h = absurd (g refl)
-not-operands new (binary og (logical Or) l r) f g h = absurd (h refl)
-not-operands new (binary og Equal l r) f g h = refl
-not-operands new (binary og (function p) l r) f g h = refl
+not_operands : (new : ℕ) (e : Expression) → (tag (root e) ≡ 30 → ⊥) → (tag (root e) ≡ 10 → ⊥) → (tag (root e) ≡ 11 → ⊥) → into_nnf_not new e ≡ unary new Not (into_nnf_operands e)
+not_operands new (constant og v) f g h = refl
+not_operands new (column og i) f g h = refl
+not_operands new (unary og Not x) f g h = absurd (f refl)
+not_operands new (unary og (function p) x) f g h = refl
+not_operands new (binary og (logical And) l r) f g h = absurd (g refl)
+not_operands new (binary og (logical Or) l r) f g h = absurd (h refl)
+not_operands new (binary og Equal l r) f g h = refl
+not_operands new (binary og (function p) l r) f g h = refl
 
 module _ {s : List ℕ} {lo hi : ℕ} where
   module _ {d : List ℕ} {at n : ℕ} {d' : List ℕ} where
-    pub nnf-as-not : {new : ℕ} → new ≡ origin-at s hi → tag_at s hi ≡ 30 → Maps (into-nnf-not new) s lo (hi - cell-words) d at n d' → Maps into-nnf s lo hi d at n d'
-    nnf-as-not {new} q h f e u = by-unary (λ e. ExpressionHere s lo hi e → tag (root e) ≡ 30 → Wrote d at (expression-words (into-nnf e)) n d')
-        (λ og o x v k. rw (nnf-not og o x k, sym (q ∙ root-origin (unary og o x) v)) (f x (here-operand og o x v))) e (omega (arith, root-tag e u)) u (sym (root-tag e u) ∙ h)
+    pub nnf_as_not : {new : ℕ} → new ≡ origin_at s hi → tag_at s hi ≡ 30 → Maps (into_nnf_not new) s lo (hi - cell_words) d at n d' → Maps into_nnf s lo hi d at n d'
+    nnf_as_not {new} q h f e u = by_unary (λ e. ExpressionHere s lo hi e → tag (root e) ≡ 30 → Wrote d at (expression_words (into_nnf e)) n d')
+        (λ og o x v k. rw (nnf_not og o x k, sym (q ∙ root_origin (unary og o x) v)) (f x (here_operand og o x v))) e (omega (arith, root_tag e u)) u (sym (root_tag e u) ∙ h)
 
-    pub nnf-as-operands : (tag_at s hi ≡ 30 → ⊥) → Maps into-nnf-operands s lo hi d at n d' → Maps into-nnf s lo hi d at n d'
-    nnf-as-operands h f e u = rw (nnf-operands e (λ z. h (root-tag e u ∙ z))) (f e u)
+    pub nnf_as_operands : (tag_at s hi ≡ 30 → ⊥) → Maps into_nnf_operands s lo hi d at n d' → Maps into_nnf s lo hi d at n d'
+    nnf_as_operands h f e u = rw (nnf_operands e (λ z. h (root_tag e u ∙ z))) (f e u)
 
-    pub not-as-operands : (new : ℕ) → tag_at s hi ≡ 30 → Maps into-nnf-operands s lo (hi - cell-words) d at n d' → Maps (into-nnf-not new) s lo hi d at n d'
-    not-as-operands new h f e u = by-unary (λ e. ExpressionHere s lo hi e → tag (root e) ≡ 30 → Wrote d at (expression-words (into-nnf-not new e)) n d')
-        (λ og o x v k. rw (not-not new og o x k) (f x (here-operand og o x v))) e (omega (arith, root-tag e u)) u (sym (root-tag e u) ∙ h)
+    pub not_as_operands : (new : ℕ) → tag_at s hi ≡ 30 → Maps into_nnf_operands s lo (hi - cell_words) d at n d' → Maps (into_nnf_not new) s lo hi d at n d'
+    not_as_operands new h f e u = by_unary (λ e. ExpressionHere s lo hi e → tag (root e) ≡ 30 → Wrote d at (expression_words (into_nnf_not new e)) n d')
+        (λ og o x v k. rw (not_not new og o x k) (f x (here_operand og o x v))) e (omega (arith, root_tag e u)) u (sym (root_tag e u) ∙ h)
 
-    pub not-as-or : (new : ℕ) → tag_at s hi ≡ 10 → Maps (negated 11 new) s lo hi d at n d' → Maps (into-nnf-not new) s lo hi d at n d'
-    not-as-or new h f e u = by-binary (λ e. ExpressionHere s lo hi e → tag (root e) ≡ 10 → Wrote d at (expression-words (into-nnf-not new e)) n d')
-        (λ og o l r v k. rw (not-and new og o l r k) (f (binary og o l r) v)) e (omega (arith, root-tag e u)) (omega (arith, root-tag e u)) u (sym (root-tag e u) ∙ h)
+    pub not_as_or : (new : ℕ) → tag_at s hi ≡ 10 → Maps (negated 11 new) s lo hi d at n d' → Maps (into_nnf_not new) s lo hi d at n d'
+    not_as_or new h f e u = by_binary (λ e. ExpressionHere s lo hi e → tag (root e) ≡ 10 → Wrote d at (expression_words (into_nnf_not new e)) n d')
+        (λ og o l r v k. rw (not_and new og o l r k) (f (binary og o l r) v)) e (omega (arith, root_tag e u)) (omega (arith, root_tag e u)) u (sym (root_tag e u) ∙ h)
 
-    pub not-as-and : (new : ℕ) → tag_at s hi ≡ 11 → Maps (negated 10 new) s lo hi d at n d' → Maps (into-nnf-not new) s lo hi d at n d'
-    not-as-and new h f e u = by-binary (λ e. ExpressionHere s lo hi e → tag (root e) ≡ 11 → Wrote d at (expression-words (into-nnf-not new e)) n d')
-        (λ og o l r v k. rw (not-or new og o l r k) (f (binary og o l r) v)) e (omega (arith, root-tag e u)) (omega (arith, root-tag e u)) u (sym (root-tag e u) ∙ h)
+    pub not_as_and : (new : ℕ) → tag_at s hi ≡ 11 → Maps (negated 10 new) s lo hi d at n d' → Maps (into_nnf_not new) s lo hi d at n d'
+    not_as_and new h f e u = by_binary (λ e. ExpressionHere s lo hi e → tag (root e) ≡ 11 → Wrote d at (expression_words (into_nnf_not new e)) n d')
+        (λ og o l r v k. rw (not_or new og o l r k) (f (binary og o l r) v)) e (omega (arith, root_tag e u)) (omega (arith, root_tag e u)) u (sym (root_tag e u) ∙ h)
 
-    pub operands-as : Maps (map-operands into-nnf) s lo hi d at n d' → Maps into-nnf-operands s lo hi d at n d'
-    operands-as f e u = rw (as-operands e) (f e u)
+    pub operands_as : Maps (map_operands into_nnf) s lo hi d at n d' → Maps into_nnf_operands s lo hi d at n d'
+    operands_as f e u = rw (as_operands e) (f e u)
 
   module _ {d : List ℕ} {at m n : ℕ} {d₁ d₂ : List ℕ} (e₁ : length d₁ ≡ length d) where
-    pub not-else : (new : ℕ) → (tag_at s hi ≡ 30 → ⊥) → (tag_at s hi ≡ 10 → ⊥) → (tag_at s hi ≡ 11 → ⊥)
-        → Maps into-nnf-operands s lo hi d at m d₁ → Seals d₁ at m (plain new 30) n d₂ → Maps (into-nnf-not new) s lo hi d at n d₂
-    unfolding expression-words cell
-    not-else new g h k f w e u =
-        rw (not-operands new e (λ z. g (root-tag e u ∙ z)) (λ z. h (root-tag e u ∙ z)) (λ z. k (root-tag e u ∙ z))) (w d (expression-words (into-nnf-operands e)) e₁ (f e u))
+    pub not_else : (new : ℕ) → (tag_at s hi ≡ 30 → ⊥) → (tag_at s hi ≡ 10 → ⊥) → (tag_at s hi ≡ 11 → ⊥)
+        → Maps into_nnf_operands s lo hi d at m d₁ → Seals d₁ at m (plain new 30) n d₂ → Maps (into_nnf_not new) s lo hi d at n d₂
+    unfolding expression_words cell
+    not_else new g h k f w e u =
+        rw (not_operands new e (λ z. g (root_tag e u ∙ z)) (λ z. h (root_tag e u ∙ z)) (λ z. k (root_tag e u ∙ z))) (w d (expression_words (into_nnf_operands e)) e₁ (f e u))
 
   -- two operands, and a cell
-  module _ {d : List ℕ} {at m j n mid : ℕ} {d₁ d₂ d₃ : List ℕ} (e₁ : length d₁ ≡ length d) (e₂ : length d₂ ≡ length d₁) (st : mid ≡ start-at s (hi - cell-words))
+  module _ {d : List ℕ} {at m j n mid : ℕ} {d₁ d₂ d₃ : List ℕ} (e₁ : length d₁ ≡ length d) (e₂ : length d₂ ≡ length d₁) (st : mid ≡ start_at s (hi - cell_words))
       (h₁ : 10 ≤ tag_at s hi) (h₂ : tag_at s hi < 30) where
-    pub negated-both : (new t : ℕ) → (t ≡ 10) ⊎ (t ≡ 11) → Maps (into-nnf-not new) s lo mid d at m d₁ → Maps (into-nnf-not new) s mid (hi - cell-words) d₁ m j d₂ → Seals d₂ at j (plain new t) n d₃
+    pub negated_both : (new t : ℕ) → (t ≡ 10) ⊎ (t ≡ 11) → Maps (into_nnf_not new) s lo mid d at m d₁ → Maps (into_nnf_not new) s mid (hi - cell_words) d₁ m j d₂ → Seals d₂ at j (plain new t) n d₃
         → Maps (negated t new) s lo hi d at n d₃
-    unfolding expression-words cell
-    negated-both new t z a b w e u = by-binary (λ e. ExpressionHere s lo hi e → Wrote d at (expression-words (negated t new e)) n d₃)
-        (λ og o l r v. let c = w d (expression-words (into-nnf-not new l) ++ expression-words (into-nnf-not new r)) (e₂ ∙ e₁) (both-written e₁ st (into-nnf-not new) a b og o l r v) in
+    unfolding expression_words cell
+    negated_both new t z a b w e u = by_binary (λ e. ExpressionHere s lo hi e → Wrote d at (expression_words (negated t new e)) n d₃)
+        (λ og o l r v. let c = w d (expression_words (into_nnf_not new l) ++ expression_words (into_nnf_not new r)) (e₂ ∙ e₁) (both_written e₁ st (into_nnf_not new) a b og o l r v) in
         ⊎_elim (λ (k : t ≡ 10). rw k (rw k at c)) (λ (k : t ≡ 11). rw k (rw k at c)) z)
-        e (omega (arith, root-tag e u)) (omega (arith, root-tag e u)) u
+        e (omega (arith, root_tag e u)) (omega (arith, root_tag e u)) u

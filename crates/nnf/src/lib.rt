@@ -1,7 +1,7 @@
 // expression.rs, into_nnf: an expression in its working form is read from one slice, and its negation normal form appended to another. The result is
 // written directly, so that its size alone counts for room. Most predicates hold no Not, and are their own normal form: one pass over the cells tells.
 ghost use Rattle.std.specs.Prelude.{◌⊎◌, ◌≡◌, ℕ, ◌+◌, ◌-◌, ◌≤◌, ◌<◌, length};
-ghost use Rattle.sql.specs.Expression.{into-nnf, into-nnf-not, into-nnf-operands};
+ghost use Rattle.sql.specs.Expression.{into_nnf, into_nnf_not, into_nnf_operands};
 ghost use Rattle.cells.specs.Cells.{tag_at};
 ghost use Rattle.words.specs.Place.{ExpressionAt, Maps};
 ghost use Rattle.nnf.specs.Nnf.{negated};
@@ -25,7 +25,7 @@ pub fn contains_tag(s: &[u32], lo: usize, hi: usize, tag: u32) -> bool
 // into_nnf of the expression from lo to hi, which is its words as they are if it holds no Not.
 pub fn into_nnf(s: &[u32], lo: usize, hi: usize, d: &mut [u32], at: usize) -> usize
     requires { ExpressionAt s.now lo hi }
-    ensures { Maps into-nnf s.now lo hi d.old at result d.new }
+    ensures { Maps into_nnf s.now lo hi d.old at result d.new }
 {
     if contains_tag(s, lo, hi, tags::NOT) {
         return into_nnf_expression(s, lo, hi, d, at);
@@ -37,7 +37,7 @@ pub fn into_nnf(s: &[u32], lo: usize, hi: usize, d: &mut [u32], at: usize) -> us
 #[cycle(into_nnf_expression_into_nnf_not_into_nnf_operands_negate_both)]
 fn into_nnf_expression(s: &[u32], lo: usize, hi: usize, d: &mut [u32], at: usize) -> usize
     requires { ExpressionAt s.now lo hi }
-    ensures { Maps into-nnf s.now lo hi d.old at result d.new }
+    ensures { Maps into_nnf s.now lo hi d.old at result d.new }
 {
     if cells::tag_at(s, hi) == tags::NOT {
         return into_nnf_not(
@@ -56,7 +56,7 @@ fn into_nnf_expression(s: &[u32], lo: usize, hi: usize, d: &mut [u32], at: usize
 #[cycle(into_nnf_expression_into_nnf_not_into_nnf_operands_negate_both)]
 fn into_nnf_not(s: &[u32], lo: usize, hi: usize, d: &mut [u32], at: usize, origin: u32) -> usize
     requires { ExpressionAt s.now lo hi }
-    ensures { Maps (into-nnf-not origin) s.now lo hi d.old at result d.new }
+    ensures { Maps (into_nnf_not origin) s.now lo hi d.old at result d.new }
 {
     let t = cells::tag_at(s, hi);
     if t == tags::NOT {
@@ -123,7 +123,7 @@ fn negate_both(
 #[cycle(into_nnf_expression_into_nnf_not_into_nnf_operands_negate_both)]
 fn into_nnf_operands(s: &[u32], lo: usize, hi: usize, d: &mut [u32], at: usize) -> usize
     requires { ExpressionAt s.now lo hi }
-    ensures { Maps into-nnf-operands s.now lo hi d.old at result d.new }
+    ensures { Maps into_nnf_operands s.now lo hi d.old at result d.new }
 {
     let c = cells::cell_at(s, hi);
     if c.tag < tags::BINARY {

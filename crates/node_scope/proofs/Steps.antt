@@ -12,103 +12,103 @@ use lib.ListN.{length}
 use borrow.Author.Tests.{ne_eqb}
 use Rattle.sql.specs.Plan.{up_to}
 use Rattle.sheet.specs.Cell.{Cell, cell}
-use Rattle.sheet.specs.Parts.{cell-count}
+use Rattle.sheet.specs.Parts.{cell_count}
 use Rattle.sheet.specs.Check.{cells_of}
-use Rattle.node_scope.specs.Own.{segment, column-below, column-out, first-row, row_has, rows-have, target-end, targets-end}
+use Rattle.node_scope.specs.Own.{segment, column_below, column_out, first_row, row_has, rows_have, target_end, targets_end}
 
 -- ---- cells that follow each other
 
 module _ (s : List ℕ) where
-  pub segment-none : (i : ℕ) → segment s i i ≡ []
-  segment-none i = rw sub_self refl
+  pub segment_none : (i : ℕ) → segment s i i ≡ []
+  segment_none i = rw sub_self refl
 
-  pub segment-first : {from to : ℕ} → from < to → segment s from to ≡ cell s from ∷ segment s (from + 1) to
-  segment-first {from} {to} h =
+  pub segment_first : {from to : ℕ} → from < to → segment s from to ≡ cell s from ∷ segment s (from + 1) to
+  segment_first {from} {to} h =
       ap (λ (n : ℕ). map (cell s) (up_to from n)) (let e : to - from ≡ suc (to - (from + 1)) = omega arith in e)
       ∙ ap (λ (n : ℕ). cell s from ∷ map (cell s) (up_to n (to - (from + 1)))) (sym (add-one from))
 
-  up-to-last : (from n : ℕ) → map (cell s) (up_to from (suc n)) ≡ map (cell s) (up_to from n) ++ (cell s (from + n) ∷ [])
-  up-to-last from zero = ap (λ (i : ℕ). cell s i ∷ []) (omega arith)
-  up-to-last from (suc n) =
+  up_to_last : (from n : ℕ) → map (cell s) (up_to from (suc n)) ≡ map (cell s) (up_to from n) ++ (cell s (from + n) ∷ [])
+  up_to_last from zero = ap (λ (i : ℕ). cell s i ∷ []) (omega arith)
+  up_to_last from (suc n) =
       ap (λ (ks : List Cell). cell s from ∷ ks)
-      (up-to-last (suc from) n ∙ ap (λ (i : ℕ). map (cell s) (up_to (suc from) n) ++ (cell s i ∷ [])) (omega arith))
+      (up_to_last (suc from) n ∙ ap (λ (i : ℕ). map (cell s) (up_to (suc from) n) ++ (cell s i ∷ [])) (omega arith))
 
-  pub segment-last : {from to : ℕ} → from ≤ to → segment s from (to + 1) ≡ segment s from to ++ (cell s to ∷ [])
-  segment-last {from} {to} h =
+  pub segment_last : {from to : ℕ} → from ≤ to → segment s from (to + 1) ≡ segment s from to ++ (cell s to ∷ [])
+  segment_last {from} {to} h =
       ap (λ (n : ℕ). map (cell s) (up_to from n)) (let e : to + 1 - from ≡ suc (to - from) = omega arith in e)
-      ∙ up-to-last from (to - from)
+      ∙ up_to_last from (to - from)
       ∙ ap (λ (i : ℕ). segment s from to ++ (cell s i ∷ [])) (omega arith)
 
-  map-length : (from n : ℕ) → length (map (cell s) (up_to from n)) ≡ n
-  map-length from zero = refl
-  map-length from (suc n) = ap suc (map-length (suc from) n)
+  map_length : (from n : ℕ) → length (map (cell s) (up_to from n)) ≡ n
+  map_length from zero = refl
+  map_length from (suc n) = ap suc (map_length (suc from) n)
 
-  pub segment-length : (from to : ℕ) → length (segment s from to) ≡ to - from
-  segment-length from to = map-length from (to - from)
+  pub segment_length : (from to : ℕ) → length (segment s from to) ≡ to - from
+  segment_length from to = map_length from (to - from)
 
-  pub segment-all : segment s 0 (cell-count s) ≡ cells_of s
+  pub segment_all : segment s 0 (cell_count s) ≡ cells_of s
   unfolding cells_of
-  segment-all = rw sub-zero refl
+  segment_all = rw sub-zero refl
 
-  pub segment-end : {i to : ℕ} → i ≤ to → to ≤ i → segment s i to ≡ []
-  segment-end {i} {to} h k = let e : i ≡ to = omega arith in rw e (segment-none to)
+  pub segment_end : {i to : ℕ} → i ≤ to → to ≤ i → segment s i to ≡ []
+  segment_end {i} {to} h k = let e : i ≡ to = omega arith in rw e (segment_none to)
 
   -- ---- the cell at i, and those after it
 
   module _ {i to : ℕ} (h : i < to) {k : Cell} (is : k ≡ cell s i) where
     taken : segment s i to ≡ k ∷ segment s (i + 1) to
-    taken = rw is (segment-first h)
+    taken = rw is (segment_first h)
 
     module _ (n : ℕ) where
-      pub column-met : column-below n k ≡ false → column-out n i (segment s i to) ≡ some i
-      column-met e = rw (taken, e) refl
+      pub column_met : column_below n k ≡ false → column_out n i (segment s i to) ≡ some i
+      column_met e = rw (taken, e) refl
 
-      pub column-past : column-below n k ≡ true → column-out n (i + 1) (segment s (i + 1) to) ≡ column-out n i (segment s i to)
-      column-past e = sym (rw (taken, e) (ap (λ (j : ℕ). column-out n j (segment s (i + 1) to)) (sym (add-one i))))
+      pub column_past : column_below n k ≡ true → column_out n (i + 1) (segment s (i + 1) to) ≡ column_out n i (segment s i to)
+      column_past e = sym (rw (taken, e) (ap (λ (j : ℕ). column_out n j (segment s (i + 1) to)) (sym (add-one i))))
 
-      pub row-fails : row_has n k ≡ false → rows-have n (segment s i to) ≡ false
-      row-fails e = rw (taken, e) refl
+      pub row_fails : row_has n k ≡ false → rows_have n (segment s i to) ≡ false
+      row_fails e = rw (taken, e) refl
 
-      pub row-past : row_has n k ≡ true → rows-have n (segment s (i + 1) to) ≡ rows-have n (segment s i to)
-      row-past e = sym (rw (taken, e) refl)
+      pub row_past : row_has n k ≡ true → rows_have n (segment s (i + 1) to) ≡ rows_have n (segment s i to)
+      row_past e = sym (rw (taken, e) refl)
 
-    pub row-met : k.tag ≡ 45 → first-row (segment s i to) ≡ k.a
-    row-met e = rw (taken, e) refl
+    pub row_met : k.tag ≡ 45 → first_row (segment s i to) ≡ k.a
+    row_met e = rw (taken, e) refl
 
-    pub row-none : (k.tag ≡ 45 → ⊥) → first-row (segment s (i + 1) to) ≡ first-row (segment s i to)
-    row-none e = sym (rw (taken, ne_eqb _ _ e) refl)
+    pub row_none : (k.tag ≡ 45 → ⊥) → first_row (segment s (i + 1) to) ≡ first_row (segment s i to)
+    row_none e = sym (rw (taken, ne_eqb _ _ e) refl)
 
     pub target_past : (end : ℕ) {next all : ℕ}
-        → next ≡ max end (target-end k)
-        → max end (targets-end (segment s i to)) ≡ all
-        → max next (targets-end (segment s (i + 1) to)) ≡ all
-    target_past end e f = let g = ap targets-end taken in omega arith
+        → next ≡ max end (target_end k)
+        → max end (targets_end (segment s i to)) ≡ all
+        → max next (targets_end (segment s (i + 1) to)) ≡ all
+    target_past end e f = let g = ap targets_end taken in omega arith
 
-  pub targets-done : {i to end all : ℕ} → i ≤ to → to ≤ i → max end (targets-end (segment s i to)) ≡ all → end ≡ all
-  targets-done h k e = let g = ap targets-end (segment-end h k) in omega arith
+  pub targets_done : {i to end all : ℕ} → i ≤ to → to ≤ i → max end (targets_end (segment s i to)) ≡ all → end ≡ all
+  targets_done h k e = let g = ap targets_end (segment_end h k) in omega arith
 
 -- ---- one cell
 
 module _ (k : Cell) where
   module _ (n : ℕ) where
-    pub column-is : k.tag ≡ 6 → ltb k.a n ≡ column-below n k
-    column-is e = rw e refl
+    pub column_is : k.tag ≡ 6 → ltb k.a n ≡ column_below n k
+    column_is e = rw e refl
 
-    pub column-not : (k.tag ≡ 6 → ⊥) → true ≡ column-below n k
-    column-not e = rw (ne_eqb _ _ e) refl
+    pub column_not : (k.tag ≡ 6 → ⊥) → true ≡ column_below n k
+    column_not e = rw (ne_eqb _ _ e) refl
 
     pub row_is : k.tag ≡ 45 → eqb k.a n ≡ row_has n k
     row_is e = rw e refl
 
-    pub row-not : (k.tag ≡ 45 → ⊥) → true ≡ row_has n k
-    row-not e = rw (ne_eqb _ _ e) refl
+    pub row_not : (k.tag ≡ 45 → ⊥) → true ≡ row_has n k
+    row_not e = rw (ne_eqb _ _ e) refl
 
   module _ (end : ℕ) where
-    pub target_more : k.flag ≡ 1 → end ≤ k.a → k.a + 1 ≡ max end (target-end k)
+    pub target_more : k.flag ≡ 1 → end ≤ k.a → k.a + 1 ≡ max end (target_end k)
     target_more e h = rw e (omega arith)
 
-    pub target-less : k.flag ≡ 1 → k.a < end → end ≡ max end (target-end k)
-    target-less e h = rw e (omega arith)
+    pub target_less : k.flag ≡ 1 → k.a < end → end ≡ max end (target_end k)
+    target_less e h = rw e (omega arith)
 
-    pub target_none : (k.flag ≡ 1 → ⊥) → end ≡ max end (target-end k)
+    pub target_none : (k.flag ≡ 1 → ⊥) → end ≡ max end (target_end k)
     target_none e = rw (ne_eqb _ _ e) (omega arith)

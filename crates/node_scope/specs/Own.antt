@@ -5,7 +5,7 @@ use Rattle.std.proofs.Math.Option.{Option, none, some}
 use Rattle.sql.specs.Schema.{Schema}
 use Rattle.sql.specs.Plan.{up_to}
 use Rattle.sheet.specs.Cell.{Cell, cell}
-use Rattle.sheet.specs.Scope.{first_of, unless, table-columns}
+use Rattle.sheet.specs.Scope.{first_of, unless, table_columns}
 use Rattle.sheet.specs.Tags
 
 -- the cells of a sheet from number `from` up to, but without, number `to`
@@ -13,79 +13,79 @@ abbrev pub segment : List ℕ → (from to : ℕ) → List Cell
 segment s from to = map (cell s) (up_to from (to - from))
 
 -- Tags from 50 on are nodes'.
-abbrev pub is-node : ℕ → Bool
-is-node tag = leb Tags.nodes tag
+abbrev pub is_node : ℕ → Bool
+is_node tag = leb Tags.nodes tag
 
 -- The number of sources of a node, for the tags from 50 to 63: 52 HashJoin and 56 NestedLoopJoin have two; 53 IndexLookup, 54 KeyLookup, 57 Nothing, 62 Scan
 -- and 63 Values have none.
-abbrev pub source-counts : List ℕ
-source-counts = 1 ∷ 1 ∷ 2 ∷ 0 ∷ 0 ∷ 1 ∷ 2 ∷ 0 ∷ 1 ∷ 1 ∷ 1 ∷ 1 ∷ 0 ∷ 0 ∷ []
+abbrev pub source_counts : List ℕ
+source_counts = 1 ∷ 1 ∷ 2 ∷ 0 ∷ 0 ∷ 1 ∷ 2 ∷ 0 ∷ 1 ∷ 1 ∷ 1 ∷ 1 ∷ 0 ∷ 0 ∷ []
 
 unfoldable pub sources : ℕ → ℕ
-sources tag = get_or source-counts (tag - Tags.nodes) 0
+sources tag = get_or source_counts (tag - Tags.nodes) 0
 
 -- IndexLookup, KeyLookup and Scan read a table.
-abbrev pub of-table : ℕ → Bool
-of-table tag = eqb tag Tags.index-lookup || (eqb tag Tags.key-lookup || eqb tag Tags.scan)
+abbrev pub of_table : ℕ → Bool
+of_table tag = eqb tag Tags.index_lookup || (eqb tag Tags.key_lookup || eqb tag Tags.scan)
 
 -- ---- own cells, one after the other
 
 -- A cell is no Column, or one below n.
-abbrev pub column-below : ℕ → Cell → Bool
-column-below n k = not (eqb k.tag Tags.column) || ltb k.a n
+abbrev pub column_below : ℕ → Cell → Bool
+column_below n k = not (eqb k.tag Tags.column) || ltb k.a n
 
 -- The first Column that is not below n; the cells are numbered from `at`.
-abbrev pub column-out : (n at : ℕ) → List Cell → Option ℕ
-column-out n at [] = none
-column-out n at (k ∷ ks) = first_of (unless (column-below n k) at) (column-out n (suc at) ks)
+abbrev pub column_out : (n at : ℕ) → List Cell → Option ℕ
+column_out n at [] = none
+column_out n at (k ∷ ks) = first_of (unless (column_below n k) at) (column_out n (suc at) ks)
 
 -- The number of expressions in the first Row; 0 where there is no Row.
-abbrev pub first-row : List Cell → ℕ
-first-row [] = 0
-first-row (k ∷ ks) = cond (eqb k.tag Tags.row) k.a (first-row ks)
+abbrev pub first_row : List Cell → ℕ
+first_row [] = 0
+first_row (k ∷ ks) = cond (eqb k.tag Tags.row) k.a (first_row ks)
 
 -- A cell is no Row, or one of n expressions.
 abbrev pub row_has : ℕ → Cell → Bool
 row_has n k = not (eqb k.tag Tags.row) || eqb k.a n
 
 -- Each Row has n expressions.
-abbrev pub rows-have : ℕ → List Cell → Bool
-rows-have n [] = true
-rows-have n (k ∷ ks) = row_has n k && rows-have n ks
+abbrev pub rows_have : ℕ → List Cell → Bool
+rows_have n [] = true
+rows_have n (k ∷ ks) = row_has n k && rows_have n ks
 
 -- One past the number of a Target; 0 where it has none.
-abbrev pub target-end : Cell → ℕ
-target-end k = cond (eqb k.flag 1) (k.a + 1) 0
+abbrev pub target_end : Cell → ℕ
+target_end k = cond (eqb k.flag 1) (k.a + 1) 0
 
 -- One past the highest number of a Target.
-abbrev pub targets-end : List Cell → ℕ
-targets-end [] = 0
-targets-end (k ∷ ks) = max (target-end k) (targets-end ks)
+abbrev pub targets_end : List Cell → ℕ
+targets_end [] = 0
+targets_end (k ∷ ks) = max (target_end k) (targets_end ks)
 
 -- ---- a node with cell k
 
 -- The number of columns that a node reads: its table's, or all its sources'.
-abbrev pub columns-read : Schema → (left right : ℕ) → Cell → ℕ
-columns-read schema left right k = cond (of-table k.tag) (table-columns schema k.a) (left + right)
+abbrev pub columns_read : Schema → (left right : ℕ) → Cell → ℕ
+columns_read schema left right k = cond (of_table k.tag) (table_columns schema k.a) (left + right)
 
 -- The rule that a node has beside its Columns: 52 HashJoin's columns are below its sources', 53 IndexLookup's column is below its table's, 61 Remap has one
 -- Target for each column of its source, the Rows of 63 Values are equally long. `n` is the number of columns that the node reads.
-abbrev pub node-fits : (left right n : ℕ) → List Cell → Cell → Bool
-node-fits left right n own k =
-    cond (eqb k.tag Tags.hash-join) (ltb k.a left && ltb k.b right)
-    (cond (eqb k.tag Tags.index-lookup) (ltb (k.c % 65536) n)
+abbrev pub node_fits : (left right n : ℕ) → List Cell → Cell → Bool
+node_fits left right n own k =
+    cond (eqb k.tag Tags.hash_join) (ltb k.a left && ltb k.b right)
+    (cond (eqb k.tag Tags.index_lookup) (ltb (k.c % 65536) n)
     (cond (eqb k.tag Tags.remap) (eqb k.a n)
-    (cond (eqb k.tag Tags.values) (rows-have (first-row own) own) true)))
+    (cond (eqb k.tag Tags.values) (rows_have (first_row own) own) true)))
 
 -- The lowest of its own cells, or the node, that is out of scope; the own cells are numbered from `at`.
-abbrev pub node-outside : (left right n at : ℕ) → List Cell → Cell → Option ℕ
-node-outside left right n at own k = first_of (column-out n at own) (unless (node-fits left right n own k) (at + length own))
+abbrev pub node_outside : (left right n at : ℕ) → List Cell → Cell → Option ℕ
+node_outside left right n at own k = first_of (column_out n at own) (unless (node_fits left right n own k) (at + length own))
 
 -- The number of columns that a node emits: 50 Aggregate, 57 Nothing and 60 Projection have one for each Agg and expression, Label, or Item, 61 Remap up to the
 -- highest Target, 63 Values as many as its first Row; any other as many as it reads.
-abbrev pub node-columns : (n : ℕ) → List Cell → Cell → ℕ
-node-columns n own k =
+abbrev pub node_columns : (n : ℕ) → List Cell → Cell → ℕ
+node_columns n own k =
     cond (eqb k.tag Tags.aggregate) (k.a + k.b)
     (cond (eqb k.tag Tags.nothing || eqb k.tag Tags.projection) k.a
-    (cond (eqb k.tag Tags.remap) (targets-end own)
-    (cond (eqb k.tag Tags.values) (first-row own) n)))
+    (cond (eqb k.tag Tags.remap) (targets_end own)
+    (cond (eqb k.tag Tags.values) (first_row own) n)))

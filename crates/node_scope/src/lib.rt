@@ -2,10 +2,10 @@
 // between the node before it and its own cell.
 ghost use Rattle.std.specs.Prelude.{◌≡◌, ◌+◌, ◌≤◌, ◌<◌, max};
 ghost use Rattle.sheet.specs.Cell.{cell};
-ghost use Rattle.sheet.specs.Scope.{table-columns};
+ghost use Rattle.sheet.specs.Scope.{table_columns};
 ghost use Rattle.sheet.specs.Check.{schema};
-ghost use Rattle.layout.specs.Layout.{Number, Whole, as-cell, found};
-ghost use Rattle.node_scope.specs.Own.{sources, of-table, segment, column-below, column-out, first-row, rows-have, row_has, target-end, targets-end, columns-read, node-fits, node-outside, node-columns};
+ghost use Rattle.layout.specs.Layout.{Number, Whole, as_cell, found};
+ghost use Rattle.node_scope.specs.Own.{sources, of_table, segment, column_below, column_out, first_row, rows_have, row_has, target_end, targets_end, columns_read, node_fits, node_outside, node_columns};
 ghost use Rattle.node_scope.specs.Range.{Range, CellAt, Wide};
 
 use layout::{Cell, Found, cell_at, parts_of, table_at};
@@ -14,7 +14,7 @@ use layout::{Cell, Found, cell_at, parts_of, table_at};
 
 // A cell is no Column, or one below n.
 fn column_below(k: Cell, n: usize) -> bool
-    ensures { result ≡ column-below n (as-cell k) }
+    ensures { result ≡ column_below n (as_cell k) }
 {
     if k.tag == tags::COLUMN {
         return k.a < n;
@@ -25,7 +25,7 @@ fn column_below(k: Cell, n: usize) -> bool
 // The first Column that is not below n.
 fn column_outside(s: &[u8], from: usize, to: usize, n: usize) -> Found
     requires { Range s.now from to }
-    ensures { found result ≡ column-out n from (segment s.now from to) }
+    ensures { found result ≡ column_out n from (segment s.now from to) }
 {
     let mut i = from;
     while i < to {
@@ -40,7 +40,7 @@ fn column_outside(s: &[u8], from: usize, to: usize, n: usize) -> Found
 // The number of expressions in the first Row, or 0.
 fn first_row(s: &[u8], from: usize, to: usize) -> usize
     requires { Range s.now from to }
-    ensures { Number 4294967296 (first-row (segment s.now from to)) result }
+    ensures { Number 4294967296 (first_row (segment s.now from to)) result }
 {
     let mut i = from;
     while i < to {
@@ -55,7 +55,7 @@ fn first_row(s: &[u8], from: usize, to: usize) -> usize
 
 // A cell is no Row, or one of n expressions.
 fn row_has(k: Cell, n: usize) -> bool
-    ensures { result ≡ row_has n (as-cell k) }
+    ensures { result ≡ row_has n (as_cell k) }
 {
     if k.tag == tags::ROW {
         return k.a == n;
@@ -66,7 +66,7 @@ fn row_has(k: Cell, n: usize) -> bool
 // Each Row has n expressions.
 fn rows_have(s: &[u8], from: usize, to: usize, n: usize) -> bool
     requires { Range s.now from to }
-    ensures { result ≡ rows-have n (segment s.now from to) }
+    ensures { result ≡ rows_have n (segment s.now from to) }
 {
     let mut i = from;
     while i < to {
@@ -81,7 +81,7 @@ fn rows_have(s: &[u8], from: usize, to: usize, n: usize) -> bool
 // One past the number of a Target, 0 if it has none; `end` if that is more.
 fn target_end(k: Cell, end: usize) -> usize
     requires { (k.a < 4294967296) × (end ≤ 4294967296) }
-    ensures { (result ≡ max end (target-end (as-cell k))) × (result ≤ 4294967296) }
+    ensures { (result ≡ max end (target_end (as_cell k))) × (result ≤ 4294967296) }
 {
     if k.flag == 1 {
         if end <= k.a {
@@ -94,7 +94,7 @@ fn target_end(k: Cell, end: usize) -> usize
 // One past the highest number of a Target.
 fn targets_end(s: &[u8], from: usize, to: usize) -> usize
     requires { Range s.now from to }
-    ensures { (result ≡ targets-end (segment s.now from to)) × (result ≤ 4294967296) }
+    ensures { (result ≡ targets_end (segment s.now from to)) × (result ≤ 4294967296) }
 {
     let mut end: usize = 0;
     let mut i = from;
@@ -143,7 +143,7 @@ pub fn sources(tag: u32) -> usize
 // The number of columns of a table, 0 if there is none.
 fn table_columns(s: &[u8], table: usize) -> usize
     requires { Whole s.now }
-    ensures { Number 4294967296 (table-columns (schema s.now) table) result }
+    ensures { Number 4294967296 (table_columns (schema s.now) table) result }
 {
     let p = parts_of(s);
     if p.tables.count <= table {
@@ -155,7 +155,7 @@ fn table_columns(s: &[u8], table: usize) -> usize
 
 // IndexLookup, KeyLookup and Scan read a table.
 fn of_table(tag: u32) -> bool
-    ensures { result ≡ of-table tag }
+    ensures { result ≡ of_table tag }
 {
     if tag == tags::INDEX_LOOKUP {
         return true;
@@ -170,7 +170,7 @@ fn of_table(tag: u32) -> bool
 pub fn columns_read(s: &[u8], at: usize, left: usize, right: usize) -> usize
     requires cell_at { CellAt s.now at }
     requires right_bound { left + right ≤ 18446744069414584320 }
-    ensures { Wide (left + right) (columns-read (schema s.now) left right (cell s.now at)) result }
+    ensures { Wide (left + right) (columns_read (schema s.now) left right (cell s.now at)) result }
 {
     let k = cell_at(s, at);
     if of_table(k.tag) {
@@ -183,7 +183,7 @@ pub fn columns_read(s: &[u8], at: usize, left: usize, right: usize) -> usize
 // Rows of a Values are equally long.
 fn node_fits(s: &[u8], own: usize, at: usize, left: usize, right: usize, n: usize) -> bool
     requires { Range s.now own at × CellAt s.now at }
-    ensures { result ≡ node-fits left right n (segment s.now own at) (cell s.now at) }
+    ensures { result ≡ node_fits left right n (segment s.now own at) (cell s.now at) }
 {
     let k = cell_at(s, at);
     let tag = k.tag;
@@ -204,7 +204,7 @@ fn node_fits(s: &[u8], own: usize, at: usize, left: usize, right: usize, n: usiz
 // The lowest of a node's own cells, or the node, that is out of scope.
 pub fn node_outside(s: &[u8], own: usize, at: usize, left: usize, right: usize, n: usize) -> Found
     requires { Range s.now own at × CellAt s.now at }
-    ensures { found result ≡ node-outside left right n own (segment s.now own at) (cell s.now at) }
+    ensures { found result ≡ node_outside left right n own (segment s.now own at) (cell s.now at) }
 {
     let column = column_outside(s, own, at, n);
     if let Found::At(i) = column {
@@ -219,7 +219,7 @@ pub fn node_outside(s: &[u8], own: usize, at: usize, left: usize, right: usize, 
 // The number of columns that a node emits.
 pub fn node_columns(s: &[u8], own: usize, at: usize, n: usize) -> usize
     requires { Range s.now own at × CellAt s.now at }
-    ensures { Wide n (node-columns n (segment s.now own at) (cell s.now at)) result }
+    ensures { Wide n (node_columns n (segment s.now own at) (cell s.now at)) result }
 {
     let k = cell_at(s, at);
     let tag = k.tag;

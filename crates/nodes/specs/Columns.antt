@@ -2,26 +2,26 @@
 use Rattle.std.specs.Prelude.{ℕ, suc, ◌+◌, ◌≤◌, Bool, true, false, cond, ◌≡◌, List, eqb}
 use Rattle.std.proofs.Math.Option.{Option}
 use Rattle.sql.specs.Schema.{Schema}
-use Rattle.sql.specs.Plan.{limit, offset, order, projection, remap, aggregate, Over, filter, other, Node, leaf, over, join, remap-columns, columns}
+use Rattle.sql.specs.Plan.{limit, offset, order, projection, remap, aggregate, Over, filter, other, Node, leaf, over, join, remap_columns, columns}
 use Rattle.cells.specs.Cells.{Part}
-use Rattle.cells.specs.Room.{most-words}
-use Rattle.words.specs.Words.{all_words, target-words}
+use Rattle.cells.specs.Room.{most_words}
+use Rattle.words.specs.Words.{all_words, target_words}
 use Rattle.words.specs.Place.{NodeHere}
 use Rattle.records.specs.Records.{Tables}
 
 -- No Remap of the node, or below it, has a Target above 255; a sheet's Targets hold no more.
-abbrev pub Narrow-over : Over → Type 0
-Narrow-over (filter e) = Unit {0}
-Narrow-over (other (limit n)) = Unit {0}
-Narrow-over (other (offset n)) = Unit {0}
-Narrow-over (other (order ks)) = Unit {0}
-Narrow-over (other (projection is)) = Unit {0}
-Narrow-over (other (remap ts)) = remap-columns ts ≤ 256
-Narrow-over (other (aggregate es gs)) = Unit {0}
+abbrev pub NarrowOver : Over → Type 0
+NarrowOver (filter e) = Unit {0}
+NarrowOver (other (limit n)) = Unit {0}
+NarrowOver (other (offset n)) = Unit {0}
+NarrowOver (other (order ks)) = Unit {0}
+NarrowOver (other (projection is)) = Unit {0}
+NarrowOver (other (remap ts)) = remap_columns ts ≤ 256
+NarrowOver (other (aggregate es gs)) = Unit {0}
 
 abbrev pub Narrow : Node → Type 0
 Narrow (leaf og l) = Unit {0}
-Narrow (over og o n) = Narrow-over o × Narrow n
+Narrow (over og o n) = NarrowOver o × Narrow n
 Narrow (join og outer j l r) = Narrow l × Narrow r
 
 -- Some such node of a schema whose table records are lent stands there, in a list that is short enough for its columns to be counted without overflow.
@@ -31,7 +31,7 @@ pub record ColumnsAt (records s : List ℕ) (lo hi : ℕ) : Type 0 where
   pub p : Node
   pub here : NodeHere s lo hi p
   pub narrow : Narrow p
-  pub short : hi ≤ most-words
+  pub short : hi ≤ most_words
 
 -- ---- contracts
 
@@ -45,25 +45,25 @@ past flag a = cond (eqb flag 1) (suc a) 0
 
 pub record TargetsAt (s : List ℕ) (lo hi : ℕ) : Type 0 where
   pub targets : List (Option ℕ × ℕ)
-  pub part : Part s lo hi (all_words target-words targets)
-  pub few : remap-columns targets ≤ 256
+  pub part : Part s lo hi (all_words target_words targets)
+  pub few : remap_columns targets ≤ 256
 
 abbrev pub RemapColumns : List ℕ → ℕ → ℕ → ℕ → Type 0
-RemapColumns s lo hi r = (targets : List (Option ℕ × ℕ)) → Part s lo hi (all_words target-words targets) → r ≡ remap-columns targets
+RemapColumns s lo hi r = (targets : List (Option ℕ × ℕ)) → Part s lo hi (all_words target_words targets) → r ≡ remap_columns targets
 
 -- 1 for a node whose columns are those of its sources, 0 for one that says its columns itself
-abbrev pub through-over : Over → ℕ
-through-over (filter e) = 1
-through-over (other (limit n)) = 1
-through-over (other (offset n)) = 1
-through-over (other (order ks)) = 1
-through-over (other (projection is)) = 0
-through-over (other (remap ts)) = 0
-through-over (other (aggregate es gs)) = 0
+abbrev pub through_over : Over → ℕ
+through_over (filter e) = 1
+through_over (other (limit n)) = 1
+through_over (other (offset n)) = 1
+through_over (other (order ks)) = 1
+through_over (other (projection is)) = 0
+through_over (other (remap ts)) = 0
+through_over (other (aggregate es gs)) = 0
 
 abbrev pub through : Node → ℕ
 through (leaf og l) = 0
-through (over og o n) = through-over o
+through (over og o n) = through_over o
 through (join og outer j l r) = 1
 
 abbrev pub GoesThrough : List ℕ → ℕ → ℕ → ℕ → Type 0

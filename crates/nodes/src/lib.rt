@@ -2,14 +2,14 @@
 ghost use Rattle.std.specs.Prelude.{◌⊎◌, ◌≡◌, ℕ, ◌+◌, ◌-◌, ◌≤◌, ◌<◌, max};
 ghost use Rattle.cells.specs.Cells.{tag_at};
 ghost use Rattle.words.specs.Place.{NodeAt};
-ghost use Rattle.nodes.specs.Trees.{TreesAt, PartsAt, trees-start};
+ghost use Rattle.nodes.specs.Trees.{TreesAt, PartsAt, trees_start};
 ghost use Rattle.nodes.specs.Own.{OwnStart, SourcedAt, OwnTrees, SourceCount};
 ghost use Rattle.nodes.specs.Columns.{ColumnsAt, ColumnCount, past, TargetsAt, RemapColumns, GoesThrough};
 
 // Where the last n trees start that end before hi.
 pub fn trees_start(s: &[u32], n: usize, hi: usize) -> usize
     requires { TreesAt s.now n hi }
-    ensures { result ≡ trees-start s.now n hi }
+    ensures { result ≡ trees_start s.now n hi }
 {
     let mut at = hi;
     let mut i = n;
@@ -24,7 +24,7 @@ pub fn trees_start(s: &[u32], n: usize, hi: usize) -> usize
 // would wait for the size.
 fn parts_start(s: &[u32], n: usize, hi: usize) -> usize
     requires { PartsAt s.now n hi }
-    ensures { result ≡ trees-start s.now n hi }
+    ensures { result ≡ trees_start s.now n hi }
 {
     let mut at = hi;
     let mut left = n;

@@ -1,7 +1,7 @@
 // The operations that hand out a sheet, one pass and all five, on any bytes. Most plans are small, and buffers take time to clear: small ones that hold the
 // plan are tried first, and what is refused there for want of room, by 14, is run again in larger ones, up to document 01's 2,048 cells.
 ghost use Rattle.std.specs.Prelude.{◌≡◌, ◌≤◌};
-ghost use Rattle.sheet.specs.Operations.{one-pass, all-five};
+ghost use Rattle.sheet.specs.Operations.{one_pass, all_five};
 ghost use Rattle.checker.specs.Checker.{outcome};
 ghost use Rattle.optimizer.specs.Choices.{Choice};
 ghost use Rattle.hand_out.specs.HandOut.{Counted};
@@ -123,7 +123,7 @@ fn run(s: &[u8], c: Chosen, count: usize, cells: usize, out: &mut [u8]) -> Answe
 
 // One pass by its number, 1 to 5.
 pub fn pass(s: &[u8], k: usize, out: &mut [u8]) -> Answer
-    ensures { outcome result out.new ≡ one-pass s.now k out.old }
+    ensures { outcome result out.new ≡ one_pass s.now k out.old }
 {
     if k < 1 {
         return checker::refusal(1, 0);
@@ -140,7 +140,7 @@ pub fn pass(s: &[u8], k: usize, out: &mut [u8]) -> Answer
 
 // All five in turn.
 pub fn optimize(s: &[u8], out: &mut [u8]) -> Answer
-    ensures { outcome result out.new ≡ all-five s.now out.old }
+    ensures { outcome result out.new ≡ all_five s.now out.old }
 {
     let a = checker::check(s);
     if a.number != 0 {

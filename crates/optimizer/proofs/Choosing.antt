@@ -13,5 +13,5 @@ module _ {G : Schema → List ℕ → Type 0} (x : List ℕ) (t : ℕ) (d : List
   pub by_number : (k j : ℕ) → k ≡ j → Runs G (λ room schema p. Room.pass room schema j p) x t d r → Runs G (λ room schema p. Room.pass room schema k p) x t d r
   by_number k j e h = subst (λ (i : ℕ). Runs G (λ room schema p. Room.pass room schema i p) x t d r) (sym e) h
 
-  pub by-choice : (c b : Chosen) → c ≡ b → Runs G (chosen b) x t d r → Runs G (chosen c) x t d r
-  by-choice c b e h = subst (λ (i : Chosen). Runs G (chosen i) x t d r) (sym e) h
+  pub by_choice : (c b : Chosen) → c ≡ b → Runs G (chosen b) x t d r → Runs G (chosen c) x t d r
+  by_choice c b e h = subst (λ (i : Chosen). Runs G (chosen i) x t d r) (sym e) h

@@ -4,57 +4,57 @@ use Rattle.std.proofs.Common.{arith, ap, sym, ◌∙◌}
 use Rattle.sql.specs.Schema.{Schema}
 use Rattle.sql.specs.Plan.{Node}
 use Rattle.sql.specs.Answer.{Answer, done, refused, ◌>>=◌}
-use Rattle.sql.specs.Optimizer.{ConstantFolding, Optimizer, in-turn}
+use Rattle.sql.specs.Optimizer.{ConstantFolding, Optimizer, in_turn}
 use Rattle.sql.specs.Optimizer as Optimizer
 use Rattle.sql.specs.Room
-use Rattle.room.specs.Larger.{pass-larger, optimize-larger}
-use Rattle.sound.specs.Refusals.{Refused-by, refused-then, pushdown-refused, lookup-refused, circuit-refused}
+use Rattle.room.specs.Larger.{pass_larger, optimize_larger}
+use Rattle.sound.specs.Refusals.{RefusedBy, refused_then, pushdown_refused, lookup_refused, circuit_refused}
 
 -- not refused by 14
 abbrev pub Settled : Answer Node → Type 0
 Settled (done m) = Unit {0}
 Settled (refused number place) = number ≡ 14 → ⊥
 
-for-room : {A : Type 0} (r : Answer Node) → Refused-by (λ k. k ≡ 14) r → (number place : ℕ) → r ≡ refused number place → (number ≡ 14 → ⊥) → A
-for-room (done m) h number place e ne = absurd (let z : ◌≡◌ {A = ℕ} 0 1 = cc in omega arith)
-for-room (refused k p) h number place e ne = absurd (ne (let z : k ≡ number = cc in omega (arith, z, h)))
+for_room : {A : Type 0} (r : Answer Node) → RefusedBy (λ k. k ≡ 14) r → (number place : ℕ) → r ≡ refused number place → (number ≡ 14 → ⊥) → A
+for_room (done m) h number place e ne = absurd (let z : ◌≡◌ {A = ℕ} 0 1 = cc in omega arith)
+for_room (refused k p) h number place e ne = absurd (ne (let z : k ≡ number = cc in omega (arith, z, h)))
 
 -- the passes from the second, the third and the fourth on
-abbrev pub from-hash : ℕ → Schema → List Optimizer
-from-hash r schema = (λ n. done (Optimizer.HashJoin schema n)) ∷ Room.ShortCircuit r schema 0 ∷ []
+abbrev pub from_hash : ℕ → Schema → List Optimizer
+from_hash r schema = (λ n. done (Optimizer.HashJoin schema n)) ∷ Room.ShortCircuit r schema 0 ∷ []
 
-abbrev pub from-lookup : ℕ → Schema → List Optimizer
-from-lookup r schema = Room.IndexLookup r schema 0 ∷ from-hash r schema
+abbrev pub from_lookup : ℕ → Schema → List Optimizer
+from_lookup r schema = Room.IndexLookup r schema 0 ∷ from_hash r schema
 
-abbrev pub from-pushdown : ℕ → Schema → List Optimizer
-from-pushdown r schema = Room.FilterPushdown r schema 0 ∷ from-lookup r schema
+abbrev pub from_pushdown : ℕ → Schema → List Optimizer
+from_pushdown r schema = Room.FilterPushdown r schema 0 ∷ from_lookup r schema
 
 module _ (room more : ℕ) (larger : room ≤ more) (schema : Schema) where
-  later-refused : (n : Node) → Refused-by (λ k. k ≡ 14) (in-turn (from-pushdown room schema) n)
-  later-refused n =
-      refused-then (λ k. k ≡ 14) (Room.FilterPushdown room schema 0 n) _ (pushdown-refused room schema 0 n)
-      (λ a. refused-then (λ k. k ≡ 14) (Room.IndexLookup room schema 0 a) _ (lookup-refused room schema 0 a)
-      (λ b. refused-then (λ k. k ≡ 14) (Room.ShortCircuit room schema 0 (Optimizer.HashJoin schema b)) _ (circuit-refused room schema 0 (Optimizer.HashJoin schema b)) (λ c. tt)))
+  later_refused : (n : Node) → RefusedBy (λ k. k ≡ 14) (in_turn (from_pushdown room schema) n)
+  later_refused n =
+      refused_then (λ k. k ≡ 14) (Room.FilterPushdown room schema 0 n) _ (pushdown_refused room schema 0 n)
+      (λ a. refused_then (λ k. k ≡ 14) (Room.IndexLookup room schema 0 a) _ (lookup_refused room schema 0 a)
+      (λ b. refused_then (λ k. k ≡ 14) (Room.ShortCircuit room schema 0 (Optimizer.HashJoin schema b)) _ (circuit_refused room schema 0 (Optimizer.HashJoin schema b)) (λ c. tt)))
 
-  fold-settled : (r : Answer Node) (number place : ℕ) → (r >>= in-turn (from-pushdown room schema)) ≡ refused number place → (number ≡ 14 → ⊥)
-      → (r >>= in-turn (from-pushdown more schema)) ≡ refused number place
-  fold-settled (done m) number place e ne = for-room (in-turn (from-pushdown room schema) m) (later-refused m) number place e ne
-  fold-settled (refused k p) number place e ne = e
+  fold_settled : (r : Answer Node) (number place : ℕ) → (r >>= in_turn (from_pushdown room schema)) ≡ refused number place → (number ≡ 14 → ⊥)
+      → (r >>= in_turn (from_pushdown more schema)) ≡ refused number place
+  fold_settled (done m) number place e ne = for_room (in_turn (from_pushdown room schema) m) (later_refused m) number place e ne
+  fold_settled (refused k p) number place e ne = e
 
-  pub optimize-settled : (n : Node) (r : Answer Node) → Room.optimize room schema n ≡ r → Settled r → Room.optimize more schema n ≡ r
-  optimize-settled n (done m) e h = optimize-larger room more larger schema n m e
-  optimize-settled n (refused number place) e h = fold-settled (ConstantFolding 0 n) number place e h
+  pub optimize_settled : (n : Node) (r : Answer Node) → Room.optimize room schema n ≡ r → Settled r → Room.optimize more schema n ≡ r
+  optimize_settled n (done m) e h = optimize_larger room more larger schema n m e
+  optimize_settled n (refused number place) e h = fold_settled (ConstantFolding 0 n) number place e h
 
-  pass-refused-settled : (k : ℕ) (n : Node) (number place : ℕ) → Room.pass room schema k n ≡ refused number place → (number ≡ 14 → ⊥)
+  pass_refused_settled : (k : ℕ) (n : Node) (number place : ℕ) → Room.pass room schema k n ≡ refused number place → (number ≡ 14 → ⊥)
       → Room.pass more schema k n ≡ refused number place
-  pass-refused-settled zero n number place e h = e
-  pass-refused-settled (suc zero) n number place e h = e
-  pass-refused-settled (suc (suc zero)) n number place e h = for-room (Room.FilterPushdown room schema 0 n) (pushdown-refused room schema 0 n) number place e h
-  pass-refused-settled (suc (suc (suc zero))) n number place e h = for-room (Room.IndexLookup room schema 0 n) (lookup-refused room schema 0 n) number place e h
-  pass-refused-settled (suc (suc (suc (suc zero)))) n number place e h = e
-  pass-refused-settled (suc (suc (suc (suc (suc zero))))) n number place e h = for-room (Room.ShortCircuit room schema 0 n) (circuit-refused room schema 0 n) number place e h
-  pass-refused-settled (suc (suc (suc (suc (suc (suc k)))))) n number place e h = e
+  pass_refused_settled zero n number place e h = e
+  pass_refused_settled (suc zero) n number place e h = e
+  pass_refused_settled (suc (suc zero)) n number place e h = for_room (Room.FilterPushdown room schema 0 n) (pushdown_refused room schema 0 n) number place e h
+  pass_refused_settled (suc (suc (suc zero))) n number place e h = for_room (Room.IndexLookup room schema 0 n) (lookup_refused room schema 0 n) number place e h
+  pass_refused_settled (suc (suc (suc (suc zero)))) n number place e h = e
+  pass_refused_settled (suc (suc (suc (suc (suc zero))))) n number place e h = for_room (Room.ShortCircuit room schema 0 n) (circuit_refused room schema 0 n) number place e h
+  pass_refused_settled (suc (suc (suc (suc (suc (suc k)))))) n number place e h = e
 
-  pub pass-settled : (k : ℕ) (n : Node) (r : Answer Node) → Room.pass room schema k n ≡ r → Settled r → Room.pass more schema k n ≡ r
-  pass-settled k n (done m) e h = pass-larger room more larger schema k n m e
-  pass-settled k n (refused number place) e h = pass-refused-settled k n number place e h
+  pub pass_settled : (k : ℕ) (n : Node) (r : Answer Node) → Room.pass room schema k n ≡ r → Settled r → Room.pass more schema k n ≡ r
+  pass_settled k n (done m) e h = pass_larger room more larger schema k n m e
+  pass_settled k n (refused number place) e h = pass_refused_settled k n number place e h

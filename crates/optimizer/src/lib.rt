@@ -1,10 +1,10 @@
 // optimizer.rs, OPTIMIZERS: one pass by its number, and the five in turn, on plans in their working form (crate passes).
 ghost use Rattle.std.specs.Prelude.{◌≡◌, ◌≤◌, length};
-ghost use Rattle.sql.specs.Optimizer.{in-turn};
+ghost use Rattle.sql.specs.Optimizer.{in_turn};
 ghost use Rattle.sql.specs.Room;
-ghost use Rattle.passes.specs.Passes.{Lent, PlanAt, Alike, Runs, For-all};
+ghost use Rattle.passes.specs.Passes.{Lent, PlanAt, Alike, Runs, ForAll};
 ghost use Rattle.optimizer.specs.Choices.{Choice, chosen};
-ghost use Rattle.optimizer.specs.Settled.{from-pushdown, from-lookup, from-hash};
+ghost use Rattle.optimizer.specs.Settled.{from_pushdown, from_lookup, from_hash};
 
 use fold_operator::Folded;
 
@@ -21,9 +21,9 @@ pub fn pass(
     columns: &[u8],
 ) -> Folded
     requires le_k { (1 ≤ k) × (k ≤ 5) }
-    requires plan_at { PlanAt (For-all text.now tables.now columns.now) x.old t }
+    requires plan_at { PlanAt (ForAll text.now tables.now columns.now) x.old t }
     requires alike { Alike x.old y.old z.old w.old }
-    ensures { Runs (For-all text.now tables.now columns.now) (λ room schema p. Room.pass room schema k p) x.old t y.new result }
+    ensures { Runs (ForAll text.now tables.now columns.now) (λ room schema p. Room.pass room schema k p) x.old t y.new result }
 {
     if k == 1 {
         return passes::fold(text, x, y, t);
@@ -51,7 +51,7 @@ fn from_hash(
 ) -> Folded
     requires plan_at { PlanAt (Lent tables.now columns.now) x.old t }
     requires y_len { (length y.old ≡ length x.old) × (length z.old ≡ length x.old) }
-    ensures { Runs (Lent tables.now columns.now) (λ room schema p. in-turn (from-hash room schema) p) x.old t z.new result }
+    ensures { Runs (Lent tables.now columns.now) (λ room schema p. in_turn (from_hash room schema) p) x.old t z.new result }
 {
     match passes::hash_join(x, y, t, tables) {
         Folded::Done(n) => passes::short_circuit(y, z, x, n, tables, columns),
@@ -71,7 +71,7 @@ fn from_lookup(
 ) -> Folded
     requires plan_at { PlanAt (Lent tables.now columns.now) x.old t }
     requires alike { Alike x.old y.old z.old w.old }
-    ensures { Runs (Lent tables.now columns.now) (λ room schema p. in-turn (from-lookup room schema) p) x.old t y.new result }
+    ensures { Runs (Lent tables.now columns.now) (λ room schema p. in_turn (from_lookup room schema) p) x.old t y.new result }
 {
     match passes::look_up(x, z, y, w, t, tables, columns) {
         Folded::Done(n) => from_hash(z, x, y, n, tables, columns),
@@ -92,7 +92,7 @@ fn from_pushdown(
 ) -> Folded
     requires plan_at { PlanAt (Lent tables.now columns.now) x.old t }
     requires alike { Alike x.old y.old z.old w.old }
-    ensures { Runs (Lent tables.now columns.now) (λ room schema p. in-turn (from-pushdown room schema) p) x.old t y.new result }
+    ensures { Runs (Lent tables.now columns.now) (λ room schema p. in_turn (from_pushdown room schema) p) x.old t y.new result }
 {
     if !predicates::has_predicate(x, t) {
         return passes::short_circuit(x, y, z, t, tables, columns);
@@ -114,9 +114,9 @@ pub fn optimize(
     tables: &[u8],
     columns: &[u8],
 ) -> Folded
-    requires plan_at { PlanAt (For-all text.now tables.now columns.now) x.old t }
+    requires plan_at { PlanAt (ForAll text.now tables.now columns.now) x.old t }
     requires alike { Alike x.old y.old z.old w.old }
-    ensures { Runs (For-all text.now tables.now columns.now) (λ room schema p. Room.optimize room schema p) x.old t y.new result }
+    ensures { Runs (ForAll text.now tables.now columns.now) (λ room schema p. Room.optimize room schema p) x.old t y.new result }
 {
     match passes::fold(text, x, z, t) {
         Folded::Done(n) => from_pushdown(z, y, x, w, n, tables, columns),
@@ -144,9 +144,9 @@ pub fn run(
     columns: &[u8],
 ) -> Folded
     requires choice { Choice c }
-    requires plan_at { PlanAt (For-all text.now tables.now columns.now) x.old t }
+    requires plan_at { PlanAt (ForAll text.now tables.now columns.now) x.old t }
     requires alike { Alike x.old y.old z.old w.old }
-    ensures { Runs (For-all text.now tables.now columns.now) (chosen c) x.old t y.new result }
+    ensures { Runs (ForAll text.now tables.now columns.now) (chosen c) x.old t y.new result }
 {
     match c {
         Chosen::One(k) => pass(k, text, x, y, z, w, t, tables, columns),

@@ -6,213 +6,213 @@ use Rattle.std.proofs.Math.Path.{fun_ext}
 use Rattle.std.proofs.lemmas.List.{length-map}
 use Rattle.value.specs.Value.{Value, Result}
 use Rattle.sql.specs.Schema.{Schema}
-use Rattle.sql.specs.Expression.{Marked, And, Or, Not, logical, Equal, function, IsNull, IsNaN, Identity, Negate, SquareRoot, Function1, Expression, constant, column, unary, binary, size, Row, bind, evaluate-unary, evaluate-binary, evaluate, contains-column, is-column, is-equal-lookup, is-function-lookup, same-column, is-column-lookup}
-use Rattle.sql.specs.Plan.{Label, unlabelled, unqualified, qualified, Leaf, scan, lookup, nothing, values, Other, limit, offset, order, projection, remap, aggregate, Over, filter, other, Join, nested-loop, hash, Node, leaf, over, join, remap-columns, values-columns, other-columns, leaf-columns, columns, routed, group-label, item-label, items-label, remap-source, optional-label, other-label, up_to, leaf-label, column-label, column-labels, sum, optional-size, row-size, item-size, key-size, aggregate-size, leaf-size, over-size, join-size, node-size}
-use Rattle.sql.specs.Optimizer.{map-optional, ordered, equijoin}
-use Rattle.origins.specs.Origins.{map-origins, map-mark, map_row, map-part, map-aggregate, map-leaf, map_other, map-over, map-join, map-node-origins}
+use Rattle.sql.specs.Expression.{Marked, And, Or, Not, logical, Equal, function, IsNull, IsNaN, Identity, Negate, SquareRoot, Function1, Expression, constant, column, unary, binary, size, Row, bind, evaluate_unary, evaluate_binary, evaluate, contains_column, is_column, is_equal_lookup, is_function_lookup, same_column, is_column_lookup}
+use Rattle.sql.specs.Plan.{Label, unlabelled, unqualified, qualified, Leaf, scan, lookup, nothing, values, Other, limit, offset, order, projection, remap, aggregate, Over, filter, other, Join, nested_loop, hash, Node, leaf, over, join, remap_columns, values_columns, other_columns, leaf_columns, columns, routed, group_label, item_label, items_label, remap_source, optional_label, other_label, up_to, leaf_label, column_label, column_labels, sum, optional_size, row_size, item_size, key_size, aggregate_size, leaf_size, over_size, join_size, node_size}
+use Rattle.sql.specs.Optimizer.{map_optional, ordered, equijoin}
+use Rattle.origins.specs.Origins.{map_origins, map_mark, map_row, map_part, map_aggregate, map_leaf, map_other, map_over, map_join, map_node_origins}
 
-sum-unseen : {A : Type 0} (u : A → A) (f : A → ℕ) → ((x : A) → f (u x) ≡ f x) → (xs : List A) → sum f (map u xs) ≡ sum f xs
-sum-unseen u f k [] = refl
-sum-unseen u f k (x ∷ xs) = ap₂ ◌+◌ (k x) (sum-unseen u f k xs)
+sum_unseen : {A : Type 0} (u : A → A) (f : A → ℕ) → ((x : A) → f (u x) ≡ f x) → (xs : List A) → sum f (map u xs) ≡ sum f xs
+sum_unseen u f k [] = refl
+sum_unseen u f k (x ∷ xs) = ap₂ ◌+◌ (k x) (sum_unseen u f k xs)
 
 module _ (h : ℕ → ℕ) where
   -- ---- expressions
 
-  pub size-unseen : (e : Expression) → size (map-origins h e) ≡ size e
-  size-unseen (constant og v) = refl
-  size-unseen (column og c) = refl
-  size-unseen (unary og o x) = ap suc (size-unseen x)
-  size-unseen (binary og o l r) = ap₂ (λ m n. suc (m + n)) (size-unseen l) (size-unseen r)
+  pub size_unseen : (e : Expression) → size (map_origins h e) ≡ size e
+  size_unseen (constant og v) = refl
+  size_unseen (column og c) = refl
+  size_unseen (unary og o x) = ap suc (size_unseen x)
+  size_unseen (binary og o l r) = ap₂ (λ m n. suc (m + n)) (size_unseen l) (size_unseen r)
 
-  pub evaluate-unseen : (row : Row) (e : Expression) → evaluate row (map-origins h e) ≡ evaluate row e
-  evaluate-unseen row (constant og v) = refl
-  evaluate-unseen row (column og c) = refl
-  evaluate-unseen row (unary og o x) = ap (λ r. bind r (evaluate-unary o)) (evaluate-unseen row x)
-  evaluate-unseen row (binary og o l r) =
-      ap₂ (λ x y. bind x (λ v. bind y (evaluate-binary o v))) (evaluate-unseen row l) (evaluate-unseen row r)
+  pub evaluate_unseen : (row : Row) (e : Expression) → evaluate row (map_origins h e) ≡ evaluate row e
+  evaluate_unseen row (constant og v) = refl
+  evaluate_unseen row (column og c) = refl
+  evaluate_unseen row (unary og o x) = ap (λ r. bind r (evaluate_unary o)) (evaluate_unseen row x)
+  evaluate_unseen row (binary og o l r) =
+      ap₂ (λ x y. bind x (λ v. bind y (evaluate_binary o v))) (evaluate_unseen row l) (evaluate_unseen row r)
 
-  pub contains-unseen : (test : ℕ → Bool) (e : Expression) → contains-column test (map-origins h e) ≡ contains-column test e
-  contains-unseen test (constant og v) = refl
-  contains-unseen test (column og c) = refl
-  contains-unseen test (unary og o x) = contains-unseen test x
-  contains-unseen test (binary og o l r) = ap₂ ◌||◌ (contains-unseen test l) (contains-unseen test r)
+  pub contains_unseen : (test : ℕ → Bool) (e : Expression) → contains_column test (map_origins h e) ≡ contains_column test e
+  contains_unseen test (constant og v) = refl
+  contains_unseen test (column og c) = refl
+  contains_unseen test (unary og o x) = contains_unseen test x
+  contains_unseen test (binary og o l r) = ap₂ ◌||◌ (contains_unseen test l) (contains_unseen test r)
 
-  pub is-column-unseen : (e : Expression) → is-column (map-origins h e) ≡ is-column e
-  is-column-unseen (constant og v) = refl
-  is-column-unseen (column og c) = refl
-  is-column-unseen (unary og o x) = refl
-  is-column-unseen (binary og o l r) = refl
+  pub is_column_unseen : (e : Expression) → is_column (map_origins h e) ≡ is_column e
+  is_column_unseen (constant og v) = refl
+  is_column_unseen (column og c) = refl
+  is_column_unseen (unary og o x) = refl
+  is_column_unseen (binary og o l r) = refl
 
-  equal-lookup-unseen : (l r : Expression) → is-equal-lookup (map-origins h l) (map-origins h r) ≡ is-equal-lookup l r
-  equal-lookup-unseen (constant og v) r = is-column-unseen r
-  equal-lookup-unseen (column og c) (constant og' v) = refl
-  equal-lookup-unseen (column og c) (column og' d) = refl
-  equal-lookup-unseen (column og c) (unary og' o x) = refl
-  equal-lookup-unseen (column og c) (binary og' o x y) = refl
-  equal-lookup-unseen (unary og o x) r = refl
-  equal-lookup-unseen (binary og o x y) r = refl
+  equal_lookup_unseen : (l r : Expression) → is_equal_lookup (map_origins h l) (map_origins h r) ≡ is_equal_lookup l r
+  equal_lookup_unseen (constant og v) r = is_column_unseen r
+  equal_lookup_unseen (column og c) (constant og' v) = refl
+  equal_lookup_unseen (column og c) (column og' d) = refl
+  equal_lookup_unseen (column og c) (unary og' o x) = refl
+  equal_lookup_unseen (column og c) (binary og' o x y) = refl
+  equal_lookup_unseen (unary og o x) r = refl
+  equal_lookup_unseen (binary og o x y) r = refl
 
-  function-lookup-unseen : (f : Function1) (x : Expression) → is-function-lookup f (map-origins h x) ≡ is-function-lookup f x
-  function-lookup-unseen IsNull x = is-column-unseen x
-  function-lookup-unseen IsNaN x = is-column-unseen x
-  function-lookup-unseen Identity x = refl
-  function-lookup-unseen Negate x = refl
-  function-lookup-unseen SquareRoot x = refl
+  function_lookup_unseen : (f : Function1) (x : Expression) → is_function_lookup f (map_origins h x) ≡ is_function_lookup f x
+  function_lookup_unseen IsNull x = is_column_unseen x
+  function_lookup_unseen IsNaN x = is_column_unseen x
+  function_lookup_unseen Identity x = refl
+  function_lookup_unseen Negate x = refl
+  function_lookup_unseen SquareRoot x = refl
 
-  pub column-lookup-unseen : (e : Expression) → is-column-lookup (map-origins h e) ≡ is-column-lookup e
-  column-lookup-unseen (constant og v) = refl
-  column-lookup-unseen (column og c) = refl
-  column-lookup-unseen (unary og Not x) = refl
-  column-lookup-unseen (unary og (function f) x) = function-lookup-unseen f x
-  column-lookup-unseen (binary og (logical And) l r) = refl
-  column-lookup-unseen (binary og (logical Or) l r) = ap₂ same-column (column-lookup-unseen l) (column-lookup-unseen r)
-  column-lookup-unseen (binary og Equal l r) = equal-lookup-unseen l r
-  column-lookup-unseen (binary og (function f) l r) = refl
+  pub column_lookup_unseen : (e : Expression) → is_column_lookup (map_origins h e) ≡ is_column_lookup e
+  column_lookup_unseen (constant og v) = refl
+  column_lookup_unseen (column og c) = refl
+  column_lookup_unseen (unary og Not x) = refl
+  column_lookup_unseen (unary og (function f) x) = function_lookup_unseen f x
+  column_lookup_unseen (binary og (logical And) l r) = refl
+  column_lookup_unseen (binary og (logical Or) l r) = ap₂ same_column (column_lookup_unseen l) (column_lookup_unseen r)
+  column_lookup_unseen (binary og Equal l r) = equal_lookup_unseen l r
+  column_lookup_unseen (binary og (function f) l r) = refl
 
-  pub equijoin-unseen : (e : Expression) → equijoin (map-origins h e) ≡ equijoin e
-  equijoin-unseen (constant og v) = refl
-  equijoin-unseen (column og c) = refl
-  equijoin-unseen (unary og o x) = refl
-  equijoin-unseen (binary og (logical o) l r) = refl
-  equijoin-unseen (binary og Equal l r) = ap₂ ordered (is-column-unseen l) (is-column-unseen r)
-  equijoin-unseen (binary og (function f) l r) = refl
+  pub equijoin_unseen : (e : Expression) → equijoin (map_origins h e) ≡ equijoin e
+  equijoin_unseen (constant og v) = refl
+  equijoin_unseen (column og c) = refl
+  equijoin_unseen (unary og o x) = refl
+  equijoin_unseen (binary og (logical o) l r) = refl
+  equijoin_unseen (binary og Equal l r) = ap₂ ordered (is_column_unseen l) (is_column_unseen r)
+  equijoin_unseen (binary og (function f) l r) = refl
 
   -- ---- sizes
 
-  optional-size-unseen : (p : Option Expression) → optional-size (map-optional (map-origins h) p) ≡ optional-size p
-  optional-size-unseen none = refl
-  optional-size-unseen (some e) = size-unseen e
+  optional_size_unseen : (p : Option Expression) → optional_size (map_optional (map_origins h) p) ≡ optional_size p
+  optional_size_unseen none = refl
+  optional_size_unseen (some e) = size_unseen e
 
-  pub row-size-unseen : (row : Marked (List Expression)) → row-size (map_row h row) ≡ row-size row
-  row-size-unseen row = ap suc (sum-unseen (map-origins h) size size-unseen row.0)
+  pub row_size_unseen : (row : Marked (List Expression)) → row_size (map_row h row) ≡ row_size row
+  row_size_unseen row = ap suc (sum_unseen (map_origins h) size size_unseen row.0)
 
-  pub item-size-unseen : (item : Expression × Label × ℕ) → item-size (map-part h item) ≡ item-size item
-  item-size-unseen item = ap suc (size-unseen item.0)
+  pub item_size_unseen : (item : Expression × Label × ℕ) → item_size (map_part h item) ≡ item_size item
+  item_size_unseen item = ap suc (size_unseen item.0)
 
-  pub key-size-unseen : (key : Expression × Bool × ℕ) → key-size (map-part h key) ≡ key-size key
-  key-size-unseen key = ap suc (size-unseen key.0)
+  pub key_size_unseen : (key : Expression × Bool × ℕ) → key_size (map_part h key) ≡ key_size key
+  key_size_unseen key = ap suc (size_unseen key.0)
 
-  aggregate-size-unseen : (agg : ℕ × Expression × ℕ) → aggregate-size (map-aggregate h agg) ≡ aggregate-size agg
-  aggregate-size-unseen agg = ap suc (size-unseen agg.1)
+  aggregate_size_unseen : (agg : ℕ × Expression × ℕ) → aggregate_size (map_aggregate h agg) ≡ aggregate_size agg
+  aggregate_size_unseen agg = ap suc (size_unseen agg.1)
 
-  leaf-size-unseen : (l : Leaf) → leaf-size (map-leaf h l) ≡ leaf-size l
-  leaf-size-unseen (scan table alias predicate) = ap suc (optional-size-unseen predicate)
-  leaf-size-unseen (lookup access table alias constants) = ap suc (length-map constants (map-mark h))
-  leaf-size-unseen (nothing labels) = ap suc (length-map labels (map-mark h))
-  leaf-size-unseen (values rows) = ap suc (sum-unseen (map_row h) row-size row-size-unseen rows)
+  leaf_size_unseen : (l : Leaf) → leaf_size (map_leaf h l) ≡ leaf_size l
+  leaf_size_unseen (scan table alias predicate) = ap suc (optional_size_unseen predicate)
+  leaf_size_unseen (lookup access table alias constants) = ap suc (length-map constants (map_mark h))
+  leaf_size_unseen (nothing labels) = ap suc (length-map labels (map_mark h))
+  leaf_size_unseen (values rows) = ap suc (sum_unseen (map_row h) row_size row_size_unseen rows)
 
-  pub over-size-unseen : (o : Over) → over-size (map-over h o) ≡ over-size o
-  over-size-unseen (filter predicate) = ap suc (size-unseen predicate)
-  over-size-unseen (other (limit amount)) = refl
-  over-size-unseen (other (offset amount)) = refl
-  over-size-unseen (other (order key)) = ap suc (sum-unseen (map-part h) key-size key-size-unseen key)
-  over-size-unseen (other (projection items)) = ap suc (sum-unseen (map-part h) item-size item-size-unseen items)
-  over-size-unseen (other (remap targets)) = ap suc (length-map targets (map-mark h))
-  over-size-unseen (other (aggregate group-by aggregates)) =
-      ap₂ (λ m n. suc (m + n)) (sum-unseen (map-origins h) size size-unseen group-by) (sum-unseen (map-aggregate h) aggregate-size aggregate-size-unseen aggregates)
+  pub over_size_unseen : (o : Over) → over_size (map_over h o) ≡ over_size o
+  over_size_unseen (filter predicate) = ap suc (size_unseen predicate)
+  over_size_unseen (other (limit amount)) = refl
+  over_size_unseen (other (offset amount)) = refl
+  over_size_unseen (other (order key)) = ap suc (sum_unseen (map_part h) key_size key_size_unseen key)
+  over_size_unseen (other (projection items)) = ap suc (sum_unseen (map_part h) item_size item_size_unseen items)
+  over_size_unseen (other (remap targets)) = ap suc (length-map targets (map_mark h))
+  over_size_unseen (other (aggregate group_by aggregates)) =
+      ap₂ (λ m n. suc (m + n)) (sum_unseen (map_origins h) size size_unseen group_by) (sum_unseen (map_aggregate h) aggregate_size aggregate_size_unseen aggregates)
 
-  pub join-size-unseen : (j : Join) → join-size (map-join h j) ≡ join-size j
-  join-size-unseen (nested-loop predicate) = ap suc (optional-size-unseen predicate)
-  join-size-unseen (hash left-column right-column) = refl
+  pub join_size_unseen : (j : Join) → join_size (map_join h j) ≡ join_size j
+  join_size_unseen (nested_loop predicate) = ap suc (optional_size_unseen predicate)
+  join_size_unseen (hash left_column right_column) = refl
 
-  pub node-size-unseen : (n : Node) → node-size (map-node-origins h n) ≡ node-size n
-  node-size-unseen (leaf og l) = leaf-size-unseen l
-  node-size-unseen (over og o source) = ap₂ ◌+◌ (node-size-unseen source) (over-size-unseen o)
-  node-size-unseen (join og outer j left right) =
-      ap₂ ◌+◌ (ap₂ ◌+◌ (node-size-unseen left) (node-size-unseen right)) (join-size-unseen j)
+  pub node_size_unseen : (n : Node) → node_size (map_node_origins h n) ≡ node_size n
+  node_size_unseen (leaf og l) = leaf_size_unseen l
+  node_size_unseen (over og o source) = ap₂ ◌+◌ (node_size_unseen source) (over_size_unseen o)
+  node_size_unseen (join og outer j left right) =
+      ap₂ ◌+◌ (ap₂ ◌+◌ (node_size_unseen left) (node_size_unseen right)) (join_size_unseen j)
 
   -- ---- columns
 
-  remap-columns-unseen : (targets : List (Marked (Option ℕ))) → remap-columns (map (map-mark h) targets) ≡ remap-columns targets
-  remap-columns-unseen [] = refl
-  remap-columns-unseen ((none, og) ∷ targets) = remap-columns-unseen targets
-  remap-columns-unseen ((some target, og) ∷ targets) = ap (max (suc target)) (remap-columns-unseen targets)
+  remap_columns_unseen : (targets : List (Marked (Option ℕ))) → remap_columns (map (map_mark h) targets) ≡ remap_columns targets
+  remap_columns_unseen [] = refl
+  remap_columns_unseen ((none, og) ∷ targets) = remap_columns_unseen targets
+  remap_columns_unseen ((some target, og) ∷ targets) = ap (max (suc target)) (remap_columns_unseen targets)
 
-  values-columns-unseen : (rows : List (Marked (List Expression))) → values-columns (map (map_row h) rows) ≡ values-columns rows
-  values-columns-unseen [] = refl
-  values-columns-unseen (row ∷ rows) = length-map row.0 (map-origins h)
+  values_columns_unseen : (rows : List (Marked (List Expression))) → values_columns (map (map_row h) rows) ≡ values_columns rows
+  values_columns_unseen [] = refl
+  values_columns_unseen (row ∷ rows) = length-map row.0 (map_origins h)
 
-  other-columns-unseen : (o : Other) (n : ℕ) → other-columns (map_other h o) n ≡ other-columns o n
-  other-columns-unseen (limit amount) n = refl
-  other-columns-unseen (offset amount) n = refl
-  other-columns-unseen (order key) n = refl
-  other-columns-unseen (projection items) n = length-map items (map-part h)
-  other-columns-unseen (remap targets) n = remap-columns-unseen targets
-  other-columns-unseen (aggregate group-by aggregates) n = ap₂ ◌+◌ (length-map aggregates (map-aggregate h)) (length-map group-by (map-origins h))
+  other_columns_unseen : (o : Other) (n : ℕ) → other_columns (map_other h o) n ≡ other_columns o n
+  other_columns_unseen (limit amount) n = refl
+  other_columns_unseen (offset amount) n = refl
+  other_columns_unseen (order key) n = refl
+  other_columns_unseen (projection items) n = length-map items (map_part h)
+  other_columns_unseen (remap targets) n = remap_columns_unseen targets
+  other_columns_unseen (aggregate group_by aggregates) n = ap₂ ◌+◌ (length-map aggregates (map_aggregate h)) (length-map group_by (map_origins h))
 
-  leaf-columns-unseen : (schema : Schema) (l : Leaf) → leaf-columns schema (map-leaf h l) ≡ leaf-columns schema l
-  leaf-columns-unseen schema (scan table alias predicate) = refl
-  leaf-columns-unseen schema (lookup access table alias constants) = refl
-  leaf-columns-unseen schema (nothing labels) = length-map labels (map-mark h)
-  leaf-columns-unseen schema (values rows) = values-columns-unseen rows
+  leaf_columns_unseen : (schema : Schema) (l : Leaf) → leaf_columns schema (map_leaf h l) ≡ leaf_columns schema l
+  leaf_columns_unseen schema (scan table alias predicate) = refl
+  leaf_columns_unseen schema (lookup access table alias constants) = refl
+  leaf_columns_unseen schema (nothing labels) = length-map labels (map_mark h)
+  leaf_columns_unseen schema (values rows) = values_columns_unseen rows
 
-  pub columns-unseen : (schema : Schema) (n : Node) → columns schema (map-node-origins h n) ≡ columns schema n
-  columns-unseen schema (leaf og l) = leaf-columns-unseen schema l
-  columns-unseen schema (over og (filter predicate) source) = columns-unseen schema source
-  columns-unseen schema (over og (other o) source) =
-      ap (other-columns (map_other h o)) (columns-unseen schema source) ∙ other-columns-unseen o (columns schema source)
-  columns-unseen schema (join og outer j left right) = ap₂ ◌+◌ (columns-unseen schema left) (columns-unseen schema right)
+  pub columns_unseen : (schema : Schema) (n : Node) → columns schema (map_node_origins h n) ≡ columns schema n
+  columns_unseen schema (leaf og l) = leaf_columns_unseen schema l
+  columns_unseen schema (over og (filter predicate) source) = columns_unseen schema source
+  columns_unseen schema (over og (other o) source) =
+      ap (other_columns (map_other h o)) (columns_unseen schema source) ∙ other_columns_unseen o (columns schema source)
+  columns_unseen schema (join og outer j left right) = ap₂ ◌+◌ (columns_unseen schema left) (columns_unseen schema right)
 
   -- ---- labels
 
-  routed-unseen : (source : ℕ → Label) (e : Expression) → routed source (map-origins h e) ≡ routed source e
-  routed-unseen source (constant og v) = refl
-  routed-unseen source (column og c) = refl
-  routed-unseen source (unary og o x) = refl
-  routed-unseen source (binary og o l r) = refl
+  routed_unseen : (source : ℕ → Label) (e : Expression) → routed source (map_origins h e) ≡ routed source e
+  routed_unseen source (constant og v) = refl
+  routed_unseen source (column og c) = refl
+  routed_unseen source (unary og o x) = refl
+  routed_unseen source (binary og o l r) = refl
 
-  group-label-unseen : (source : ℕ → Label) (es : List Expression) (i : ℕ) → group-label source (map (map-origins h) es) i ≡ group-label source es i
-  group-label-unseen source [] i = refl
-  group-label-unseen source (e ∷ es) zero = routed-unseen source e
-  group-label-unseen source (e ∷ es) (suc i) = group-label-unseen source es i
+  group_label_unseen : (source : ℕ → Label) (es : List Expression) (i : ℕ) → group_label source (map (map_origins h) es) i ≡ group_label source es i
+  group_label_unseen source [] i = refl
+  group_label_unseen source (e ∷ es) zero = routed_unseen source e
+  group_label_unseen source (e ∷ es) (suc i) = group_label_unseen source es i
 
-  item-label-unseen : (source : ℕ → Label) (item : Expression × Label × ℕ) → item-label source (map-part h item) ≡ item-label source item
-  item-label-unseen source (e, unlabelled, og) = routed-unseen source e
-  item-label-unseen source (e, unqualified name, og) = refl
-  item-label-unseen source (e, qualified table name, og) = refl
+  item_label_unseen : (source : ℕ → Label) (item : Expression × Label × ℕ) → item_label source (map_part h item) ≡ item_label source item
+  item_label_unseen source (e, unlabelled, og) = routed_unseen source e
+  item_label_unseen source (e, unqualified name, og) = refl
+  item_label_unseen source (e, qualified table name, og) = refl
 
-  items-label-unseen : (source : ℕ → Label) (items : List (Expression × Label × ℕ)) (i : ℕ) → items-label source (map (map-part h) items) i ≡ items-label source items i
-  items-label-unseen source [] i = refl
-  items-label-unseen source (item ∷ items) zero = item-label-unseen source item
-  items-label-unseen source (item ∷ items) (suc i) = items-label-unseen source items i
+  items_label_unseen : (source : ℕ → Label) (items : List (Expression × Label × ℕ)) (i : ℕ) → items_label source (map (map_part h) items) i ≡ items_label source items i
+  items_label_unseen source [] i = refl
+  items_label_unseen source (item ∷ items) zero = item_label_unseen source item
+  items_label_unseen source (item ∷ items) (suc i) = items_label_unseen source items i
 
-  remap-source-unseen : (from : ℕ) (targets : List (Marked (Option ℕ))) (to : ℕ) → remap-source from (map (map-mark h) targets) to ≡ remap-source from targets to
-  remap-source-unseen from [] to = refl
-  remap-source-unseen from ((none, og) ∷ targets) to = remap-source-unseen (suc from) targets to
-  remap-source-unseen from ((some target, og) ∷ targets) to =
-      ap (λ z. elim (eqb target to) [ true ↦ some from | false ↦ z ]) (remap-source-unseen (suc from) targets to)
+  remap_source_unseen : (from : ℕ) (targets : List (Marked (Option ℕ))) (to : ℕ) → remap_source from (map (map_mark h) targets) to ≡ remap_source from targets to
+  remap_source_unseen from [] to = refl
+  remap_source_unseen from ((none, og) ∷ targets) to = remap_source_unseen (suc from) targets to
+  remap_source_unseen from ((some target, og) ∷ targets) to =
+      ap (λ z. elim (eqb target to) [ true ↦ some from | false ↦ z ]) (remap_source_unseen (suc from) targets to)
 
-  other-label-unseen : (o : Other) (source : ℕ → Label) (i : ℕ) → other-label (map_other h o) source i ≡ other-label o source i
-  other-label-unseen (limit amount) source i = refl
-  other-label-unseen (offset amount) source i = refl
-  other-label-unseen (order key) source i = refl
-  other-label-unseen (projection items) source i = items-label-unseen source items i
-  other-label-unseen (remap targets) source i = ap (optional-label source) (remap-source-unseen 0 targets i)
-  other-label-unseen (aggregate group-by aggregates) source i = group-label-unseen source group-by i
+  other_label_unseen : (o : Other) (source : ℕ → Label) (i : ℕ) → other_label (map_other h o) source i ≡ other_label o source i
+  other_label_unseen (limit amount) source i = refl
+  other_label_unseen (offset amount) source i = refl
+  other_label_unseen (order key) source i = refl
+  other_label_unseen (projection items) source i = items_label_unseen source items i
+  other_label_unseen (remap targets) source i = ap (optional_label source) (remap_source_unseen 0 targets i)
+  other_label_unseen (aggregate group_by aggregates) source i = group_label_unseen source group_by i
 
-  nothing-label-unseen : (labels : List (Marked Label)) (i : ℕ) → (get_or (map (map-mark h) labels) i (unlabelled, 0)).0 ≡ (get_or labels i (unlabelled, 0)).0
-  nothing-label-unseen [] i = refl
-  nothing-label-unseen (l ∷ labels) zero = refl
-  nothing-label-unseen (l ∷ labels) (suc i) = nothing-label-unseen labels i
+  nothing_label_unseen : (labels : List (Marked Label)) (i : ℕ) → (get_or (map (map_mark h) labels) i (unlabelled, 0)).0 ≡ (get_or labels i (unlabelled, 0)).0
+  nothing_label_unseen [] i = refl
+  nothing_label_unseen (l ∷ labels) zero = refl
+  nothing_label_unseen (l ∷ labels) (suc i) = nothing_label_unseen labels i
 
-  leaf-label-unseen : (schema : Schema) (l : Leaf) (i : ℕ) → leaf-label schema (map-leaf h l) i ≡ leaf-label schema l i
-  leaf-label-unseen schema (scan table alias predicate) i = refl
-  leaf-label-unseen schema (lookup access table alias constants) i = refl
-  leaf-label-unseen schema (nothing labels) i = nothing-label-unseen labels i
-  leaf-label-unseen schema (values rows) i = refl
+  leaf_label_unseen : (schema : Schema) (l : Leaf) (i : ℕ) → leaf_label schema (map_leaf h l) i ≡ leaf_label schema l i
+  leaf_label_unseen schema (scan table alias predicate) i = refl
+  leaf_label_unseen schema (lookup access table alias constants) i = refl
+  leaf_label_unseen schema (nothing labels) i = nothing_label_unseen labels i
+  leaf_label_unseen schema (values rows) i = refl
 
-  column-label-unseen : (schema : Schema) (n : Node) (i : ℕ) → column-label schema (map-node-origins h n) i ≡ column-label schema n i
-  column-label-unseen schema (leaf og l) i = leaf-label-unseen schema l i
-  column-label-unseen schema (over og (filter predicate) source) i = column-label-unseen schema source i
-  column-label-unseen schema (over og (other o) source) i =
-      ap (λ f. other-label (map_other h o) f i) (fun_ext (λ k. column-label-unseen schema source k)) ∙ other-label-unseen o (column-label schema source) i
-  column-label-unseen schema (join og outer j left right) i =
-      ap₂ (λ f g. beside f g (columns schema (map-node-origins h left))) (fun_ext (λ k. column-label-unseen schema left k)) (fun_ext (λ k. column-label-unseen schema right k))
-      ∙ ap (beside (column-label schema left) (column-label schema right)) (columns-unseen schema left)
+  column_label_unseen : (schema : Schema) (n : Node) (i : ℕ) → column_label schema (map_node_origins h n) i ≡ column_label schema n i
+  column_label_unseen schema (leaf og l) i = leaf_label_unseen schema l i
+  column_label_unseen schema (over og (filter predicate) source) i = column_label_unseen schema source i
+  column_label_unseen schema (over og (other o) source) i =
+      ap (λ f. other_label (map_other h o) f i) (fun_ext (λ k. column_label_unseen schema source k)) ∙ other_label_unseen o (column_label schema source) i
+  column_label_unseen schema (join og outer j left right) i =
+      ap₂ (λ f g. beside f g (columns schema (map_node_origins h left))) (fun_ext (λ k. column_label_unseen schema left k)) (fun_ext (λ k. column_label_unseen schema right k))
+      ∙ ap (beside (column_label schema left) (column_label schema right)) (columns_unseen schema left)
     where
       beside : (ℕ → Label) → (ℕ → Label) → ℕ → Label
       beside f g n = elim (ltb i n) [ true ↦ f i | false ↦ g (i - n) ]
 
-  pub column-labels-unseen : (schema : Schema) (n : Node) → column-labels schema (map-node-origins h n) ≡ column-labels schema n
-  column-labels-unseen schema n =
-      ap₂ (λ f m. map f (up_to 0 m)) (fun_ext (λ k. column-label-unseen schema n k)) (columns-unseen schema n)
+  pub column_labels_unseen : (schema : Schema) (n : Node) → column_labels schema (map_node_origins h n) ≡ column_labels schema n
+  column_labels_unseen schema n =
+      ap₂ (λ f m. map f (up_to 0 m)) (fun_ext (λ k. column_label_unseen schema n k)) (columns_unseen schema n)

@@ -8,54 +8,54 @@ use lib.Seq.{length-take-le}
 use Rattle.sql.specs.Schema.{Schema}
 use Rattle.sql.specs.Plan.{Node}
 use Rattle.sql.specs.Answer.{Answer, done, refused, ◌>>=◌}
-use Rattle.words.specs.Words.{node-words}
+use Rattle.words.specs.Words.{node_words}
 use Rattle.edit.specs.Edit as Edit
 use Rattle.kept.specs.Kept.{Kept, kept}
 use Rattle.kept.specs.Pass.{PassAt, Passes}
-use Rattle.cells.specs.Cells.{cell-words}
-use Rattle.cells.specs.Room.{Short, most-words, Copies}
+use Rattle.cells.specs.Cells.{cell_words}
+use Rattle.cells.specs.Room.{Short, most_words, Copies}
 use Rattle.cells.proofs.Laws.{fits}
 use Rattle.records.specs.Records.{Tables}
-use Rattle.stream.specs.Stream.{StreamAt, Streams-to, Streamed, Streams}
-use Rattle.stream.proofs.Streams.{top-here, top-reading, top-at}
+use Rattle.stream.specs.Stream.{StreamAt, StreamsTo, Streamed, Streams}
+use Rattle.stream.proofs.Streams.{top_here, top_reading, top_at}
 use Rattle.constant_folding.specs.Plans as Folding
 use Rattle.sql.specs.Optimizer.{ConstantFolding}
 use Rattle.sql.specs.Room.{ShortCircuit}
 use Rattle.short_circuit.specs.ShortCircuit.{CircuitAt, Circuits}
 use Rattle.fold_operator.specs.declared.Folded.{Folded}
 use Rattle.fold_operator.specs.declared.Folded.TheVariants as Folded
-use Rattle.passes.specs.Passes.{Lent, Plan-in, PlanAt, Left, Leaves, Ends, Runs, For-folding}
+use Rattle.passes.specs.Passes.{Lent, PlanIn, PlanAt, Left, Leaves, Ends, Runs, ForFolding}
 
 module _ (Fit : Node → Type 0) where
   -- of a pass that edits in place, and of one that is streamed
-  edit-left : (d : List ℕ) (n : ℕ) (answer : Answer Node) → Edit.Leaves Fit d n [] [] answer → (r : Folded) → Ends d n r → Left Fit d answer r
-  edit-left d n (done q) h (Folded.Done m) e =
-      (omega (arith, e.0, e.1), (ap (λ (i : ℕ). take i d) e.1 ∙ h.1.0 ∙ append-nil (node-words q), h.1.1))
-  edit-left d n (done q) h (Folded.Refused number place) e = omega (arith, h.0, e.0)
-  edit-left d n (refused number place) h (Folded.Done m) e = omega (arith, h.0, e.0)
-  edit-left d n (refused number place) h (Folded.Refused said at) e = (omega (arith, h.1.0, e.1.0), omega (arith, h.1.1, e.1.1))
+  edit_left : (d : List ℕ) (n : ℕ) (answer : Answer Node) → Edit.Leaves Fit d n [] [] answer → (r : Folded) → Ends d n r → Left Fit d answer r
+  edit_left d n (done q) h (Folded.Done m) e =
+      (omega (arith, e.0, e.1), (ap (λ (i : ℕ). take i d) e.1 ∙ h.1.0 ∙ append-nil (node_words q), h.1.1))
+  edit_left d n (done q) h (Folded.Refused number place) e = omega (arith, h.0, e.0)
+  edit_left d n (refused number place) h (Folded.Done m) e = omega (arith, h.0, e.0)
+  edit_left d n (refused number place) h (Folded.Refused said at) e = (omega (arith, h.1.0, e.1.0), omega (arith, h.1.1, e.1.1))
 
   pub edited : {d : List ℕ} {n : ℕ} {answer : Answer Node} {r : Folded} → Edit.Left Fit d n [] [] answer → Ends d n r → Leaves Fit d answer r
-  edited {d} {n} {answer} {r} h e = record { is = edit-left d n answer h.is r e }
+  edited {d} {n} {answer} {r} h e = record { is = edit_left d n answer h.is r e }
 
-  stream-left : (y d : List ℕ) (n : ℕ) (answer : Answer Node) → Streams-to Fit y 0 0 n d answer → (r : Folded) → Ends d n r → Left Fit d answer r
-  stream-left y d n (done q) h (Folded.Done m) e =
+  stream_left : (y d : List ℕ) (n : ℕ) (answer : Answer Node) → StreamsTo Fit y 0 0 n d answer → (r : Folded) → Ends d n r → Left Fit d answer r
+  stream_left y d n (done q) h (Folded.Done m) e =
       (omega (arith, e.0, e.1), (ap (λ (i : ℕ). take i d) e.1 ∙ h.1.0, h.1.1))
-  stream-left y d n (done q) h (Folded.Refused number place) e = omega (arith, h.0, e.0)
-  stream-left y d n (refused number place) h (Folded.Done m) e = omega (arith, h.0, e.0)
-  stream-left y d n (refused number place) h (Folded.Refused said at) e = (omega (arith, h.1.0, e.1.0), omega (arith, h.1.1, e.1.1))
+  stream_left y d n (done q) h (Folded.Refused number place) e = omega (arith, h.0, e.0)
+  stream_left y d n (refused number place) h (Folded.Done m) e = omega (arith, h.0, e.0)
+  stream_left y d n (refused number place) h (Folded.Refused said at) e = (omega (arith, h.1.0, e.1.0), omega (arith, h.1.1, e.1.1))
 
   pub streamed : {y d : List ℕ} {n : ℕ} {answer : Answer Node} {r : Folded} → Streamed Fit y 0 0 n d answer → Ends d n r → Leaves Fit d answer r
-  streamed {y} {d} {n} {answer} {r} h e = record { is = stream-left y d n answer h.is r e }
+  streamed {y} {d} {n} {answer} {r} h e = record { is = stream_left y d n answer h.is r e }
 
 -- ---- in turn
 
 -- A plan that a pass leaves can be worked on, and what the next makes of it can take the first one's place.
 module _ (schema : Schema) (text : List ℕ) (tables : ℕ) (p : Node) where
-  after-left : (y : List ℕ) (n : ℕ) (d : List ℕ) (r : Folded) (g : Node → Answer Node) (room : ℕ) → length y ≡ cell-words * room → (answer : Answer Node)
+  after_left : (y : List ℕ) (n : ℕ) (d : List ℕ) (r : Folded) (g : Node → Answer Node) (room : ℕ) → length y ≡ cell_words * room → (answer : Answer Node)
       → Left (Kept schema text tables p) y answer (Folded.Done n)
-      → ((q : Node) → Plan-in schema text tables y n room q → Leaves (Kept schema text tables q) d (g q) r) → Left (Kept schema text tables p) d (answer >>= g) r
-  after-left y n d r g room e (done q) h k =
+      → ((q : Node) → PlanIn schema text tables y n room q → Leaves (Kept schema text tables q) d (g q) r) → Left (Kept schema text tables p) d (answer >>= g) r
+  after_left y n d r g room e (done q) h k =
       onward (g q) r
       (k q (record { fit = (kept schema text tables).end p q h.1.1; words_are = h.1.0; inside = h.0; all = e })).is
     where
@@ -64,21 +64,21 @@ module _ (schema : Schema) (text : List ℕ) (tables : ℕ) (p : Node) where
       onward (done m) (Folded.Refused number place) l = l
       onward (refused number place) (Folded.Done i) l = l
       onward (refused number place) (Folded.Refused said at) l = l
-  after-left y n d r g room e (refused number place) h k = absurd h
+  after_left y n d r g room e (refused number place) h k = absurd h
 
-  pub after : {y : List ℕ} {n : ℕ} {d : List ℕ} {r : Folded} {answer : Answer Node} (g : Node → Answer Node) {room : ℕ} → length y ≡ cell-words * room
+  pub after : {y : List ℕ} {n : ℕ} {d : List ℕ} {r : Folded} {answer : Answer Node} (g : Node → Answer Node) {room : ℕ} → length y ≡ cell_words * room
       → Leaves (Kept schema text tables p) y answer (Folded.Done n)
-      → ((q : Node) → Plan-in schema text tables y n room q → Leaves (Kept schema text tables q) d (g q) r) → Leaves (Kept schema text tables p) d (answer >>= g) r
-  after {y} {n} {d} {r} {answer} g {room} e h k = record { is = after-left y n d r g room e answer h.is k }
+      → ((q : Node) → PlanIn schema text tables y n room q → Leaves (Kept schema text tables q) d (g q) r) → Leaves (Kept schema text tables p) d (answer >>= g) r
+  after {y} {n} {d} {r} {answer} g {room} e h k = record { is = after_left y n d r g room e answer h.is k }
 
-  stop-left : (y d : List ℕ) (number place : ℕ) (g : Node → Answer Node) (answer : Answer Node)
+  stop_left : (y d : List ℕ) (number place : ℕ) (g : Node → Answer Node) (answer : Answer Node)
       → Left (Kept schema text tables p) y answer (Folded.Refused number place) → Left (Kept schema text tables p) d (answer >>= g) (Folded.Refused number place)
-  stop-left y d number place g (done q) h = absurd h
-  stop-left y d number place g (refused k i) h = h
+  stop_left y d number place g (done q) h = absurd h
+  stop_left y d number place g (refused k i) h = h
 
   pub stop : {y d : List ℕ} {number place : ℕ} {answer : Answer Node} (g : Node → Answer Node) → Leaves (Kept schema text tables p) y answer (Folded.Refused number place)
       → Leaves (Kept schema text tables p) d (answer >>= g) (Folded.Refused number place)
-  stop {y} {d} {number} {place} {answer} g h = record { is = stop-left y d number place g answer h.is }
+  stop {y} {d} {number} {place} {answer} g h = record { is = stop_left y d number place g answer h.is }
 
 -- ---- what a streamed pass asks for, and what it leaves
 
@@ -87,50 +87,50 @@ module _ {Given : Schema → List ℕ → Type 0} {Lent : Schema → Type 0} (gi
   pub asked : PlanAt Given x t → StreamAt Lent x 0 t 0 y 0
   asked at =
       let p = at.plan in
-      top-at x t at.p p.words_are p.inside at.schema at.text at.tables p.fit y at.room (alike ∙ p.all) (omega (arith, at.short, alike)) (omega (arith, p.inside, alike)) Lent
+      top_at x t at.p p.words_are p.inside at.schema at.text at.tables p.fit y at.room (alike ∙ p.all) (omega (arith, at.short, alike)) (omega (arith, p.inside, alike)) Lent
       (give at.schema at.text at.given) at.short (omega (arith, at.short, alike))
 
-  pub runs : length x ≤ most-words → (f : ℕ → Schema → ℕ → Node → Answer Node) {n : ℕ} {d : List ℕ} {r : Folded} → Streams Lent f x 0 t 0 y 0 n d → Ends d n r
+  pub runs : length x ≤ most_words → (f : ℕ → Schema → ℕ → Node → Answer Node) {n : ℕ} {d : List ℕ} {r : Folded} → Streams Lent f x 0 t 0 y 0 n d → Ends d n r
       → Runs Given (λ room schema p. f room schema 0 p) x t d r
   runs short f s e schema text tables room p g h =
       streamed (Kept schema text tables p)
       (s schema text tables (give schema text g) room 0 p
-      (top-reading x t p h.words_are h.inside schema text tables h.fit y room (alike ∙ h.all) (omega (arith, short, alike)) (omega (arith, h.inside, alike))))
+      (top_reading x t p h.words_are h.inside schema text tables h.fit y room (alike ∙ h.all) (omega (arith, short, alike)) (omega (arith, h.inside, alike))))
       e
 
 -- ---- folding
 
-fold-left : (schema : Schema) (text : List ℕ) (tables : ℕ) (p : Node) (t : ℕ) (y : List ℕ) (answer : Answer Node) (r : Folded) → Folding.Left schema text tables p t answer r y
+fold_left : (schema : Schema) (text : List ℕ) (tables : ℕ) (p : Node) (t : ℕ) (y : List ℕ) (answer : Answer Node) (r : Folded) → Folding.Left schema text tables p t answer r y
     → Left (Kept schema text tables p) y answer r
-fold-left schema text tables p t y (done q) (Folded.Done n) h = (h.inside, (h.words, h.kept))
-fold-left schema text tables p t y (done q) (Folded.Refused number place) h = h
-fold-left schema text tables p t y (refused number place) (Folded.Done n) h = h
-fold-left schema text tables p t y (refused number place) (Folded.Refused said at) h = h
+fold_left schema text tables p t y (done q) (Folded.Done n) h = (h.inside, (h.words, h.kept))
+fold_left schema text tables p t y (done q) (Folded.Refused number place) h = h
+fold_left schema text tables p t y (refused number place) (Folded.Done n) h = h
+fold_left schema text tables p t y (refused number place) (Folded.Refused said at) h = h
 
-pub fold-asked : {t' x : List ℕ} {t : ℕ} → PlanAt (For-folding t') x t → Folding.PlanAt t' x t
-fold-asked {t'} {x} {t} at =
+pub fold_asked : {t' x : List ℕ} {t : ℕ} → PlanAt (ForFolding t') x t → Folding.PlanAt t' x t
+fold_asked {t'} {x} {t} at =
     record {
       schema = at.schema;
       tables = at.tables;
       p = at.p;
-      here = top-here x t at.p at.plan.words_are at.plan.inside;
+      here = top_here x t at.p at.plan.words_are at.plan.inside;
       kept = subst (λ (l : List ℕ). Kept at.schema l at.tables at.p at.p) at.given.0 at.plan.fit;
       short = at.given.1;
     }
 
-pub folded : (t' x : List ℕ) (t : ℕ) (r : Folded) (y : List ℕ) → Folding.FoldsPlan t' x t r y → Runs (For-folding t') (λ room schema p. ConstantFolding 0 p) x t y r
+pub folded : (t' x : List ℕ) (t : ℕ) (r : Folded) (y : List ℕ) → Folding.FoldsPlan t' x t r y → Runs (ForFolding t') (λ room schema p. ConstantFolding 0 p) x t y r
 folded t' x t r y f schema text tables room p g h =
     subst (λ (l : List ℕ). Leaves (Kept schema l tables p) y (ConstantFolding 0 p) r) (sym g.0)
     (record {
-      is = fold-left schema t' tables p t y (ConstantFolding 0 p) r
-          (f schema tables p (top-here x t p h.words_are h.inside) (subst (λ (l : List ℕ). Kept schema l tables p p) g.0 h.fit)).left;
+      is = fold_left schema t' tables p t y (ConstantFolding 0 p) r
+          (f schema tables p (top_here x t p h.words_are h.inside) (subst (λ (l : List ℕ). Kept schema l tables p p) g.0 h.fit)).left;
     })
 
 -- ---- short circuits, whose labels' names lie in the text
 
 module _ {records columns x y : List ℕ} {t : ℕ} (alike : length y ≡ length x) where
-  pub circuit-asked : PlanAt (Lent records columns) x t → CircuitAt records columns x 0 t 0 y 0
-  circuit-asked at =
+  pub circuit_asked : PlanAt (Lent records columns) x t → CircuitAt records columns x 0 t 0 y 0
+  circuit_asked at =
       let p = at.plan in
       record {
         stream =
@@ -142,29 +142,29 @@ module _ {records columns x y : List ℕ} {t : ℕ} (alike : length y ≡ length
               room = at.room;
               rest = 0;
               p = at.p;
-              reading = top-reading x t at.p p.words_are p.inside at.schema at.text at.tables p.fit y at.room (alike ∙ p.all) (omega (arith, at.short, alike)) (omega (arith, p.inside, alike));
+              reading = top_reading x t at.p p.words_are p.inside at.schema at.text at.tables p.fit y at.room (alike ∙ p.all) (omega (arith, at.short, alike)) (omega (arith, p.inside, alike));
               short = at.short;
-              short-out = omega (arith, at.short, alike);
+              short_out = omega (arith, at.short, alike);
             };
         named = at.given.named;
       }
 
-  pub circuited : length x ≤ most-words → {n : ℕ} {d : List ℕ} {r : Folded} → Circuits records columns x 0 t 0 y 0 n d → Ends d n r
+  pub circuited : length x ≤ most_words → {n : ℕ} {d : List ℕ} {r : Folded} → Circuits records columns x 0 t 0 y 0 n d → Ends d n r
       → Runs (Lent records columns) (λ room schema p. ShortCircuit room schema 0 p) x t d r
   circuited short s e schema text tables room p g h =
       streamed (Kept schema text tables p)
       (s schema text tables g.records g.named room 0 p
-      (top-reading x t p h.words_are h.inside schema text tables h.fit y room (alike ∙ h.all) (omega (arith, short, alike)) (omega (arith, h.inside, alike))))
+      (top_reading x t p h.words_are h.inside schema text tables h.fit y room (alike ∙ h.all) (omega (arith, short, alike)) (omega (arith, h.inside, alike))))
       e
 
 -- ---- filters pushed down, in place, and copied
 
-top-holds : {x : List ℕ} {t : ℕ} (p : Node) → take t x ≡ node-words p → t ≤ length x → Edit.Holds x t 0 0 [] [] p
-top-holds p e h = record { whole = e ∙ sym (append-nil (node-words p)); low = refl; high = refl; inside = h }
+top_holds : {x : List ℕ} {t : ℕ} (p : Node) → take t x ≡ node_words p → t ≤ length x → Edit.Holds x t 0 0 [] [] p
+top_holds p e h = record { whole = e ∙ sym (append-nil (node_words p)); low = refl; high = refl; inside = h }
 
 module _ {records x : List ℕ} {t : ℕ} where
-  pub push-asked : PlanAt (λ schema text. Tables records schema) x t → PassAt records x t 0 0
-  push-asked at =
+  pub push_asked : PlanAt (λ schema text. Tables records schema) x t → PassAt records x t 0 0
+  push_asked at =
       record {
         schema = at.schema;
         text = at.text;
@@ -179,19 +179,19 @@ module _ {records x : List ℕ} {t : ℕ} where
               post = [];
               p = at.p;
               fit = at.plan.fit;
-              holds = top-holds at.p at.plan.words_are at.plan.inside;
+              holds = top_holds at.p at.plan.words_are at.plan.inside;
             };
         short = at.short;
       }
 
-  pushed : length x ≤ most-words → (f : ℕ → Schema → ℕ → Node → Answer Node) {n : ℕ} {x' : List ℕ} → Passes f records x t 0 0 n x' → (schema : Schema) (text : List ℕ) (tables room : ℕ) (p : Node)
-      → Tables records schema → Plan-in schema text tables x t room p → Edit.Left (Kept schema text tables p) x' n [] [] (f room schema 0 p)
+  pushed : length x ≤ most_words → (f : ℕ → Schema → ℕ → Node → Answer Node) {n : ℕ} {x' : List ℕ} → Passes f records x t 0 0 n x' → (schema : Schema) (text : List ℕ) (tables room : ℕ) (p : Node)
+      → Tables records schema → PlanIn schema text tables x t room p → Edit.Left (Kept schema text tables p) x' n [] [] (f room schema 0 p)
   pushed short f h schema text tables room p given at =
-      h schema text tables given room 0 (record { all = at.all; short = omega (arith, short); outside = refl }) [] [] p at.fit (top-holds p at.words_are at.inside)
+      h schema text tables given room 0 (record { all = at.all; short = omega (arith, short); outside = refl }) [] [] p at.fit (top_holds p at.words_are at.inside)
 
-  pub push-left : length x ≤ most-words → (f : ℕ → Schema → ℕ → Node → Answer Node) {n : ℕ} {x' : List ℕ} {r : Folded} → Passes f records x t 0 0 n x' → Ends x' n r
+  pub push_left : length x ≤ most_words → (f : ℕ → Schema → ℕ → Node → Answer Node) {n : ℕ} {x' : List ℕ} {r : Folded} → Passes f records x t 0 0 n x' → Ends x' n r
       → Runs (λ schema text. Tables records schema) (λ room schema p. f room schema 0 p) x t x' r
-  push-left short f h e schema text tables room p given at = edited (Kept schema text tables p) (pushed short f h schema text tables room p given at) e
+  push_left short f h e schema text tables room p given at = edited (Kept schema text tables p) (pushed short f h schema text tables room p given at) e
 
 -- What a pass leaves in x' is copied to d.
 pub copied : (schema : Schema) (text : List ℕ) (tables : ℕ) (p : Node) {answer : Answer Node} (x' y : List ℕ) (n m : ℕ) (d : List ℕ) → Short y → length y ≡ length x' → length d ≡ length y
@@ -201,7 +201,7 @@ copied schema text tables p {answer} x' y n m d short alike same c h = record { 
     go : (answer : Answer Node) → Left (Kept schema text tables p) x' answer (Folded.Done n) → Left (Kept schema text tables p) d answer (Folded.Done m)
     go (refused number place) l = absurd l
     go (done q) l =
-        let long : length (node-words q) ≡ n = ap length (sym l.1.0) ∙ length-take-le n x' l.0 in
-        let w = c (node-words q) (top-here x' n q l.1.0 l.0).part in
+        let long : length (node_words q) ≡ n = ap length (sym l.1.0) ∙ length-take-le n x' l.0 in
+        let w = c (node_words q) (top_here x' n q l.1.0 l.0).part in
         let (i, j) = fits w short (omega (arith, long, l.0, alike)) in
         (omega (arith, i, long, l.0, alike, same), (j, l.1.1))

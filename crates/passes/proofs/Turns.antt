@@ -10,7 +10,7 @@ use Rattle.sql.specs.Answer.{Answer, done, refused, ◌>>=◌}
 use Rattle.kept.specs.Kept.{Kept, kept}
 use Rattle.fold_operator.specs.declared.Folded.{Folded}
 use Rattle.fold_operator.specs.declared.Folded.TheVariants as Folded
-use Rattle.passes.specs.Passes.{Plan-in, PlanAt, Left, Leaves, Runs}
+use Rattle.passes.specs.Passes.{PlanIn, PlanAt, Left, Leaves, Runs}
 use Rattle.cells.specs.Room.{Short, Copies}
 use Rattle.passes.proofs.Running.{after, stop, copied}
 
@@ -18,8 +18,8 @@ abbrev pub Gives : (G H : Schema → List ℕ → Type 0) → Type 0
 Gives G H = (schema : Schema) (text : List ℕ) → G schema text → H schema text
 
 -- With less lent.
-pub plan-with : {G H : Schema → List ℕ → Type 0} → Gives G H → {x : List ℕ} {t : ℕ} → PlanAt G x t → PlanAt H x t
-plan-with give at =
+pub plan_with : {G H : Schema → List ℕ → Type 0} → Gives G H → {x : List ℕ} {t : ℕ} → PlanAt G x t → PlanAt H x t
+plan_with give at =
     record {
       schema = at.schema;
       text = at.text;
@@ -31,14 +31,14 @@ plan-with give at =
       short = at.short;
     }
 
-pub runs-with : {G H : Schema → List ℕ → Type 0} → Gives G H → (f : ℕ → Schema → Node → Answer Node) (x : List ℕ) (t : ℕ) (d : List ℕ) (r : Folded)
+pub runs_with : {G H : Schema → List ℕ → Type 0} → Gives G H → (f : ℕ → Schema → Node → Answer Node) (x : List ℕ) (t : ℕ) (d : List ℕ) (r : Folded)
     → Runs H f x t d r → Runs G f x t d r
-runs-with give f x t d r h schema text tables room p g at = h schema text tables room p (give schema text g) at
+runs_with give f x t d r h schema text tables room p g at = h schema text tables room p (give schema text g) at
 
 -- A plan in y, of the same schema, that can be worked on.
-next-at : (G : Schema → List ℕ → Type 0) (y : List ℕ) (n : ℕ) {x : List ℕ} {t : ℕ} (at : PlanAt G x t) → length y ≡ length x → (answer : Answer Node)
+next_at : (G : Schema → List ℕ → Type 0) (y : List ℕ) (n : ℕ) {x : List ℕ} {t : ℕ} (at : PlanAt G x t) → length y ≡ length x → (answer : Answer Node)
     → Left (Kept at.schema at.text at.tables at.p) y answer (Folded.Done n) → PlanAt G y n
-next-at G y n at alike (done q) h =
+next_at G y n at alike (done q) h =
     record {
       schema = at.schema;
       text = at.text;
@@ -55,18 +55,18 @@ next-at G y n at alike (done q) h =
           };
       short = omega (arith, at.short, alike);
     }
-next-at G y n at alike (refused number place) h = absurd h
+next_at G y n at alike (refused number place) h = absurd h
 
 module _ {G H : Schema → List ℕ → Type 0} (give : Gives G H) (f : ℕ → Schema → Node → Answer Node) (x : List ℕ) (t : ℕ) (y : List ℕ) where
-  pub runs-stop : (number place : ℕ) (r : Folded) → r ≡ Folded.Refused number place → Runs H f x t y r → (g : ℕ → Schema → Node → Answer Node) (d : List ℕ)
+  pub runs_stop : (number place : ℕ) (r : Folded) → r ≡ Folded.Refused number place → Runs H f x t y r → (g : ℕ → Schema → Node → Answer Node) (d : List ℕ)
       → Runs G (λ room schema p. f room schema p >>= g room schema) x t d (Folded.Refused number place)
-  runs-stop number place r e h g d schema text tables room p k at =
+  runs_stop number place r e h g d schema text tables room p k at =
       stop schema text tables p (g room schema) (subst (Leaves (Kept schema text tables p) y (f room schema p)) e (h schema text tables room p (give schema text k) at))
 
   -- What the pass leaves can be worked on.
-  pub plan-next : (n : ℕ) (r : Folded) → r ≡ Folded.Done n → Runs H f x t y r → length y ≡ length x → PlanAt G x t → PlanAt G y n
-  plan-next n r e h alike at =
-      next-at G y n at alike (f at.room at.schema at.p)
+  pub plan_next : (n : ℕ) (r : Folded) → r ≡ Folded.Done n → Runs H f x t y r → length y ≡ length x → PlanAt G x t → PlanAt G y n
+  plan_next n r e h alike at =
+      next_at G y n at alike (f at.room at.schema at.p)
       (subst (Leaves (Kept at.schema at.text at.tables at.p) y (f at.room at.schema at.p)) e
       (h at.schema at.text at.tables at.room at.p (give at.schema at.text at.given) at.plan)).is
 
@@ -79,28 +79,28 @@ module _ {G H : Schema → List ℕ → Type 0} (give : Gives G H) (f : ℕ → 
       (λ q next. k schema text tables room q (give' schema text given) next)
 
 -- nothing more in turn
-end-left : (Fit : Node → Type 0) (d : List ℕ) (answer : Answer Node) (r : Folded) → Left Fit d answer r → Left Fit d (answer >>= λ q. done q) r
-end-left Fit d (done q) r h = h
-end-left Fit d (refused number place) r h = h
+end_left : (Fit : Node → Type 0) (d : List ℕ) (answer : Answer Node) (r : Folded) → Left Fit d answer r → Left Fit d (answer >>= λ q. done q) r
+end_left Fit d (done q) r h = h
+end_left Fit d (refused number place) r h = h
 
-pub runs-end : {G : Schema → List ℕ → Type 0} (f : ℕ → Schema → Node → Answer Node) (x : List ℕ) (t : ℕ) (d : List ℕ) (r : Folded) → Runs G f x t d r
+pub runs_end : {G : Schema → List ℕ → Type 0} (f : ℕ → Schema → Node → Answer Node) (x : List ℕ) (t : ℕ) (d : List ℕ) (r : Folded) → Runs G f x t d r
     → Runs G (λ room schema p. f room schema p >>= λ q. done q) x t d r
-runs-end f x t d r h schema text tables room p g at =
-    record { is = end-left (Kept schema text tables p) d (f room schema p) r (h schema text tables room p g at).is }
+runs_end f x t d r h schema text tables room p g at =
+    record { is = end_left (Kept schema text tables p) d (f room schema p) r (h schema text tables room p g at).is }
 
 -- What a pass leaves in x' is copied to d, or it is refused all the same.
-pub runs-copied : {G : Schema → List ℕ → Type 0} (f : ℕ → Schema → Node → Answer Node) (x : List ℕ) (t : ℕ) (x' y : List ℕ) (n m : ℕ) (r : Folded) (d : List ℕ)
+pub runs_copied : {G : Schema → List ℕ → Type 0} (f : ℕ → Schema → Node → Answer Node) (x : List ℕ) (t : ℕ) (x' y : List ℕ) (n m : ℕ) (r : Folded) (d : List ℕ)
     → r ≡ Folded.Done n → Runs G f x t x' r → Short y → length y ≡ length x' → length d ≡ length y → Copies x' 0 n y 0 m d → Runs G f x t d (Folded.Done m)
-runs-copied f x t x' y n m r d e h short alike same c schema text tables room p g at =
+runs_copied f x t x' y n m r d e h short alike same c schema text tables room p g at =
     copied schema text tables p x' y n m d short alike same c (subst (Leaves (Kept schema text tables p) x' (f room schema p)) e (h schema text tables room p g at))
 
 elsewhere : (Fit : Node → Type 0) (x' d : List ℕ) (number place : ℕ) (answer : Answer Node) → Left Fit x' answer (Folded.Refused number place) → Left Fit d answer (Folded.Refused number place)
 elsewhere Fit x' d number place (done q) h = h
 elsewhere Fit x' d number place (refused k i) h = h
 
-pub runs-refused : {G : Schema → List ℕ → Type 0} (f : ℕ → Schema → Node → Answer Node) (x : List ℕ) (t : ℕ) (x' : List ℕ) (number place : ℕ) (r : Folded) (d : List ℕ)
+pub runs_refused : {G : Schema → List ℕ → Type 0} (f : ℕ → Schema → Node → Answer Node) (x : List ℕ) (t : ℕ) (x' : List ℕ) (number place : ℕ) (r : Folded) (d : List ℕ)
     → r ≡ Folded.Refused number place → Runs G f x t x' r → Runs G f x t d (Folded.Refused number place)
-runs-refused f x t x' number place r d e h schema text tables room p g at =
+runs_refused f x t x' number place r d e h schema text tables room p g at =
     record {
       is = elsewhere (Kept schema text tables p) x' d number place (f room schema p)
           (subst (Leaves (Kept schema text tables p) x' (f room schema p)) e (h schema text tables room p g at)).is;

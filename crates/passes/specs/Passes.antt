@@ -3,14 +3,14 @@ use Rattle.std.specs.Prelude.{ℕ, ◌*◌, ◌≤◌, ◌<◌, ◌≡◌, List,
 use Rattle.sql.specs.Schema.{Schema}
 use Rattle.sql.specs.Plan.{Node}
 use Rattle.sql.specs.Answer.{Answer, done, refused}
-use Rattle.words.specs.Words.{node-words}
+use Rattle.words.specs.Words.{node_words}
 use Rattle.sound.specs.Sound.{Named}
-use Rattle.cells.specs.Room.{most-words}
+use Rattle.cells.specs.Room.{most_words}
 use Rattle.records.specs.Records.{Records}
 use Rattle.kept.specs.Kept.{Kept}
 use Rattle.fold_operator.specs.declared.Folded.{Folded}
 use Rattle.fold_operator.specs.declared.Folded.TheVariants as Folded
-use Rattle.cells.specs.Cells.{cell-words}
+use Rattle.cells.specs.Cells.{cell_words}
 
 -- What the code is lent of a schema: its records. Its names lie in the text.
 pub record Lent (tables columns : List ℕ) (schema : Schema) (text : List ℕ) : Type 0 where
@@ -18,11 +18,11 @@ pub record Lent (tables columns : List ℕ) (schema : Schema) (text : List ℕ) 
   pub named : Named schema (length text)
 
 -- The sound plan p is the first t words of x, which has room for `room` cells.
-pub record Plan-in (schema : Schema) (text : List ℕ) (tables : ℕ) (x : List ℕ) (t room : ℕ) (p : Node) : Type 0 where
+pub record PlanIn (schema : Schema) (text : List ℕ) (tables : ℕ) (x : List ℕ) (t room : ℕ) (p : Node) : Type 0 where
   pub fit : Kept schema text tables p p
-  pub words_are : take t x ≡ node-words p
+  pub words_are : take t x ≡ node_words p
   pub inside : t ≤ length x
-  pub all : length x ≡ cell-words * room
+  pub all : length x ≡ cell_words * room
 
 -- Some such plan of a schema that is lent: `Given schema text` says what of the schema and the text. Columns and words can be counted without overflow.
 pub record PlanAt (Given : Schema → List ℕ → Type 0) (x : List ℕ) (t : ℕ) : Type 0 where
@@ -32,8 +32,8 @@ pub record PlanAt (Given : Schema → List ℕ → Type 0) (x : List ℕ) (t : �
   pub room : ℕ
   pub p : Node
   pub given : Given schema text
-  pub plan : Plan-in schema text tables x t room p
-  pub short : length x ≤ most-words
+  pub plan : PlanIn schema text tables x t room p
+  pub short : length x ≤ most_words
 
 -- The slices that a pass works in have the same length.
 pub record Alike (x y z w : List ℕ) : Type 0 where
@@ -43,7 +43,7 @@ pub record Alike (x y z w : List ℕ) : Type 0 where
 
 -- The plan of a done answer is the first n words of d, and is fit; or the refusal's number and place are given back.
 abbrev pub Left : (Node → Type 0) → List ℕ → Answer Node → Folded → Type 0
-Left Fit d (done q) (Folded.Done n) = (n ≤ length d) × ((take n d ≡ node-words q) × Fit q)
+Left Fit d (done q) (Folded.Done n) = (n ≤ length d) × ((take n d ≡ node_words q) × Fit q)
 Left Fit d (done q) (Folded.Refused number place) = ⊥
 Left Fit d (refused number place) (Folded.Done n) = ⊥
 Left Fit d (refused number place) (Folded.Refused said at) = (said ≡ number) × (at ≡ place)
@@ -54,7 +54,7 @@ pub record Leaves (Fit : Node → Type 0) (d : List ℕ) (answer : Answer Node) 
 -- f of the plan in x is left in d, or refused. f is a function of the room, the schema and the plan.
 abbrev pub Runs : (Schema → List ℕ → Type 0) → (ℕ → Schema → Node → Answer Node) → (x : List ℕ) (t : ℕ) → List ℕ → Folded → Type 0
 Runs Given f x t d r =
-    (schema : Schema) (text : List ℕ) (tables room : ℕ) (p : Node) → Given schema text → Plan-in schema text tables x t room p
+    (schema : Schema) (text : List ℕ) (tables room : ℕ) (p : Node) → Given schema text → PlanIn schema text tables x t room p
     → Leaves (Kept schema text tables p) d (f room schema p) r
 
 -- r is what stands in the first n words of d, or refusal 14 if n is past its end.
@@ -65,8 +65,8 @@ Ends d n (Folded.Refused number place) = (length d < n) × ((number ≡ 14) × (
 -- ---- what a pass is lent, where that is not the schema's records alone
 
 -- The text is that of the plan, and short, as text references need.
-abbrev pub For-folding : List ℕ → Schema → List ℕ → Type 0
-For-folding t schema text = (text ≡ t) × (length t < 65536)
+abbrev pub ForFolding : List ℕ → Schema → List ℕ → Type 0
+ForFolding t schema text = (text ≡ t) × (length t < 65536)
 
-abbrev pub For-all : (t tables columns : List ℕ) → Schema → List ℕ → Type 0
-For-all t tables columns schema text = For-folding t schema text × Lent tables columns schema text
+abbrev pub ForAll : (t tables columns : List ℕ) → Schema → List ℕ → Type 0
+ForAll t tables columns schema text = ForFolding t schema text × Lent tables columns schema text

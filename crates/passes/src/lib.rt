@@ -6,7 +6,7 @@ ghost use Rattle.sql.specs.Answer.{done};
 ghost use Rattle.sql.specs.Optimizer as Optimizer;
 ghost use Rattle.sql.specs.Room;
 ghost use Rattle.records.specs.Records.{Records, Tables};
-ghost use Rattle.passes.specs.Passes.{Lent, PlanAt, Alike, Runs, Ends, For-folding};
+ghost use Rattle.passes.specs.Passes.{Lent, PlanAt, Alike, Runs, Ends, ForFolding};
 
 use fold_operator::Folded;
 
@@ -22,9 +22,9 @@ fn in_room(d: &[u32], n: usize) -> Folded
 
 // Pass 1, from x to y.
 pub fn fold(text: &[u8], x: &[u32], y: &mut [u32], t: usize) -> Folded
-    requires plan_at { PlanAt (For-folding text.now) x.now t }
+    requires plan_at { PlanAt (ForFolding text.now) x.now t }
     requires y_len { length y.old ≡ length x.now }
-    ensures { Runs (For-folding text.now) (λ room schema p. Optimizer.ConstantFolding 0 p) x.now t y.new result }
+    ensures { Runs (ForFolding text.now) (λ room schema p. Optimizer.ConstantFolding 0 p) x.now t y.new result }
 {
     constant_folding::constant_folding(text, x, t, y)
 }

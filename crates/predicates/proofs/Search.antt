@@ -8,21 +8,21 @@ use lib.Dec.{eqb}
 use lib.ListN.{length, take, drop}
 use lib.Seq.{length-take-le}
 use borrow.Author.Tests.{eq-eqb, ne_eqb}
-use Rattle.sql.specs.Plan.{Node, node-size}
+use Rattle.sql.specs.Plan.{Node, node_size}
 use Rattle.sheet.specs.Cell as Sheet
 use Rattle.sheet.specs.Cells.{cells}
 use Rattle.cells.specs.declared.Cell.{Cell}
-use Rattle.cells.specs.Cells.{cell-words, cell_at}
-use Rattle.cells.proofs.Laws.{part_in, part-is}
-use Rattle.words.specs.Words.{node-words}
+use Rattle.cells.specs.Cells.{cell_words, cell_at}
+use Rattle.cells.proofs.Laws.{part_in, part_is}
+use Rattle.words.specs.Words.{node_words}
 use Rattle.words.specs.Place.{NodeHere, NodeAt}
 use Rattle.words.proofs.Sizes.{words_long}
-use Rattle.encode.specs.Encode.{cells_in, as-cell}
-use Rattle.encode.proofs.Says.{node-cells}
-use Rattle.encode.proofs.Laws.{next-cell}
-use Rattle.sheet_laws.specs.Size.{node-length}
-use Rattle.predicates.specs.Predicates.{any-cell, says-predicate, predicated, has-predicate, HasPredicate}
-use Rattle.predicates.proofs.Cells.{predicate-told}
+use Rattle.encode.specs.Encode.{cells_in, as_cell}
+use Rattle.encode.proofs.Says.{node_cells}
+use Rattle.encode.proofs.Laws.{next_cell}
+use Rattle.sheet_laws.specs.Size.{node_length}
+use Rattle.predicates.specs.Predicates.{any_cell, says_predicate, predicated, has_predicate, HasPredicate}
+use Rattle.predicates.proofs.Cells.{predicate_told}
 
 -- ---- one cell
 
@@ -30,90 +30,90 @@ module _ (tag flag : ℕ) where
   abbrev bit : Bool
   bit = eqb (flag % 2) 1
 
-  pub part-isnt : tag < 51 → false ≡ says-predicate tag flag
-  part-isnt h =
+  pub part_isnt : tag < 51 → false ≡ says_predicate tag flag
+  part_isnt h =
       let a = ne_eqb tag 51 (λ e. omega arith) in
       let b = ne_eqb tag 56 (λ e. omega arith) in
       let c = ne_eqb tag 62 (λ e. omega arith) in
       sym (ap (λ (z : Bool). z || ((eqb tag 56 || eqb tag 62) && bit)) a ∙ ap (λ (z : Bool). (z || eqb tag 62) && bit) b ∙ ap (λ (z : Bool). z && bit) c)
 
-  pub filter-is : tag ≡ 51 → true ≡ says-predicate tag flag
-  filter-is e = sym (ap (λ (z : Bool). z || ((eqb tag 56 || eqb tag 62) && bit)) (eq-eqb tag 51 e))
+  pub filter_is : tag ≡ 51 → true ≡ says_predicate tag flag
+  filter_is e = sym (ap (λ (z : Bool). z || ((eqb tag 56 || eqb tag 62) && bit)) (eq-eqb tag 51 e))
 
-  no-filter : (tag ≡ 51 → ⊥) → says-predicate tag flag ≡ (eqb tag 56 || eqb tag 62) && bit
-  no-filter h = ap (λ (z : Bool). z || ((eqb tag 56 || eqb tag 62) && bit)) (ne_eqb tag 51 h)
+  no_filter : (tag ≡ 51 → ⊥) → says_predicate tag flag ≡ (eqb tag 56 || eqb tag 62) && bit
+  no_filter h = ap (λ (z : Bool). z || ((eqb tag 56 || eqb tag 62) && bit)) (ne_eqb tag 51 h)
 
-  pub join-by-bit : (tag ≡ 51 → ⊥) → tag ≡ 56 → bit ≡ says-predicate tag flag
-  join-by-bit h e = sym (no-filter h ∙ ap (λ (z : Bool). (z || eqb tag 62) && bit) (eq-eqb tag 56 e))
+  pub join_by_bit : (tag ≡ 51 → ⊥) → tag ≡ 56 → bit ≡ says_predicate tag flag
+  join_by_bit h e = sym (no_filter h ∙ ap (λ (z : Bool). (z || eqb tag 62) && bit) (eq-eqb tag 56 e))
 
-  no_join : (tag ≡ 51 → ⊥) → (tag ≡ 56 → ⊥) → says-predicate tag flag ≡ eqb tag 62 && bit
-  no_join h i = no-filter h ∙ ap (λ (z : Bool). (z || eqb tag 62) && bit) (ne_eqb tag 56 i)
+  no_join : (tag ≡ 51 → ⊥) → (tag ≡ 56 → ⊥) → says_predicate tag flag ≡ eqb tag 62 && bit
+  no_join h i = no_filter h ∙ ap (λ (z : Bool). (z || eqb tag 62) && bit) (ne_eqb tag 56 i)
 
-  pub scan-by-bit : (tag ≡ 51 → ⊥) → (tag ≡ 56 → ⊥) → tag ≡ 62 → bit ≡ says-predicate tag flag
-  scan-by-bit h i e = sym (no_join h i ∙ ap (λ (z : Bool). z && bit) (eq-eqb tag 62 e))
+  pub scan_by_bit : (tag ≡ 51 → ⊥) → (tag ≡ 56 → ⊥) → tag ≡ 62 → bit ≡ says_predicate tag flag
+  scan_by_bit h i e = sym (no_join h i ∙ ap (λ (z : Bool). z && bit) (eq-eqb tag 62 e))
 
-  pub another-isnt : (tag ≡ 51 → ⊥) → (tag ≡ 56 → ⊥) → (tag ≡ 62 → ⊥) → false ≡ says-predicate tag flag
-  another-isnt h i j = sym (no_join h i ∙ ap (λ (z : Bool). z && bit) (ne_eqb tag 62 j))
+  pub another_isnt : (tag ≡ 51 → ⊥) → (tag ≡ 56 → ⊥) → (tag ≡ 62 → ⊥) → false ≡ says_predicate tag flag
+  another_isnt h i j = sym (no_join h i ∙ ap (λ (z : Bool). z && bit) (ne_eqb tag 62 j))
 
 -- ---- the loop: the cells from word i on decide
 
 pub record Undecided (x : List ℕ) (n i : ℕ) : Type 0 where
   pub inside : n ≤ length x
-  pub whole : n ≡ i + cell-words * length (cells_in (drop i (take n x)))
-  pub same : any-cell predicated (cells_in (take n x)) ≡ any-cell predicated (cells_in (drop i (take n x)))
+  pub whole : n ≡ i + cell_words * length (cells_in (drop i (take n x)))
+  pub same : any_cell predicated (cells_in (take n x)) ≡ any_cell predicated (cells_in (drop i (take n x)))
 
 module _ {x : List ℕ} {n i : ℕ} (u : Undecided x n i) where
-  pub next-inside : i < n → (i + cell-words ≤ n) × (n ≤ length x)
-  next-inside h = (omega (arith, u.whole), u.inside)
+  pub next_inside : i < n → (i + cell_words ≤ n) × (n ≤ length x)
+  next_inside h = (omega (arith, u.whole), u.inside)
 
-  module _ (h : i < n) {k : Cell} (e : k ≡ cell_at x (i + cell-words)) where
-    next : cells_in (drop i (take n x)) ≡ as-cell k ∷ cells_in (drop (i + cell-words) (take n x))
-    next = next-cell x n i (next-inside h).0 u.inside ∙ ap (λ (c : Cell). as-cell c ∷ cells_in (drop (i + cell-words) (take n x))) (sym e)
+  module _ (h : i < n) {k : Cell} (e : k ≡ cell_at x (i + cell_words)) where
+    next : cells_in (drop i (take n x)) ≡ as_cell k ∷ cells_in (drop (i + cell_words) (take n x))
+    next = next_cell x n i (next_inside h).0 u.inside ∙ ap (λ (c : Cell). as_cell c ∷ cells_in (drop (i + cell_words) (take n x))) (sym e)
 
-    first : any-cell predicated (cells_in (take n x)) ≡ predicated (as-cell k) || any-cell predicated (cells_in (drop (i + cell-words) (take n x)))
-    first = u.same ∙ ap (any-cell predicated) next
+    first : any_cell predicated (cells_in (take n x)) ≡ predicated (as_cell k) || any_cell predicated (cells_in (drop (i + cell_words) (take n x)))
+    first = u.same ∙ ap (any_cell predicated) next
 
-    decided : predicated (as-cell k) ≡ true → any-cell predicated (cells_in (take n x)) ≡ true
-    decided f = first ∙ ap (λ (b : Bool). b || any-cell predicated (cells_in (drop (i + cell-words) (take n x)))) f
+    decided : predicated (as_cell k) ≡ true → any_cell predicated (cells_in (take n x)) ≡ true
+    decided f = first ∙ ap (λ (b : Bool). b || any_cell predicated (cells_in (drop (i + cell_words) (take n x)))) f
 
-    pub undecided-next : predicated (as-cell k) ≡ false → Undecided x n (i + cell-words)
-    undecided-next f =
+    pub undecided_next : predicated (as_cell k) ≡ false → Undecided x n (i + cell_words)
+    undecided_next f =
         record {
           inside = u.inside;
           whole = omega (arith, u.whole, ap length next);
-          same = first ∙ ap (λ (b : Bool). b || any-cell predicated (cells_in (drop (i + cell-words) (take n x)))) f;
+          same = first ∙ ap (λ (b : Bool). b || any_cell predicated (cells_in (drop (i + cell_words) (take n x)))) f;
         }
 
   none_left : (ks : List Sheet.Cell) → length ks ≡ 0 → ks ≡ []
   none_left [] e = refl
   none_left (k ∷ ks) e = absurd (omega arith)
 
-  none_found : n ≤ i → any-cell predicated (cells_in (take n x)) ≡ false
-  none_found h = u.same ∙ ap (any-cell predicated) (none_left (cells_in (drop i (take n x))) (omega (arith, u.whole)))
+  none_found : n ≤ i → any_cell predicated (cells_in (take n x)) ≡ false
+  none_found h = u.same ∙ ap (any_cell predicated) (none_left (cells_in (drop i (take n x))) (omega (arith, u.whole)))
 
 -- ---- the plan
 
 module _ {x : List ℕ} {n : ℕ} (p : Node) (here : NodeHere x 0 n p) where
-  plan-words : take n x ≡ node-words p
-  plan-words = let e : n - 0 ≡ n = omega arith in subst (λ (m : ℕ). take m x ≡ node-words p) e (part-is here.part)
+  plan_words : take n x ≡ node_words p
+  plan_words = let e : n - 0 ≡ n = omega arith in subst (λ (m : ℕ). take m x ≡ node_words p) e (part_is here.part)
 
-  plan-cells : cells_in (take n x) ≡ cells p
-  plan-cells = ap cells_in plan-words ∙ node-cells p
+  plan_cells : cells_in (take n x) ≡ cells p
+  plan_cells = ap cells_in plan_words ∙ node_cells p
 
-  told : any-cell predicated (cells_in (take n x)) ≡ has-predicate p
-  told = ap (any-cell predicated) plan-cells ∙ predicate-told p
+  told : any_cell predicated (cells_in (take n x)) ≡ has_predicate p
+  told = ap (any_cell predicated) plan_cells ∙ predicate_told p
 
-pub undecided-all : {x : List ℕ} {n : ℕ} → NodeAt x 0 n → Undecided x n 0
-undecided-all {x} {n} at =
-    let w = plan-words at.p at.here in
+pub undecided_all : {x : List ℕ} {n : ℕ} → NodeAt x 0 n → Undecided x n 0
+undecided_all {x} {n} at =
+    let w = plan_words at.p at.here in
     let i = (part_in at.here.part).1 in
     record {
       inside = i;
-      whole = omega (arith, length-take-le n x i, ap length w, words_long at.p, ap length (plan-cells at.p at.here), node-length at.p);
+      whole = omega (arith, length-take-le n x i, ap length w, words_long at.p, ap length (plan_cells at.p at.here), node_length at.p);
       same = refl;
     }
 
-pub found : {x : List ℕ} {n i : ℕ} → Undecided x n i → i < n → {k : Cell} → k ≡ cell_at x (i + cell-words) → predicated (as-cell k) ≡ true → HasPredicate x n true
+pub found : {x : List ℕ} {n i : ℕ} → Undecided x n i → i < n → {k : Cell} → k ≡ cell_at x (i + cell_words) → predicated (as_cell k) ≡ true → HasPredicate x n true
 found u h e f p here = sym (decided u h e f) ∙ told p here
 
 pub not_found : {x : List ℕ} {n i : ℕ} → Undecided x n i → n ≤ i → HasPredicate x n false

@@ -3,12 +3,12 @@
 ghost use Rattle.std.specs.Prelude.{◌≡◌, ◌&&◌, ◌||◌, ◌%◌, eqb};
 ghost use Rattle.sheet.specs.Tags;
 ghost use Rattle.words.specs.Place.{NodeAt};
-ghost use Rattle.predicates.specs.Predicates.{says-predicate, HasPredicate};
+ghost use Rattle.predicates.specs.Predicates.{says_predicate, HasPredicate};
 
 // Whether a cell with this tag and flag says that there is a predicate: a Filter always, a NestedLoopJoin and a Scan by bit 0 of their flag. No part of a node,
 // which most cells are, has a tag so high.
 fn says_predicate(tag: u32, flag: u32) -> bool
-    ensures { result ≡ says-predicate tag flag }
+    ensures { result ≡ says_predicate tag flag }
 {
     if tag < tags::FILTER {
         return false;

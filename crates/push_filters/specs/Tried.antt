@@ -6,26 +6,26 @@ use Rattle.sql.specs.Schema.{Schema}
 use Rattle.sql.specs.Expression.{Expression, and}
 use Rattle.sql.specs.Plan.{filter, other, Node, leaf, over, join}
 use Rattle.sql.specs.Answer.{Answer}
-use Rattle.cells.specs.Room.{most-words, Wrote}
-use Rattle.words.specs.Words.{expression-words, node-words}
+use Rattle.cells.specs.Room.{most_words, Wrote}
+use Rattle.words.specs.Words.{expression_words, node_words}
 use Rattle.words.specs.Place.{ExpressionHere}
 use Rattle.records.specs.Records.{Tables}
 use Rattle.edit.specs.Edit.{Holds, Shares, Left, Placed}
 use Rattle.kept.specs.Kept.{Kept}
-use Rattle.cells.specs.Cells.{cell-words}
+use Rattle.cells.specs.Cells.{cell_words}
 
 -- A Filter whose predicate is the first `at` words of y, and whose source stands in x from lo up to `end`. The words of x behind its source, up to t − tail,
 -- are gone once the Filter is placed; it has no more words than they leave.
 pub record Gathered (x y : List ℕ) (at end t lo tail : ℕ) (pre post : List ℕ) (e : Expression) (source : Node) : Type 0 where
   pub gone : List ℕ
-  pub whole : take t x ≡ pre ++ (node-words source ++ (gone ++ post))
+  pub whole : take t x ≡ pre ++ (node_words source ++ (gone ++ post))
   pub low : length pre ≡ lo
-  pub below : lo + length (node-words source) ≡ end
+  pub below : lo + length (node_words source) ≡ end
   pub high : length post ≡ tail
   pub inside : t ≤ length x
-  pub long : at ≡ length (expression-words e)
-  pub predicate : take at y ≡ expression-words e
-  pub fits : at + cell-words ≤ length gone
+  pub long : at ≡ length (expression_words e)
+  pub predicate : take at y ≡ expression_words e
+  pub fits : at + cell_words ≤ length gone
 
 -- A Filter with that origin stands there so; any other node stands in x, from lo up to t − tail, and nothing is gathered.
 abbrev pub StandsAs : (x y : List ℕ) (at end t lo tail origin : ℕ) (pre post : List ℕ) → Node → Type 0
@@ -45,7 +45,7 @@ pub record TriedAt (records x y : List ℕ) (at end t lo tail origin : ℕ) : Ty
   pub text : List ℕ
   pub tables : ℕ
   pub given : Tables records schema
-  pub short : length x ≤ most-words
+  pub short : length x ≤ most_words
   pub room : ℕ
   pub rest : ℕ
   pub shares : Shares x lo tail room rest
@@ -64,12 +64,12 @@ Tries f records x y at end t lo tail origin r x' =
 -- Whatever predicates are the first `at` words of y, and the words of x from lo up to hi: the first r words of y' are both under an And with the origin `new`.
 abbrev pub Gathers : (new : ℕ) (x : List ℕ) (lo hi : ℕ) (y : List ℕ) (at r : ℕ) → List ℕ → Type 0
 Gathers new x lo hi y at r y' =
-    (e q : Expression) → ExpressionHere x lo hi q → Wrote y 0 (expression-words e) at y → Wrote y 0 (expression-words (and new e q)) r y'
+    (e q : Expression) → ExpressionHere x lo hi q → Wrote y 0 (expression_words e) at y → Wrote y 0 (expression_words (and new e q)) r y'
 
 -- Whatever node stands in x from lo up to `end`, and whatever predicate is the first n words of y: a Filter with the predicate and the origin og, over the
 -- node, takes the place of the node and of the words behind it, up to t − tail.
 abbrev pub Filters : (og : ℕ) (x y : List ℕ) (n t lo end tail r : ℕ) → List ℕ → Type 0
 Filters og x y n t lo end tail r x' =
-    (e : Expression) (source : Node) (pre gone post : List ℕ) → take t x ≡ pre ++ (node-words source ++ (gone ++ post))
-    → length pre ≡ lo → lo + length (node-words source) ≡ end → length post ≡ tail → Wrote y 0 (expression-words e) n y
-    → Placed x' r pre post (node-words (over og (filter e) source))
+    (e : Expression) (source : Node) (pre gone post : List ℕ) → take t x ≡ pre ++ (node_words source ++ (gone ++ post))
+    → length pre ≡ lo → lo + length (node_words source) ≡ end → length post ≡ tail → Wrote y 0 (expression_words e) n y
+    → Placed x' r pre post (node_words (over og (filter e) source))

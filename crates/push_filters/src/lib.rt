@@ -82,7 +82,7 @@ fn maybe_push_filter(
 ) -> usize
     requires tried_at { TriedAt tables.now x.old y.old at end t lo tail origin }
     requires buffers { Buffers x.old y.old z.old w.old }
-    ensures { Tries (λ room schema. Room.maybe-push-filter room schema n) tables.now x.old y.old at end t lo tail origin result x.new }
+    ensures { Tries (λ room schema. Room.maybe_push_filter room schema n) tables.now x.old y.old at end t lo tail origin result x.new }
 {
     if at == 0 {
         return t;
@@ -122,7 +122,7 @@ fn push_filters(
 ) -> usize
     requires tried_at { TriedAt tables.now x.old y.old at end t lo tail origin }
     requires buffers { Buffers x.old y.old z.old w.old }
-    ensures { Tries (λ room schema. Room.push-filters room schema n) tables.now x.old y.old at end t lo tail origin result x.new }
+    ensures { Tries (λ room schema. Room.push_filters room schema n) tables.now x.old y.old at end t lo tail origin result x.new }
 {
     let pushed = maybe_push_filter(x, y, z, w, n, at, end, t, lo, tail, tables, origin);
     if x.len() < pushed {
@@ -145,7 +145,7 @@ pub fn push_filters_in_place(
 ) -> usize
     requires pass_at { PassAt tables.now x.old t lo tail }
     requires buffers { Buffers x.old y.old z.old w.old }
-    ensures { Passes (λ room schema. Room.push-filters room schema n) tables.now x.old t lo tail result x.new }
+    ensures { Passes (λ room schema. Room.push_filters room schema n) tables.now x.old t lo tail result x.new }
 {
     let hi = t - tail;
     if cells::tag_at(x, hi) == tags::FILTER {

@@ -5,7 +5,7 @@ ghost use Rattle.sql.specs.Room;
 ghost use Rattle.words.specs.Place.{NodeAt};
 ghost use Rattle.kept.specs.Pass.{PassAt, Passes};
 ghost use Rattle.split_join.specs.Split.{HasPredicate};
-ghost use Rattle.push_join.specs.Below.{Passes-below};
+ghost use Rattle.push_join.specs.Below.{PassesBelow};
 
 // Whether the node from lo to hi is a NestedLoopJoin with a predicate.
 fn has_predicate(s: &[u32], lo: usize, hi: usize) -> bool
@@ -35,8 +35,8 @@ pub fn maybe_push_join(
     requires y_len { length y.old ≡ length x.old }
     requires z_len { length z.old ≡ length x.old }
     requires w_len { length w.old ≡ length x.old }
-    ensures passes { Passes Room.maybe-push-join tables.now x.old t lo tail result x.new }
-    ensures passes_below { Passes-below x.old lo tail result x.new }
+    ensures passes { Passes Room.maybe_push_join tables.now x.old t lo tail result x.new }
+    ensures passes_below { PassesBelow x.old lo tail result x.new }
 {
     let hi = t - tail;
     if has_predicate(x, lo, hi) {

@@ -8,78 +8,78 @@ use mathlib.Core.Bool.{Bool, cond}
 use mathlib.Core.Path.{◌≡◌, refl, sym, ap, ◌∙◌}
 use mathlib.Core.List.{List, map}
 use lib.ListN.{length, get_or, get_or-eq_default}
-use Rattle.sql.specs.Schema.{Table, Schema, no-column, no_table, table_of, column-of}
+use Rattle.sql.specs.Schema.{Table, Schema, no_column, no_table, table_of, column_of}
 use Rattle.sql.specs.Plan.{up_to}
 use Rattle.sheet.specs.Bytes.{word}
 use Rattle.layout.specs.Layout.{Number}
-use Rattle.records.specs.Records.{record-count, field, first-column, table-width, primary-key, column-in, table-in, schema-in, Records, Tables}
+use Rattle.records.specs.Records.{record_count, field, first_column, table_width, primary_key, column_in, table_in, schema_in, Records, Tables}
 
 -- ---- what a function gives of each number of a range
 
 module _ {A : Type 0} (f : ℕ → A) where
-  pub length-range : (k n : ℕ) → length (map f (up_to k n)) ≡ n
-  length-range k zero = refl
-  length-range k (suc n) = ap suc (length-range (suc k) n)
+  pub length_range : (k n : ℕ) → length (map f (up_to k n)) ≡ n
+  length_range k zero = refl
+  length_range k (suc n) = ap suc (length_range (suc k) n)
 
-  pub getD-range : (d : A) (k n i : ℕ) → i < n → get_or (map f (up_to k n)) i d ≡ f (k + i)
-  getD-range d k zero i h = absurd (omega arith)
-  getD-range d k (suc n) zero h = let e : k ≡ k + 0 = omega arith in ap f e
-  getD-range d k (suc n) (suc i) h = let e : suc k + i ≡ k + suc i = omega arith in getD-range d (suc k) n i (omega arith) ∙ ap f e
+  pub getD_range : (d : A) (k n i : ℕ) → i < n → get_or (map f (up_to k n)) i d ≡ f (k + i)
+  getD_range d k zero i h = absurd (omega arith)
+  getD_range d k (suc n) zero h = let e : k ≡ k + 0 = omega arith in ap f e
+  getD_range d k (suc n) (suc i) h = let e : suc k + i ≡ k + suc i = omega arith in getD_range d (suc k) n i (omega arith) ∙ ap f e
 
 -- ---- a field
 
-pub field-there : (k : ℕ) (records : List ℕ) (i : ℕ) → i < record-count records → field k records i ≡ word records (i * 16 + k)
+pub field_there : (k : ℕ) (records : List ℕ) (i : ℕ) → i < record_count records → field k records i ≡ word records (i * 16 + k)
 unfolding field
-field-there k records i h = ap (λ (b : Bool). cond b (word records (i * 16 + k)) 0) (lt-ltb i (record-count records) h)
+field_there k records i h = ap (λ (b : Bool). cond b (word records (i * 16 + k)) 0) (lt-ltb i (record_count records) h)
 
-pub field-none : (k : ℕ) (records : List ℕ) (i : ℕ) → record-count records ≤ i → field k records i ≡ 0
+pub field_none : (k : ℕ) (records : List ℕ) (i : ℕ) → record_count records ≤ i → field k records i ≡ 0
 unfolding field
-field-none k records i h = ap (λ (b : Bool). cond b (word records (i * 16 + k)) 0) (le-ltb i (record-count records) h)
+field_none k records i h = ap (λ (b : Bool). cond b (word records (i * 16 + k)) 0) (le-ltb i (record_count records) h)
 
-pub field-read : (k : ℕ) (records : List ℕ) (i : ℕ) → i < record-count records → {r : ℕ} → Number 4294967296 (word records (i * 16 + k)) r
+pub field_read : (k : ℕ) (records : List ℕ) (i : ℕ) → i < record_count records → {r : ℕ} → Number 4294967296 (word records (i * 16 + k)) r
     → Number 4294967296 (field k records i) r
-field-read k records i h n = record { is = n.is ∙ sym (field-there k records i h); small = n.small }
+field_read k records i h n = record { is = n.is ∙ sym (field_there k records i h); small = n.small }
 
-pub field_past : (k : ℕ) (records : List ℕ) (i : ℕ) → record-count records ≤ i → Number 4294967296 (field k records i) 0
-field_past k records i h = record { is = sym (field-none k records i h); small = omega arith }
+pub field_past : (k : ℕ) (records : List ℕ) (i : ℕ) → record_count records ≤ i → Number 4294967296 (field k records i) 0
+field_past k records i h = record { is = sym (field_none k records i h); small = omega arith }
 
 -- A record that says a number is there.
-pub field-some : (k : ℕ) (records : List ℕ) (i : ℕ) → 0 < field k records i → i < record-count records
-field-some k records i h = go (dec_lt i (record-count records))
+pub field_some : (k : ℕ) (records : List ℕ) (i : ℕ) → 0 < field k records i → i < record_count records
+field_some k records i h = go (dec_lt i (record_count records))
   where
-    go : Dec (i < record-count records) → i < record-count records
+    go : Dec (i < record_count records) → i < record_count records
     go (yes j) = j
-    go (no j) = absurd (omega (arith, field-none k records i (omega arith)))
+    go (no j) = absurd (omega (arith, field_none k records i (omega arith)))
 
 -- ---- tables and columns
 
 module _ {schema : Schema} {tables columns : List ℕ} (g : Records tables columns schema) (t : ℕ) where
   -- The record of a table says it, also of a table that there isn't.
-  pub table-said : table_of schema t ≡ table-in tables columns t
-  unfolding schema-in
-  table-said = ap (λ (l : Schema). get_or l t no_table) g.say ∙ go (dec_lt t (record-count tables))
+  pub table_said : table_of schema t ≡ table_in tables columns t
+  unfolding schema_in
+  table_said = ap (λ (l : Schema). get_or l t no_table) g.say ∙ go (dec_lt t (record_count tables))
     where
-      go : Dec (t < record-count tables) → get_or (map (table-in tables columns) (up_to 0 (record-count tables))) t no_table ≡ table-in tables columns t
-      go (yes h) = let e : 0 + t ≡ t = omega arith in getD-range (table-in tables columns) no_table 0 (record-count tables) t h ∙ ap (table-in tables columns) e
+      go : Dec (t < record_count tables) → get_or (map (table_in tables columns) (up_to 0 (record_count tables))) t no_table ≡ table_in tables columns t
+      go (yes h) = let e : 0 + t ≡ t = omega arith in getD_range (table_in tables columns) no_table 0 (record_count tables) t h ∙ ap (table_in tables columns) e
       go (no h) =
-          let k : record-count tables ≤ t = omega arith in
-          get_or-eq_default (map (table-in tables columns) (up_to 0 (record-count tables))) no_table (omega (arith, length-range (table-in tables columns) 0 (record-count tables)))
-          ∙ rw (field-none 0 tables t k, field-none 4 tables t k, field-none 8 tables t k, field-none 12 tables t k)
+          let k : record_count tables ≤ t = omega arith in
+          get_or-eq_default (map (table_in tables columns) (up_to 0 (record_count tables))) no_table (omega (arith, length_range (table_in tables columns) 0 (record_count tables)))
+          ∙ rw (field_none 0 tables t k, field_none 4 tables t k, field_none 8 tables t k, field_none 12 tables t k)
 
-  pub key-said : primary-key tables t ≡ (table_of schema t).primary-key
-  key-said = ap (λ (u : Table). u.primary-key) (sym table-said)
+  pub key_said : primary_key tables t ≡ (table_of schema t).primary_key
+  key_said = ap (λ (u : Table). u.primary_key) (sym table_said)
 
-  pub width-said : table-width tables t ≡ length (table_of schema t).columns
-  width-said = sym (ap (λ (u : Table). length u.columns) table-said ∙ length-range (column-in columns) (first-column tables t) (table-width tables t))
+  pub width_said : table_width tables t ≡ length (table_of schema t).columns
+  width_said = sym (ap (λ (u : Table). length u.columns) table_said ∙ length_range (column_in columns) (first_column tables t) (table_width tables t))
 
   -- column i of a table that has it
-  pub column-said : (i : ℕ) → i < table-width tables t → column-of schema t i ≡ column-in columns (first-column tables t + i)
-  column-said i h =
-      ap (λ (u : Table). get_or u.columns i no-column) table-said ∙ getD-range (column-in columns) no-column (first-column tables t) (table-width tables t) i h
+  pub column_said : (i : ℕ) → i < table_width tables t → column_of schema t i ≡ column_in columns (first_column tables t + i)
+  column_said i h =
+      ap (λ (u : Table). get_or u.columns i no_column) table_said ∙ getD_range (column_in columns) no_column (first_column tables t) (table_width tables t) i h
 
-  pub column-none : (i : ℕ) → table-width tables t ≤ i → column-of schema t i ≡ no-column
-  column-none i h = get_or-eq_default (table_of schema t).columns no-column (omega (arith, width-said))
+  pub column_none : (i : ℕ) → table_width tables t ≤ i → column_of schema t i ≡ no_column
+  column_none i h = get_or-eq_default (table_of schema t).columns no_column (omega (arith, width_said))
 
 -- The table records alone.
-pub tables-said : {schema : Schema} {tables columns : List ℕ} → Records tables columns schema → Tables tables schema
-tables-said g = record { width = width-said g; few = λ t. omega (arith, g.inside t, g.few) }
+pub tables_said : {schema : Schema} {tables columns : List ℕ} → Records tables columns schema → Tables tables schema
+tables_said g = record { width = width_said g; few = λ t. omega (arith, g.inside t, g.few) }

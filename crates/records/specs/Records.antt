@@ -6,53 +6,53 @@ use Rattle.sheet.specs.Bytes.{byte, word}
 use Rattle.sheet.specs.Check.{kinds}
 
 -- the number of records
-abbrev pub record-count : List ℕ → ℕ
-record-count records = length records / 16
+abbrev pub record_count : List ℕ → ℕ
+record_count records = length records / 16
 
 -- the word at byte k of record i, or 0 if there is no such record
 unfoldable pub field : (k : ℕ) (records : List ℕ) (i : ℕ) → ℕ
-field k records i = cond (ltb i (record-count records)) (word records (i * 16 + k)) 0
+field k records i = cond (ltb i (record_count records)) (word records (i * 16 + k)) 0
 
 -- ---- the record of table t: its name, its first column among the columns of all tables, its number of columns, and its key, which counts among these
 
-abbrev pub table-name : List ℕ → ℕ → ℕ
-table-name = field 0
+abbrev pub table_name : List ℕ → ℕ → ℕ
+table_name = field 0
 
-abbrev pub first-column : List ℕ → ℕ → ℕ
-first-column = field 4
+abbrev pub first_column : List ℕ → ℕ → ℕ
+first_column = field 4
 
-abbrev pub table-width : List ℕ → ℕ → ℕ
-table-width = field 8
+abbrev pub table_width : List ℕ → ℕ → ℕ
+table_width = field 8
 
-abbrev pub primary-key : List ℕ → ℕ → ℕ
-primary-key = field 12
+abbrev pub primary_key : List ℕ → ℕ → ℕ
+primary_key = field 12
 
 -- ---- the schema that the records say
 
-abbrev pub column-in : List ℕ → ℕ → Column
-column-in columns i =
+abbrev pub column_in : List ℕ → ℕ → Column
+column_in columns i =
     record {
       name = word columns (i * 16);
       kind = get_or kinds (byte columns (i * 16 + 4)) Boolean;
       index = eqb (byte columns (i * 16 + 5)) 1;
     }
 
-abbrev pub table-in : (tables columns : List ℕ) → ℕ → Table
-table-in tables columns t =
+abbrev pub table_in : (tables columns : List ℕ) → ℕ → Table
+table_in tables columns t =
     record {
-      name = table-name tables t;
-      primary-key = primary-key tables t;
-      columns = map (column-in columns) (up_to (first-column tables t) (table-width tables t));
+      name = table_name tables t;
+      primary_key = primary_key tables t;
+      columns = map (column_in columns) (up_to (first_column tables t) (table_width tables t));
     }
 
-unfoldable pub schema-in : (tables columns : List ℕ) → Schema
-schema-in tables columns = map (table-in tables columns) (up_to 0 (record-count tables))
+unfoldable pub schema_in : (tables columns : List ℕ) → Schema
+schema_in tables columns = map (table_in tables columns) (up_to 0 (record_count tables))
 
 -- The records say the schema. A table's columns have records, its key is one of them, and a sheet has at most 256 columns.
 pub record Records (tables columns : List ℕ) (schema : Schema) : Type 0 where
-  pub say : schema ≡ schema-in tables columns
-  pub inside : (t : ℕ) → 16 * (first-column tables t + table-width tables t) ≤ length columns
-  pub key-inside : (t : ℕ) → t < record-count tables → primary-key tables t < table-width tables t
+  pub say : schema ≡ schema_in tables columns
+  pub inside : (t : ℕ) → 16 * (first_column tables t + table_width tables t) ≤ length columns
+  pub key_inside : (t : ℕ) → t < record_count tables → primary_key tables t < table_width tables t
   pub few : length columns ≤ 4096
 
 pub record RecordsAt (tables columns : List ℕ) : Type 0 where
@@ -61,5 +61,5 @@ pub record RecordsAt (tables columns : List ℕ) : Type 0 where
 
 -- What the table records alone say of the schema: the number of columns of each table, of which a sheet has at most 256.
 pub record Tables (tables : List ℕ) (schema : Schema) : Type 0 where
-  pub width : (t : ℕ) → table-width tables t ≡ length (table_of schema t).columns
-  pub few : (t : ℕ) → table-width tables t ≤ 256
+  pub width : (t : ℕ) → table_width tables t ≡ length (table_of schema t).columns
+  pub few : (t : ℕ) → table_width tables t ≤ 256

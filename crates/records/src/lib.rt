@@ -16,28 +16,28 @@ fn field(records: &[u8], i: usize, k: usize) -> usize
 
 // The name of table t, a text reference, as a word of the working form.
 pub fn table_name(tables: &[u8], t: usize) -> u32
-    ensures { result ≡ Records.table-name tables.now t }
+    ensures { result ≡ Records.table_name tables.now t }
 {
     field(tables, t, 0) as u32
 }
 
 // Where the columns of table t start among the columns of all tables.
 pub fn first_column(tables: &[u8], t: usize) -> usize
-    ensures { result ≡ Records.first-column tables.now t }
+    ensures { result ≡ Records.first_column tables.now t }
 {
     field(tables, t, 4)
 }
 
 // The number of columns of table t.
 pub fn table_width(tables: &[u8], t: usize) -> usize
-    ensures { result ≡ Records.table-width tables.now t }
+    ensures { result ≡ Records.table_width tables.now t }
 {
     field(tables, t, 8)
 }
 
 // The primary key of table t, counted among its columns.
 pub fn primary_key(tables: &[u8], t: usize) -> usize
-    ensures { result ≡ Records.primary-key tables.now t }
+    ensures { result ≡ Records.primary_key tables.now t }
 {
     field(tables, t, 12)
 }

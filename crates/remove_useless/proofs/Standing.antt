@@ -9,12 +9,12 @@ use Rattle.sql.specs.Plan.{Node}
 use Rattle.cells.specs.Cells.{Part}
 use Rattle.cells.specs.Room.{Wrote}
 use Rattle.cells.proofs.Laws.{part_in, done}
-use Rattle.words.specs.Words.{node-words}
+use Rattle.words.specs.Words.{node_words}
 use Rattle.words.specs.Place.{NodeHere}
 
 -- What stands there is as if it had just been written.
-pub part-wrote : {y : List ℕ} {lo hi : ℕ} {w : List ℕ} → Part y lo hi w → Wrote y lo w hi y
-part-wrote {y} {lo} {hi} {w} p =
+pub part_wrote : {y : List ℕ} {lo hi : ℕ} {w : List ℕ} → Part y lo hi w → Wrote y lo w hi y
+part_wrote {y} {lo} {hi} {w} p =
     let (a, b) = part_in p in
     let e : take lo y ≡ p.before = ap (take lo) p.whole ∙ take_at p.before (w ++ p.after) lo p.low in
     let f : take hi y ≡ p.before ++ w =
@@ -23,8 +23,8 @@ part-wrote {y} {lo} {hi} {w} p =
     done (omega (arith, p.high)) (sym p.high) (f ∙ ap (λ (l : List ℕ). l ++ w) (sym e))
 
 -- What was written stands there.
-pub wrote-part : {y : List ℕ} {lo r : ℕ} {w y' : List ℕ} → length y' ≡ length y → lo + length w < 4294967296 → lo + length w ≤ length y → Wrote y lo w r y' → Part y' lo r w
-wrote-part {y} {lo} {r} {w} {y'} k s h a =
+pub wrote_part : {y : List ℕ} {lo r : ℕ} {w y' : List ℕ} → length y' ≡ length y → lo + length w < 4294967296 → lo + length w ≤ length y → Wrote y lo w r y' → Part y' lo r w
+wrote_part {y} {lo} {r} {w} {y'} k s h a =
     let (e, t) = a.is (a.room s h) in
     record {
       before = take lo y;
@@ -34,9 +34,9 @@ wrote-part {y} {lo} {r} {w} {y'} k s h a =
       high = sym e;
     }
 
-pub here-wrote : {y : List ℕ} {lo hi : ℕ} (p : Node) → NodeHere y lo hi p → Wrote y lo (node-words p) hi y
-here-wrote p u = part-wrote u.part
+pub here_wrote : {y : List ℕ} {lo hi : ℕ} (p : Node) → NodeHere y lo hi p → Wrote y lo (node_words p) hi y
+here_wrote p u = part_wrote u.part
 
-pub wrote-here : {y : List ℕ} {lo r : ℕ} {y' : List ℕ} (p : Node) → length y' ≡ length y → lo + length (node-words p) < 4294967296 → lo + length (node-words p) ≤ length y → Wrote y lo (node-words p) r y'
+pub wrote_here : {y : List ℕ} {lo r : ℕ} {y' : List ℕ} (p : Node) → length y' ≡ length y → lo + length (node_words p) < 4294967296 → lo + length (node_words p) ≤ length y → Wrote y lo (node_words p) r y'
     → NodeHere y' lo r p
-wrote-here p k s h a = record { part = wrote-part k s h a }
+wrote_here p k s h a = record { part = wrote_part k s h a }

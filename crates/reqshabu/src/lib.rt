@@ -2,7 +2,7 @@
 // number, every edition and every output gets the answer of the definition, and the output then holds what the definition says, byte by byte.
 ghost use Rattle.std.specs.Prelude.{◌≡◌};
 ghost use Rattle.sheet.specs.Check.{check};
-ghost use Rattle.sheet.specs.Operations.{one-pass, all-five};
+ghost use Rattle.sheet.specs.Operations.{one_pass, all_five};
 ghost use Rattle.checker.specs.Checker.{numbers, outcome};
 ghost use Rattle.convert.specs.Convert.{convert};
 ghost use Rattle.compact.specs.Compact.{compact};
@@ -20,7 +20,7 @@ pub extern "C" fn plan_check(sheet: &[u8]) -> Answer
 // One pass of the optimizer, 1 to 5, on a sheet.
 #[unsafe(no_mangle)]
 pub extern "C" fn plan_pass(sheet: &[u8], pass: usize, output: &mut [u8]) -> Answer
-    ensures { outcome result output.new ≡ one-pass sheet.now pass output.old }
+    ensures { outcome result output.new ≡ one_pass sheet.now pass output.old }
 {
     operations::pass(sheet, pass, output)
 }
@@ -28,7 +28,7 @@ pub extern "C" fn plan_pass(sheet: &[u8], pass: usize, output: &mut [u8]) -> Ans
 // All five passes in turn.
 #[unsafe(no_mangle)]
 pub extern "C" fn plan_optimize(sheet: &[u8], output: &mut [u8]) -> Answer
-    ensures { outcome result output.new ≡ all-five sheet.now output.old }
+    ensures { outcome result output.new ≡ all_five sheet.now output.old }
 {
     operations::optimize(sheet, output)
 }

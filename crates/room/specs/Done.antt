@@ -6,8 +6,8 @@ use Rattle.sql.specs.Answer.{Answer, done, refused, ◌>>=◌}
 pub not_done : {A B : Type 0} {number place : ℕ} {a : A} → ◌≡◌ {A = Answer A} (refused number place) (done a) → B
 not_done h = absurd (let y : ◌≡◌ {A = ℕ} 0 1 = cc in omega arith)
 
-pub done-same : {A : Type 0} {a b : A} → ◌≡◌ {A = Answer A} (done a) (done b) → a ≡ b
-done-same h = cc
+pub done_same : {A : Type 0} {a b : A} → ◌≡◌ {A = Answer A} (done a) (done b) → a ≡ b
+done_same h = cc
 
 pub record After {A B : Type 0} (r : Answer A) (f : A → Answer B) (b : B) : Type 0 where
   pub of : A

@@ -2,19 +2,19 @@
 use Rattle.std.specs.Prelude.{◌&&◌, ◌||◌, ◌≡◌, refl}
 use Rattle.std.proofs.Common.{ap}
 use Rattle.value.specs.Value.{Value}
-use Rattle.value.specs.Comparison.{Comparison, Null, Found, Less, Equal, Greater, Unordered, NotComparable, compare, is-equal, answer, equal}
-use Rattle.rows.specs.Reading.{is-null-value, is-nan-value, takes}
-use Rattle.rows.specs.Equalities.{is-true-result}
+use Rattle.value.specs.Comparison.{Comparison, Null, Found, Less, Equal, Greater, Unordered, NotComparable, compare, is_equal, answer, equal}
+use Rattle.rows.specs.Reading.{is_null_value, is_nan_value, takes}
+use Rattle.rows.specs.Equalities.{is_true_result}
 
-pub found-equal : (c : Comparison) → is-equal c ≡ is-true-result (answer c (is-equal c))
-found-equal Null = refl
-found-equal (Found Less) = refl
-found-equal (Found Equal) = refl
-found-equal (Found Greater) = refl
-found-equal (Found Unordered) = refl
-found-equal (Found NotComparable) = refl
+pub found_equal : (c : Comparison) → is_equal c ≡ is_true_result (answer c (is_equal c))
+found_equal Null = refl
+found_equal (Found Less) = refl
+found_equal (Found Equal) = refl
+found_equal (Found Greater) = refl
+found_equal (Found Unordered) = refl
+found_equal (Found NotComparable) = refl
 
-pub takes-by-equal : (constant v : Value)
-    → takes constant v ≡ ((is-null-value constant && is-null-value v) || ((is-nan-value constant && is-nan-value v) || is-true-result (equal constant v)))
-takes-by-equal constant v =
-    ap (λ b. (is-null-value constant && is-null-value v) || ((is-nan-value constant && is-nan-value v) || b)) (found-equal (compare constant v))
+pub takes_by_equal : (constant v : Value)
+    → takes constant v ≡ ((is_null_value constant && is_null_value v) || ((is_nan_value constant && is_nan_value v) || is_true_result (equal constant v)))
+takes_by_equal constant v =
+    ap (λ b. (is_null_value constant && is_null_value v) || ((is_nan_value constant && is_nan_value v) || b)) (found_equal (compare constant v))

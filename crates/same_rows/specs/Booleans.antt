@@ -22,9 +22,9 @@ pub or_right : (a b : Bool) → (a || b) ≡ false → b ≡ false
 or_right true b h = false≢true (sym h)
 or_right false b h = h
 
-pub not-true : (a : Bool) → not a ≡ true → a ≡ false
-not-true true h = false≢true h
-not-true false h = refl
+pub not_true : (a : Bool) → not a ≡ true → a ≡ false
+not_true true h = false≢true h
+not_true false h = refl
 
 -- two tests that imply one another
 pub iff : (a b : Bool) → (a ≡ true → b ≡ true) → (b ≡ true → a ≡ true) → a ≡ b
@@ -36,14 +36,14 @@ pub T_true : (b : Bool) → T b → b ≡ true
 T_true true h = refl
 T_true false h = absurd h
 
-pub eqb-eq : (m n : ℕ) → eqb m n ≡ true → m ≡ n
-eqb-eq m n h = eqb→eq m n (subst T (sym h) tt)
+pub eqb_eq : (m n : ℕ) → eqb m n ≡ true → m ≡ n
+eqb_eq m n h = eqb→eq m n (subst T (sym h) tt)
 
-pub eqb-self : (n : ℕ) → eqb n n ≡ true
-eqb-self n = T_true (eqb n n) (eqb_refl n)
+pub eqb_self : (n : ℕ) → eqb n n ≡ true
+eqb_self n = T_true (eqb n n) (eqb_refl n)
 
-pub lt-is : (m n : ℕ) → ltb m n ≡ true → m < n
-lt-is m n h = ltb→lt m n (subst T (sym h) tt)
+pub lt_is : (m n : ℕ) → ltb m n ≡ true → m < n
+lt_is m n h = ltb→lt m n (subst T (sym h) tt)
 
-pub ge-is : (m n : ℕ) → ltb m n ≡ false → n ≤ m
-ge-is m n h = nltb→le m n (subst (λ (t : Bool). T (not t)) (sym h) tt)
+pub ge_is : (m n : ℕ) → ltb m n ≡ false → n ≤ m
+ge_is m n h = nltb→le m n (subst (λ (t : Bool). T (not t)) (sym h) tt)

@@ -10,35 +10,35 @@ use Rattle.sql.specs.Schema.{table_of, no_table}
 use Rattle.sql.specs.Schema as Sql
 use Rattle.sql.specs.Answer.{done}
 use Rattle.sql.specs.Plan.{Node}
-use Rattle.sheet.specs.Parts.{cells_at, table-count, column-count, table-name, key_of, kind-of, index-mark, bad-record}
+use Rattle.sheet.specs.Parts.{cells_at, table_count, column_count, table_name, key_of, kind_of, index_mark, bad_record}
 use Rattle.sheet.specs.Check.{kinds, column, text, plan}
 use Rattle.sheet_laws.specs.Accepted.{accepted}
 use Rattle.layout.specs.Layout.{Whole}
 use Rattle.layout.proofs.Laws.{laid}
-use Rattle.layout.proofs.Known.{KnownTable, KnownColumn, table-known, column-known, tables-pass, columns-pass}
+use Rattle.layout.proofs.Known.{KnownTable, KnownColumn, table_known, column_known, tables_pass, columns_pass}
 use Rattle.schema.specs.declared.Kind.{Kind}
 use Rattle.schema.specs.declared.Kind.TheVariants.{Boolean, Integer, Float, String}
-use Rattle.schema.specs.Schema.{Recorded, as-kind, number}
+use Rattle.schema.specs.Schema.{Recorded, as_kind, number}
 
 -- An accepted sheet has its records in order.
 pub recorded : (s : List ℕ) (n : Node) → plan s ≡ done n → Recorded s
-recorded s n h = let a = accepted s n h in record { whole = record { length-is = a.length-is; parts_are = a.parts_are }; records-are = a.records-are }
+recorded s n h = let a = accepted s n h in record { whole = record { length_is = a.length_is; parts_are = a.parts_are }; records_are = a.records_are }
 
 -- ---- kinds
 
-pub kind-is : (s : List ℕ) (i : ℕ) (k : Kind) → number k ≡ kind-of s i → (number k ≡ kind-of s i) × (as-kind k ≡ (column s i).kind)
-kind-is s i k e = (e, named k ∙ ap (λ (n : ℕ). get_or kinds n Sql.Boolean) e)
+pub kind_is : (s : List ℕ) (i : ℕ) (k : Kind) → number k ≡ kind_of s i → (number k ≡ kind_of s i) × (as_kind k ≡ (column s i).kind)
+kind_is s i k e = (e, named k ∙ ap (λ (n : ℕ). get_or kinds n Sql.Boolean) e)
   where
-    named : (k : Kind) → as-kind k ≡ get_or kinds (number k) Sql.Boolean
+    named : (k : Kind) → as_kind k ≡ get_or kinds (number k) Sql.Boolean
     named Boolean = refl
     named Integer = refl
     named Float = refl
     named String = refl
 
-pub kind-few : {s : List ℕ} {i : ℕ} → Recorded s → i < column-count s → kind-of s i < 4
-kind-few {s} {i} r h = (column-known s i (columns-pass s r.records-are i h)).kind
+pub kind_few : {s : List ℕ} {i : ℕ} → Recorded s → i < column_count s → kind_of s i < 4
+kind_few {s} {i} r h = (column_known s i (columns_pass s r.records_are i h)).kind
 
 -- ---- tables
 
-pub known : (s : List ℕ) → Recorded s → (t : ℕ) → t < table-count s → KnownTable s t
-known s r t h = table-known s t (tables-pass s r.records-are t h)
+pub known : (s : List ℕ) → Recorded s → (t : ℕ) → t < table_count s → KnownTable s t
+known s r t h = table_known s t (tables_pass s r.records_are t h)

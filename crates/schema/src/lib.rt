@@ -1,9 +1,9 @@
 // schema.rs: tables and columns, read from the records of a sheet; and the records themselves, which the passes are lent (crate records).
 ghost use Rattle.std.specs.Prelude.{◌≡◌, ◌<◌};
-ghost use Rattle.sheet.specs.Parts.{table-count, column-count, kind-of};
+ghost use Rattle.sheet.specs.Parts.{table_count, column_count, kind_of};
 ghost use Rattle.sheet.specs.Check as Sheet;
 ghost use Rattle.layout.specs.Layout.{Whole};
-ghost use Rattle.schema.specs.Schema.{Recorded, table-records, column-records, as-kind, number};
+ghost use Rattle.schema.specs.Schema.{Recorded, table_records, column_records, as_kind, number};
 
 // ---- parts of a sheet
 
@@ -20,7 +20,7 @@ pub fn text<'a>(s: &'a [u8]) -> &'a [u8]
 // The table records of a sheet, 16 bytes each.
 pub fn table_records<'a>(s: &'a [u8]) -> &'a [u8]
     requires { Whole s.now }
-    ensures { result.now ≡ table-records s.now }
+    ensures { result.now ≡ table_records s.now }
 {
     let p = layout::parts_of(s);
     let from = p.tables.at;
@@ -31,7 +31,7 @@ pub fn table_records<'a>(s: &'a [u8]) -> &'a [u8]
 // The column records of a sheet, 16 bytes each.
 pub fn column_records<'a>(s: &'a [u8]) -> &'a [u8]
     requires { Whole s.now }
-    ensures { result.now ≡ column-records s.now }
+    ensures { result.now ≡ column_records s.now }
 {
     let p = layout::parts_of(s);
     let from = p.columns.at;
@@ -52,7 +52,7 @@ pub enum Kind {
 
 // The name of table t, a text reference.
 pub fn table_name(s: &[u8], t: usize) -> usize
-    requires { Whole s.now × (t < table-count s.now) }
+    requires { Whole s.now × (t < table_count s.now) }
     ensures { result ≡ (Sheet.table s.now t).name }
 {
     let table = layout::table_at(s, t);
@@ -61,8 +61,8 @@ pub fn table_name(s: &[u8], t: usize) -> usize
 
 // The primary key of table t, counted among its columns.
 pub fn primary_key(s: &[u8], t: usize) -> usize
-    requires { Whole s.now × (t < table-count s.now) }
-    ensures { result ≡ (Sheet.table s.now t).primary-key }
+    requires { Whole s.now × (t < table_count s.now) }
+    ensures { result ≡ (Sheet.table s.now t).primary_key }
 {
     let table = layout::table_at(s, t);
     table.key
@@ -70,7 +70,7 @@ pub fn primary_key(s: &[u8], t: usize) -> usize
 
 // The name of column i, counted among the columns of all tables.
 pub fn column_name(s: &[u8], i: usize) -> usize
-    requires { Whole s.now × (i < column-count s.now) }
+    requires { Whole s.now × (i < column_count s.now) }
     ensures { result ≡ (Sheet.column s.now i).name }
 {
     let column = layout::column_at(s, i);
@@ -79,8 +79,8 @@ pub fn column_name(s: &[u8], i: usize) -> usize
 
 // The kind of column i.
 pub fn column_kind(s: &[u8], i: usize) -> Kind
-    requires { Recorded s.now × (i < column-count s.now) }
-    ensures { (number result ≡ kind-of s.now i) × (as-kind result ≡ (Sheet.column s.now i).kind) }
+    requires { Recorded s.now × (i < column_count s.now) }
+    ensures { (number result ≡ kind_of s.now i) × (as_kind result ≡ (Sheet.column s.now i).kind) }
 {
     let column = layout::column_at(s, i);
     let kind = column.kind;
@@ -94,7 +94,7 @@ pub fn column_kind(s: &[u8], i: usize) -> Kind
 
 // Column i has an index.
 pub fn column_index(s: &[u8], i: usize) -> bool
-    requires { Whole s.now × (i < column-count s.now) }
+    requires { Whole s.now × (i < column_count s.now) }
     ensures { result ≡ (Sheet.column s.now i).index }
 {
     let column = layout::column_at(s, i);

@@ -2,33 +2,33 @@
 use Rattle.std.specs.Prelude.{ℕ, ◌≡◌, cond, List, [], ◌∷◌, ltb, get_or}
 use Rattle.std.proofs.Math.Option.{Option, none, some}
 use Rattle.sql.specs.Plan.{Node, columns}
-use Rattle.sheet.specs.Cell.{bad-cell}
-use Rattle.sheet.specs.Tree.{node-tree, stack, read}
+use Rattle.sheet.specs.Cell.{bad_cell}
+use Rattle.sheet.specs.Tree.{node_tree, stack, read}
 use Rattle.sheet.specs.Scope.{outside}
 use Rattle.sheet.specs.Check.{text, schema, cells_of}
 use Rattle.scope.specs.declared.Scope.{Scope}
 use Rattle.scope.specs.declared.Scope.TheVariants.{Outside, Within}
 
 -- what is out of scope, if that is anything, and what is said otherwise
-abbrev pub unless-outside : Option ℕ → Scope → Scope
-unless-outside none otherwise = otherwise
-unless-outside (some i) otherwise = Outside i
+abbrev pub unless_outside : Option ℕ → Scope → Scope
+unless_outside none otherwise = otherwise
+unless_outside (some i) otherwise = Outside i
 
 -- of a plan with n columns
 abbrev pub scope_of : Option ℕ → ℕ → Scope
-scope_of place n = unless-outside place (Within n)
+scope_of place n = unless_outside place (Within n)
 
 -- A sheet's cells are one plan: refusals 6 to 8 let them by.
 pub record OnePlan (s : List ℕ) : Type 0 where
   pub n : Node
-  pub cells-ok : bad-cell s ≡ none
-  pub reads : read (text s) 0 (cells_of s) [] ≡ stack (node-tree n ∷ [])
+  pub cells_ok : bad_cell s ≡ none
+  pub reads : read (text s) 0 (cells_of s) [] ≡ stack (node_tree n ∷ [])
 
 -- The answer of the scope check, of the plan that the cells are.
 abbrev pub Judges : List ℕ → Scope → Type 0
 Judges s r =
-    (n : Node) → bad-cell s ≡ none → read (text s) 0 (cells_of s) [] ≡ stack (node-tree n ∷ []) → r ≡ scope_of (outside (schema s) 0 n) (columns (schema s) n)
+    (n : Node) → bad_cell s ≡ none → read (text s) 0 (cells_of s) [] ≡ stack (node_tree n ∷ []) → r ≡ scope_of (outside (schema s) 0 n) (columns (schema s) n)
 
 -- What stands in a stack, its first `depth` numbers, at a place; 0 past its top.
-abbrev pub width-at : List ℕ → (at depth : ℕ) → ℕ
-width-at ws at depth = cond (ltb at depth) (get_or ws at 0) 0
+abbrev pub width_at : List ℕ → (at depth : ℕ) → ℕ
+width_at ws at depth = cond (ltb at depth) (get_or ws at 0) 0

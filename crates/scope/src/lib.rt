@@ -1,9 +1,9 @@
 // Refusal 9 of document 01: a plan's columns are in scope. The cells are walked once, from the first to the last. A node's own cells are looked at when the
 // node's cell is met, since only then it is known which sources it has. Each cell belongs to one node's own cells, so the work is linear in the sheet.
 ghost use Rattle.std.specs.Prelude.{◌≡◌, ◌≤◌, length};
-ghost use Rattle.sheet.specs.Parts.{cell-count};
+ghost use Rattle.sheet.specs.Parts.{cell_count};
 ghost use Rattle.layout.specs.Layout.{Whole};
-ghost use Rattle.scope.specs.Scope.{width-at, OnePlan, Judges};
+ghost use Rattle.scope.specs.Scope.{width_at, OnePlan, Judges};
 
 use layout::{Found, cell_at, parts_of};
 use node_scope::{columns_read, node_columns, node_outside, sources};
@@ -18,7 +18,7 @@ pub enum Scope {
 // The column count that stands at `at` in a stack of so many, 0 past its top.
 fn width_at(widths: &[usize], at: usize, depth: usize) -> usize
     requires { depth ≤ length widths.now }
-    ensures { result ≡ width-at widths.now at depth }
+    ensures { result ≡ width_at widths.now at depth }
 {
     if at < depth {
         return widths[at];
@@ -29,7 +29,7 @@ fn width_at(widths: &[usize], at: usize, depth: usize) -> usize
 // The lowest Column or node that is out of scope, or the plan's number of columns. `widths` is a stack, which is lent: the column counts of the plans read that
 // no node has as a source yet. `own` is the first cell since the last node. Of cells that are not one plan nothing is promised: `outside` isn't asked of them.
 fn outside_in(s: &[u8], widths: &mut [usize]) -> Scope
-    requires { Whole s.now × (cell-count s.now ≤ length widths.old) }
+    requires { Whole s.now × (cell_count s.now ≤ length widths.old) }
     ensures { Judges s.now result }
 {
     let p = parts_of(s);

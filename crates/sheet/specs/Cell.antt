@@ -4,7 +4,7 @@ use Rattle.std.proofs.Math.Option.{Option, none, some}
 use Rattle.std.specs.Float.Ieee as Ieee
 use Rattle.value.specs.Value.{the_nan}
 use Rattle.sheet.specs.Bytes.{byte, half, word}
-use Rattle.sheet.specs.Parts.{edition, cells_at, tables-at, table-count, cell-count, record-at, inside, first-failing}
+use Rattle.sheet.specs.Parts.{edition, cells_at, tables_at, table_count, cell_count, record_at, inside, first_failing}
 use Rattle.sheet.specs.Tags
 
 pub record Cell : Type 0 where
@@ -16,13 +16,13 @@ pub record Cell : Type 0 where
   pub c : ℕ
 
 -- the cell that starts at byte i
-abbrev pub cell-from : List ℕ → ℕ → Cell
-cell-from s i =
+abbrev pub cell_from : List ℕ → ℕ → Cell
+cell_from s i =
     record { tag = byte s i; flag = byte s (i + 1); origin = half s (i + 2); a = word s (i + 4); b = word s (i + 8); c = word s (i + 12) }
 
 -- cell number i of a sheet
 unfoldable pub cell : List ℕ → ℕ → Cell
-cell s i = cell-from s (record-at (cells_at s) i)
+cell s i = cell_from s (record_at (cells_at s) i)
 
 -- What one of the numbers a, b, c holds. `text k` and `small k` are a text reference and a number up to 255 where the flag is at least k;
 -- below that the field is unused, and 0.
@@ -40,8 +40,8 @@ abbrev plain : Tag
 plain = carried 1 unused unused unused
 
 -- one field a, with flag 0 alone
-abbrev with-a : Field → Tag
-with-a f = carried 1 f unused unused
+abbrev with_a : Field → Tag
+with_a f = carried 1 f unused unused
 
 abbrev counted : Tag
 counted = carried 1 any unused unused
@@ -51,7 +51,7 @@ abbrev pub tags : List Tag
 tags =
     unknown
     -- constants: 1 Null, 2 Boolean, 3 Integer, 4 Float, 5 String; 6 Column
-    ∷ plain ∷ with-a bit ∷ carried 1 any any unused ∷ carried 1 any any unused ∷ with-a (text 0) ∷ with-a any
+    ∷ plain ∷ with_a bit ∷ carried 1 any any unused ∷ carried 1 any any unused ∷ with_a (text 0) ∷ with_a any
     ∷ unknown ∷ unknown ∷ unknown
     -- 10 And, 11 Or, 12 Equal, 13 GreaterThan, 14 LessThan, 15 Add, 16 Divide, 17 Subtract, 18 Multiply
     ∷ plain ∷ plain ∷ plain ∷ plain ∷ plain ∷ plain ∷ plain ∷ plain ∷ plain
@@ -79,21 +79,21 @@ unfoldable pub tag_of : ℕ → Tag
 tag_of t = get_or tags t unknown
 
 -- A field's number is one that it may hold. `bytes` is the length of the text, `tables` the number of table records.
-abbrev pub field-ok : (bytes tables flag : ℕ) → Field → ℕ → Bool
-field-ok bytes tables flag unused v = eqb v 0
-field-ok bytes tables flag any v = true
-field-ok bytes tables flag bit v = ltb v 2
-field-ok bytes tables flag table v = ltb v tables
-field-ok bytes tables flag (text k) v = cond (leb k flag) (inside bytes v) (eqb v 0)
-field-ok bytes tables flag (small k) v = cond (leb k flag) (ltb v 256) (eqb v 0)
+abbrev pub field_ok : (bytes tables flag : ℕ) → Field → ℕ → Bool
+field_ok bytes tables flag unused v = eqb v 0
+field_ok bytes tables flag any v = true
+field_ok bytes tables flag bit v = ltb v 2
+field_ok bytes tables flag table v = ltb v tables
+field_ok bytes tables flag (text k) v = cond (leb k flag) (inside bytes v) (eqb v 0)
+field_ok bytes tables flag (small k) v = cond (leb k flag) (ltb v 256) (eqb v 0)
 
-abbrev pub fields-ok : (origins bytes tables : ℕ) → Cell → Tag → Bool
-fields-ok origins bytes tables k unknown = false
-fields-ok origins bytes tables k not_carried = false
-fields-ok origins bytes tables k (carried flags a b c) =
+abbrev pub fields_ok : (origins bytes tables : ℕ) → Cell → Tag → Bool
+fields_ok origins bytes tables k unknown = false
+fields_ok origins bytes tables k not_carried = false
+fields_ok origins bytes tables k (carried flags a b c) =
     ltb k.flag flags
     && (ltb k.origin origins
-    && (field-ok bytes tables k.flag a k.a && (field-ok bytes tables k.flag b k.b && field-ok bytes tables k.flag c k.c)))
+    && (field_ok bytes tables k.flag a k.a && (field_ok bytes tables k.flag b k.b && field_ok bytes tables k.flag c k.c)))
 
 -- a number of 64 bits from its low and its high half
 abbrev pub wide : ℕ → ℕ → ℕ
@@ -107,17 +107,17 @@ float_ok k = not (eqb k.tag Tags.float) || (not (Ieee.nan_bits Ieee.binary64 (wi
 abbrev pub origins : List ℕ → ℕ
 origins s = cond (eqb (edition s) 1) 1 65536
 
-unfoldable pub cell-ok : (origins bytes tables : ℕ) → Cell → Bool
+unfoldable pub cell_ok : (origins bytes tables : ℕ) → Cell → Bool
 unfolding tag_of
-cell-ok origins bytes tables k = fields-ok origins bytes tables k (tag_of k.tag) && float_ok k
+cell_ok origins bytes tables k = fields_ok origins bytes tables k (tag_of k.tag) && float_ok k
 
 -- Refusals 6 and 7 come from one walk: the lowest cell that breaks its layout.
-unfoldable pub bad-cell : List ℕ → Option ℕ
-unfolding first-failing
-bad-cell s = first-failing (λ i. cell-ok (origins s) (tables-at s) (table-count s) (cell s i)) 0 (cell-count s)
+unfoldable pub bad_cell : List ℕ → Option ℕ
+unfolding first_failing
+bad_cell s = first_failing (λ i. cell_ok (origins s) (tables_at s) (table_count s) (cell s i)) 0 (cell_count s)
 
 -- A tag that is known and not carried over is 7 with any fields, and anything else 6.
-abbrev pub bad-number : Tag → ℕ
-bad-number unknown = 6
-bad-number not_carried = 7
-bad-number (carried flags a b c) = 6
+abbrev pub bad_number : Tag → ℕ
+bad_number unknown = 6
+bad_number not_carried = 7
+bad_number (carried flags a b c) = 6

@@ -1,6 +1,6 @@
 -- The listing of a sheet, as bytes: a header line, then a line for each cell, in unsigned decimal (document 01), and a line of totals (document 02, W-210).
 use Rattle.std.specs.Prelude.{ℕ, zero, suc, ◌+◌, ◌*◌, ◌/◌, ◌%◌, Bool, true, false, cond, ◌&&◌, List, [], ◌∷◌, ◌++◌, ltb, leb, length}
-use Rattle.sheet.specs.Parts.{cell-count}
+use Rattle.sheet.specs.Parts.{cell_count}
 use Rattle.sheet.specs.Cell.{Cell}
 use Rattle.sheet.specs.Check.{Numbers, cells_of}
 
@@ -25,14 +25,14 @@ line [] = newline ∷ []
 line (n ∷ []) = decimal n ++ (newline ∷ [])
 line (n ∷ m ∷ ns) = decimal n ++ (space ∷ line (m ∷ ns))
 
-abbrev pub cell-line : ℕ → Cell → List ℕ
-cell-line i k = line (i ∷ k.tag ∷ k.flag ∷ k.a ∷ k.b ∷ k.c ∷ [])
+abbrev pub cell_line : ℕ → Cell → List ℕ
+cell_line i k = line (i ∷ k.tag ∷ k.flag ∷ k.a ∷ k.b ∷ k.c ∷ [])
 
 -- the lines of cells numbered from i on
-unfoldable pub cell-lines : ℕ → List Cell → List ℕ
+unfoldable pub cell_lines : ℕ → List Cell → List ℕ
 unfolding digits
-cell-lines i [] = []
-cell-lines i (k ∷ ks) = cell-line i k ++ cell-lines (suc i) ks
+cell_lines i [] = []
+cell_lines i (k ∷ ks) = cell_line i k ++ cell_lines (suc i) ks
 
 -- "cells N bytes B columns C"
 abbrev pub header : (cells bytes columns : ℕ) → List ℕ
@@ -49,38 +49,38 @@ count test [] = 0
 count test (x ∷ xs) = cond (test x) 1 0 + count test xs
 
 -- The three kinds of cells, by their tag: those of expressions, parts of nodes, and nodes.
-abbrev pub is-expression : ℕ → Bool
-is-expression tag = ltb tag 40
+abbrev pub is_expression : ℕ → Bool
+is_expression tag = ltb tag 40
 
-abbrev pub is-part : ℕ → Bool
-is-part tag = leb 40 tag && ltb tag 50
+abbrev pub is_part : ℕ → Bool
+is_part tag = leb 40 tag && ltb tag 50
 
-abbrev pub is-node : ℕ → Bool
-is-node tag = leb 50 tag
+abbrev pub is_node : ℕ → Bool
+is_node tag = leb 50 tag
 
 -- how many cells are of a kind
-abbrev pub of-kind : (ℕ → Bool) → List Cell → ℕ
-of-kind kind cells = count (λ (k : Cell). kind k.tag) cells
+abbrev pub of_kind : (ℕ → Bool) → List Cell → ℕ
+of_kind kind cells = count (λ (k : Cell). kind k.tag) cells
 
 -- "kinds E P N total T", T being their sum
-abbrev pub totals-line : (expressions parts nodes : ℕ) → List ℕ
-totals-line expressions parts nodes =
+abbrev pub totals_line : (expressions parts nodes : ℕ) → List ℕ
+totals_line expressions parts nodes =
     (107 ∷ 105 ∷ 110 ∷ 100 ∷ 115 ∷ space ∷ decimal expressions)
     ++ ((space ∷ decimal parts)
     ++ ((space ∷ decimal nodes)
     ++ ((space ∷ 116 ∷ 111 ∷ 116 ∷ 97 ∷ 108 ∷ space ∷ decimal (expressions + parts + nodes)) ++ (newline ∷ []))))
 
 abbrev pub totals : List Cell → List ℕ
-totals cells = totals-line (of-kind is-expression cells) (of-kind is-part cells) (of-kind is-node cells)
+totals cells = totals_line (of_kind is_expression cells) (of_kind is_part cells) (of_kind is_node cells)
 
 -- the listing of a sheet whose plan has so many columns
 unfoldable pub listing : (sheet : List ℕ) → (columns : ℕ) → List ℕ
-unfolding digits cell-lines cells_of
-listing sheet columns = header (cell-count sheet) (length sheet) columns ++ (cell-lines 0 (cells_of sheet) ++ totals (cells_of sheet))
+unfolding digits cell_lines cells_of
+listing sheet columns = header (cell_count sheet) (length sheet) columns ++ (cell_lines 0 (cells_of sheet) ++ totals (cells_of sheet))
 
 -- "refused N place P"
-unfoldable pub refusal-line : (number place : ℕ) → List ℕ
+unfoldable pub refusal_line : (number place : ℕ) → List ℕ
 unfolding digits
-refusal-line number place =
+refusal_line number place =
     (114 ∷ 101 ∷ 102 ∷ 117 ∷ 115 ∷ 101 ∷ 100 ∷ space ∷ decimal number)
     ++ ((space ∷ 112 ∷ 108 ∷ 97 ∷ 99 ∷ 101 ∷ space ∷ decimal place) ++ (newline ∷ []))

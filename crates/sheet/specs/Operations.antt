@@ -1,8 +1,8 @@
 -- The operations that hand out a sheet, one pass and all five, as total functions of the bytes handed in and of the output buffer: refusals 1 to 15.
 use Rattle.std.specs.Prelude.{ℕ, ◌+◌, ◌*◌, Bool, true, false, ◌&&◌, cond, List, [], ◌∷◌, ◌++◌, leb, length, drop}
 use Rattle.sql.specs.Answer.{Answer, done, refused, ◌>>=◌}
-use Rattle.sql.specs.Plan.{Node, columns, node-size}
-use Rattle.sql.specs.Room.{max-cells}
+use Rattle.sql.specs.Plan.{Node, columns, node_size}
+use Rattle.sql.specs.Room.{max_cells}
 use Rattle.sql.specs.Room
 use Rattle.sheet.specs.Check.{Numbers, refusal, schema, plan}
 use Rattle.sheet.specs.Write.{write}
@@ -20,22 +20,22 @@ refuse out number place = record { numbers = refusal number place; output = out 
 abbrev pub written : (s out : List ℕ) → Node → (sheet : List ℕ) → Bool → Outcome
 written s out node sheet true =
     record {
-      numbers = record { number = 0; place = 0; length = length sheet; cells = node-size node; columns = columns (schema s) node };
+      numbers = record { number = 0; place = 0; length = length sheet; cells = node_size node; columns = columns (schema s) node };
       output = sheet ++ drop (length sheet) out;
     }
 written s out node sheet false = refuse out 15 (length sheet)
 
-abbrev pub hand-out : (s out : List ℕ) → Answer Node → Outcome
-hand-out s out (done node) = written s out node (write s node) (leb (length (write s node)) (length out))
-hand-out s out (refused number place) = refuse out number place
+abbrev pub hand_out : (s out : List ℕ) → Answer Node → Outcome
+hand_out s out (done node) = written s out node (write s node) (leb (length (write s node)) (length out))
+hand_out s out (refused number place) = refuse out number place
 
 -- One pass by its number, 1 to 5.
-unfoldable pub one-pass : (s : List ℕ) → ℕ → (out : List ℕ) → Outcome
+unfoldable pub one_pass : (s : List ℕ) → ℕ → (out : List ℕ) → Outcome
 unfolding plan schema write
-one-pass s k out =
-    cond (leb 1 k && leb k 5) (hand-out s out (plan s >>= Room.pass max-cells (schema s) k)) (refuse out 1 0)
+one_pass s k out =
+    cond (leb 1 k && leb k 5) (hand_out s out (plan s >>= Room.pass max_cells (schema s) k)) (refuse out 1 0)
 
 -- All five in turn.
-unfoldable pub all-five : (s out : List ℕ) → Outcome
+unfoldable pub all_five : (s out : List ℕ) → Outcome
 unfolding plan schema write
-all-five s out = hand-out s out (plan s >>= Room.optimize max-cells (schema s))
+all_five s out = hand_out s out (plan s >>= Room.optimize max_cells (schema s))

@@ -35,11 +35,11 @@ or = 11
 abbrev pub equal : ℕ
 equal = 12
 
-abbrev pub greater-than : ℕ
-greater-than = 13
+abbrev pub greater_than : ℕ
+greater_than = 13
 
-abbrev pub less-than : ℕ
-less-than = 14
+abbrev pub less_than : ℕ
+less_than = 14
 
 abbrev pub add : ℕ
 add = 15
@@ -59,11 +59,11 @@ unary = 30
 abbrev pub not : ℕ
 not = 30
 
-abbrev pub is-null : ℕ
-is-null = 31
+abbrev pub is_null : ℕ
+is_null = 31
 
-abbrev pub is-nan : ℕ
-is-nan = 32
+abbrev pub is_nan : ℕ
+is_nan = 32
 
 abbrev pub identity : ℕ
 identity = 33
@@ -71,10 +71,10 @@ identity = 33
 abbrev pub negate : ℕ
 negate = 34
 
-abbrev pub square-root : ℕ
-square-root = 36
+abbrev pub square_root : ℕ
+square_root = 36
 
--- ---- parts of nodes, from `parts` up to `parts-end`
+-- ---- parts of nodes, from `parts` up to `parts_end`
 
 abbrev pub parts : ℕ
 parts = 40
@@ -97,8 +97,8 @@ agg = 44
 abbrev pub row : ℕ
 row = 45
 
-abbrev pub parts-end : ℕ
-parts-end = 46
+abbrev pub parts_end : ℕ
+parts_end = 46
 
 -- ---- nodes, from `nodes` on
 
@@ -111,20 +111,20 @@ aggregate = 50
 abbrev pub filter : ℕ
 filter = 51
 
-abbrev pub hash-join : ℕ
-hash-join = 52
+abbrev pub hash_join : ℕ
+hash_join = 52
 
-abbrev pub index-lookup : ℕ
-index-lookup = 53
+abbrev pub index_lookup : ℕ
+index_lookup = 53
 
-abbrev pub key-lookup : ℕ
-key-lookup = 54
+abbrev pub key_lookup : ℕ
+key_lookup = 54
 
 abbrev pub limit : ℕ
 limit = 55
 
-abbrev pub nested-loop-join : ℕ
-nested-loop-join = 56
+abbrev pub nested_loop_join : ℕ
+nested_loop_join = 56
 
 abbrev pub nothing : ℕ
 nothing = 57

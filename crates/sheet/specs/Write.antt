@@ -2,29 +2,29 @@
 use Rattle.std.specs.Prelude.{ℕ, ◌+◌, ◌*◌, ◌/◌, ◌%◌, List, [], ◌∷◌, ◌++◌, length, take}
 use Rattle.sql.specs.Plan.{Node}
 use Rattle.sheet.specs.Bytes.{bytes}
-use Rattle.sheet.specs.Parts.{edition, tables-at, columns-at, cells_at}
+use Rattle.sheet.specs.Parts.{edition, tables_at, columns_at, cells_at}
 use Rattle.sheet.specs.Cell.{Cell}
 use Rattle.sheet.specs.Cells.{cells}
 
 -- the 16 bytes of a cell
-unfoldable pub cell-bytes : Cell → List ℕ
+unfoldable pub cell_bytes : Cell → List ℕ
 unfolding bytes
-cell-bytes k = k.tag ∷ k.flag ∷ k.origin % 256 ∷ k.origin / 256 ∷ (bytes k.a ++ (bytes k.b ++ bytes k.c))
+cell_bytes k = k.tag ∷ k.flag ∷ k.origin % 256 ∷ k.origin / 256 ∷ (bytes k.a ++ (bytes k.b ++ bytes k.c))
 
-unfoldable pub cells-bytes : List Cell → List ℕ
-unfolding cell-bytes
-cells-bytes [] = []
-cells-bytes (k ∷ ks) = cell-bytes k ++ cells-bytes ks
+unfoldable pub cells_bytes : List Cell → List ℕ
+unfolding cell_bytes
+cells_bytes [] = []
+cells_bytes (k ∷ ks) = cell_bytes k ++ cells_bytes ks
 
 unfoldable pub trailer : List ℕ → ℕ → List ℕ
 unfolding bytes
-trailer s total = bytes (tables-at s) ++ (bytes (columns-at s) ++ (bytes (cells_at s) ++ (bytes (edition s) ++ bytes total)))
+trailer s total = bytes (tables_at s) ++ (bytes (columns_at s) ++ (bytes (cells_at s) ++ (bytes (edition s) ++ bytes total)))
 
 -- the sheet with the text and the records of s and these cells
-unfoldable pub sheet-with : List ℕ → List Cell → List ℕ
-unfolding cells-bytes trailer
-sheet-with s ks = take (cells_at s) s ++ (cells-bytes ks ++ trailer s (cells_at s + 16 * length ks + 20))
+unfoldable pub sheet_with : List ℕ → List Cell → List ℕ
+unfolding cells_bytes trailer
+sheet_with s ks = take (cells_at s) s ++ (cells_bytes ks ++ trailer s (cells_at s + 16 * length ks + 20))
 
 unfoldable pub write : List ℕ → Node → List ℕ
-unfolding cells sheet-with
-write s node = sheet-with s (cells node)
+unfolding cells sheet_with
+write s node = sheet_with s (cells node)

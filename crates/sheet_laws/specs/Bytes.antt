@@ -6,17 +6,17 @@ use Rattle.std.proofs.Math.Path.{refl, sym, ap}
 use mathlib.Core.List.{List, [], ◌∷◌, ◌++◌}
 use Rattle.std.proofs.Math.ListN.{drop}
 use Rattle.sheet.specs.Bytes.{byte, half, word, bytes}
-use Rattle.sheet.specs.Cell.{Cell, cell-from}
-use Rattle.sheet.specs.Write.{cell-bytes}
+use Rattle.sheet.specs.Cell.{Cell, cell_from}
+use Rattle.sheet.specs.Write.{cell_bytes}
 use Rattle.sheet_laws.specs.Fits.{Word}
 use Rattle.sheet_laws.specs.Content.{Words, low_part, high_part}
 use Rattle.sheet_laws.specs.Plan.{Bytes}
 
 -- ---- from bytes to a number and back to them
 
-pub bytes-of-digits : (x y z w : ℕ) → x < 256 → y < 256 → z < 256 → w < 256 → bytes (x + 256 * y + 65536 * z + 16777216 * w) ≡ x ∷ y ∷ z ∷ w ∷ []
+pub bytes_of_digits : (x y z w : ℕ) → x < 256 → y < 256 → z < 256 → w < 256 → bytes (x + 256 * y + 65536 * z + 16777216 * w) ≡ x ∷ y ∷ z ∷ w ∷ []
 unfolding bytes
-bytes-of-digits x y z w p q r t =
+bytes_of_digits x y z w p q r t =
     let n = x + 256 * y + 65536 * z + 16777216 * w in
     let e : n ≡ x + 256 * (y + 256 * (z + 256 * w)) = omega arith in
     let one : n / 256 ≡ y + 256 * (z + 256 * w) = ap (λ (m : ℕ). m / 256) e ∙ high_part 256 x (y + 256 * (z + 256 * w)) p in
@@ -36,16 +36,16 @@ module _ (s : List ℕ) (b : Bytes s) where
   pub word_next : (i j : ℕ) → j ≡ i + 4 → j ≤ length s → drop i s ≡ bytes (word s i) ++ drop j s
   unfolding word
   word_next i j e h =
-      let d = bytes-of-digits (byte s i) (byte s (i + 1)) (byte s (i + 2)) (byte s (i + 3)) (b i) (b (i + 1)) (b (i + 2)) (b (i + 3)) in
+      let d = bytes_of_digits (byte s i) (byte s (i + 1)) (byte s (i + 2)) (byte s (i + 3)) (b i) (b (i + 1)) (b (i + 2)) (b (i + 3)) in
       (next s i (i + 1) refl (omega arith)
       ∙ ap (λ (l : List ℕ). byte s i ∷ l) (next s (i + 1) (i + 2) (omega arith) (omega arith)
       ∙ ap (λ (l : List ℕ). byte s (i + 1) ∷ l) (next s (i + 2) (i + 3) (omega arith) (omega arith)
       ∙ ap (λ (l : List ℕ). byte s (i + 2) ∷ l) (next s (i + 3) j (omega arith) (omega arith)))))
       ∙ sym (ap (λ (l : List ℕ). l ++ drop j s) d)
 
-  pub cell-next : (i j : ℕ) → j ≡ i + 16 → j ≤ length s → drop i s ≡ cell-bytes (cell-from s i) ++ drop j s
-  unfolding cell-bytes half
-  cell-next i j e h =
+  pub cell_next : (i j : ℕ) → j ≡ i + 16 → j ≤ length s → drop i s ≡ cell_bytes (cell_from s i) ++ drop j s
+  unfolding cell_bytes half
+  cell_next i j e h =
       let two = i + 2 in
       let z : half s two % 256 ≡ byte s two = low_part 256 (byte s two) (byte s (two + 1)) (b two) in
       let y : half s two / 256 ≡ byte s (two + 1) = high_part 256 (byte s two) (byte s (two + 1)) (b two) in
@@ -73,43 +73,43 @@ digits w h =
     omega arith
 
 -- what stands behind xs, and what stands in xs
-pub byte-after : (xs ys : List ℕ) (p i : ℕ) → p ≡ length xs + i → byte (xs ++ ys) p ≡ byte ys i
-byte-after xs ys p i e = rw e (get_or-append-add xs ys i 0)
+pub byte_after : (xs ys : List ℕ) (p i : ℕ) → p ≡ length xs + i → byte (xs ++ ys) p ≡ byte ys i
+byte_after xs ys p i e = rw e (get_or-append-add xs ys i 0)
 
-pub half-after : (xs ys : List ℕ) (p i : ℕ) → p ≡ length xs + i → half (xs ++ ys) p ≡ half ys i
+pub half_after : (xs ys : List ℕ) (p i : ℕ) → p ≡ length xs + i → half (xs ++ ys) p ≡ half ys i
 unfolding half
-half-after xs ys p i e = cc (byte-after xs ys p i e, byte-after xs ys (p + 1) (i + 1) (omega arith))
+half_after xs ys p i e = cc (byte_after xs ys p i e, byte_after xs ys (p + 1) (i + 1) (omega arith))
 
 pub word_after : (xs ys : List ℕ) (p i : ℕ) → p ≡ length xs + i → word (xs ++ ys) p ≡ word ys i
 unfolding word
 word_after xs ys p i e =
-    cc (byte-after xs ys p i e, byte-after xs ys (p + 1) (i + 1) (omega arith), byte-after xs ys (p + 2) (i + 2) (omega arith), byte-after xs ys (p + 3) (i + 3) (omega arith))
+    cc (byte_after xs ys p i e, byte_after xs ys (p + 1) (i + 1) (omega arith), byte_after xs ys (p + 2) (i + 2) (omega arith), byte_after xs ys (p + 3) (i + 3) (omega arith))
 
-pub word-of-bytes : (w : ℕ) (ys : List ℕ) → Word w → word (bytes w ++ ys) 0 ≡ w
+pub word_of_bytes : (w : ℕ) (ys : List ℕ) → Word w → word (bytes w ++ ys) 0 ≡ w
 unfolding word bytes
-word-of-bytes w ys h = digits w h
+word_of_bytes w ys h = digits w h
 
 -- the number written behind xs
-pub word-written : (xs : List ℕ) (w : ℕ) (ys : List ℕ) (p : ℕ) → p ≡ length xs → Word w → word (xs ++ (bytes w ++ ys)) p ≡ w
-word-written xs w ys p e h = word_after xs (bytes w ++ ys) p 0 (omega arith) ∙ word-of-bytes w ys h
+pub word_written : (xs : List ℕ) (w : ℕ) (ys : List ℕ) (p : ℕ) → p ≡ length xs → Word w → word (xs ++ (bytes w ++ ys)) p ≡ w
+word_written xs w ys p e h = word_after xs (bytes w ++ ys) p 0 (omega arith) ∙ word_of_bytes w ys h
 
-pub length-cell-bytes : (k : Cell) → length (cell-bytes k) ≡ 16
-unfolding cell-bytes
-length-cell-bytes k = refl
+pub length_cell_bytes : (k : Cell) → length (cell_bytes k) ≡ 16
+unfolding cell_bytes
+length_cell_bytes k = refl
 
-same-cell : (c d : Cell) → c.tag ≡ d.tag → c.flag ≡ d.flag → c.origin ≡ d.origin → c.a ≡ d.a → c.b ≡ d.b → c.c ≡ d.c → c ≡ d
-same-cell c d p q r s t u =
+same_cell : (c d : Cell) → c.tag ≡ d.tag → c.flag ≡ d.flag → c.origin ≡ d.origin → c.a ≡ d.a → c.b ≡ d.b → c.c ≡ d.c → c ≡ d
+same_cell c d p q r s t u =
     let e : ◌≡◌ {A = Cell} (record { tag = c.tag; flag = c.flag; origin = c.origin; a = c.a; b = c.b; c = c.c })
     (record { tag = d.tag; flag = d.flag; origin = d.origin; a = d.a; b = d.b; c = d.c }) = cc in
     e
 
 -- the cell written behind xs
-pub cell-written : (xs : List ℕ) (k : Cell) (ys : List ℕ) (p : ℕ) → p ≡ length xs → Words k → cell-from (xs ++ (cell-bytes k ++ ys)) p ≡ k
-unfolding cell-bytes half word bytes
-cell-written xs k ys p e w =
-    let zs = cell-bytes k ++ ys in
-    same-cell (cell-from (xs ++ zs) p) k (byte-after xs zs p 0 (omega arith)) (byte-after xs zs (p + 1) 1 (omega arith))
-    (half-after xs zs (p + 2) 2 (omega arith) ∙ mod-add-div k.origin 256)
+pub cell_written : (xs : List ℕ) (k : Cell) (ys : List ℕ) (p : ℕ) → p ≡ length xs → Words k → cell_from (xs ++ (cell_bytes k ++ ys)) p ≡ k
+unfolding cell_bytes half word bytes
+cell_written xs k ys p e w =
+    let zs = cell_bytes k ++ ys in
+    same_cell (cell_from (xs ++ zs) p) k (byte_after xs zs p 0 (omega arith)) (byte_after xs zs (p + 1) 1 (omega arith))
+    (half_after xs zs (p + 2) 2 (omega arith) ∙ mod-add-div k.origin 256)
     (word_after xs zs (p + 4) 4 (omega arith) ∙ digits k.a w.a_word)
-    (word_after xs zs (p + 8) 8 (omega arith) ∙ digits k.b w.b-word)
-    (word_after xs zs (p + 12) 12 (omega arith) ∙ digits k.c w.c-word)
+    (word_after xs zs (p + 8) 8 (omega arith) ∙ digits k.b w.b_word)
+    (word_after xs zs (p + 12) 12 (omega arith) ∙ digits k.c w.c_word)

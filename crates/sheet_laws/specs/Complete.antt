@@ -5,13 +5,13 @@ use Rattle.std.proofs.Common.{sym, ap, ◌∙◌}
 use Rattle.std.proofs.Math.Bool.{true, false}
 use Rattle.std.proofs.Math.Option.{Option, none, some}
 use Rattle.sql.specs.Expression.{Marked, Expression, constant, column, unary, binary}
-use Rattle.sql.specs.Plan.{by_key, by_index, Leaf, scan, lookup, nothing, values, limit, offset, order, projection, remap, aggregate, Over, filter, other, Join, nested-loop, hash, Node, leaf, over, join}
+use Rattle.sql.specs.Plan.{by_key, by_index, Leaf, scan, lookup, nothing, values, limit, offset, order, projection, remap, aggregate, Over, filter, other, Join, nested_loop, hash, Node, leaf, over, join}
 use Rattle.sheet.specs.Cell.{Cell}
-use Rattle.sheet.specs.Content.{Content, constant_cell, column-cell, unary-cell, binary-cell, label-cell, item-cell, key-cell, target-cell, agg-cell, row-cell, aggregate-cell, filter-cell, hash-join-cell, index-lookup-cell, key-lookup-cell, limit-cell, offset-cell, nested-loop-join-cell, nothing-cell, order-cell, projection-cell, remap-cell, scan-cell, values-cell}
-use Rattle.sheet.specs.Cells.{all-cells, alone, expression-cells, constant-cells, label-cells, target-cells, item-cells, key-cells, agg-cells, row-cells, leaf-cells, other-cells, over-cells, join_cells, cells}
-use Rattle.sheet.specs.Tree.{Tree, expression-tree, label-tree, item-tree, key-tree, target-tree, agg-tree, row-tree, node-tree, bind, Stack, reduce, stack, read}
-use Rattle.sheet_laws.specs.Fits.{All, Each-expression, Each-item, Each-key, Each-agg, Each-row, Each-leaf, Each-over, Each-join, Each, Exact-cell, Exact}
-use Rattle.sheet_laws.specs.Reading.{pushed, children-pushed, expression-sort, label-sort, item-sort, key-sort, target-sort, agg-sort, row-sort, constant-tree, constant-sort, Runs, at-end, on, runs_append, runs-read, Good}
+use Rattle.sheet.specs.Content.{Content, constant_cell, column_cell, unary_cell, binary_cell, label_cell, item_cell, key_cell, target_cell, agg_cell, row_cell, aggregate_cell, filter_cell, hash_join_cell, index_lookup_cell, key_lookup_cell, limit_cell, offset_cell, nested_loop_join_cell, nothing_cell, order_cell, projection_cell, remap_cell, scan_cell, values_cell}
+use Rattle.sheet.specs.Cells.{all_cells, alone, expression_cells, constant_cells, label_cells, target_cells, item_cells, key_cells, agg_cells, row_cells, leaf_cells, other_cells, over_cells, join_cells, cells}
+use Rattle.sheet.specs.Tree.{Tree, expression_tree, label_tree, item_tree, key_tree, target_tree, agg_tree, row_tree, node_tree, bind, Stack, reduce, stack, read}
+use Rattle.sheet_laws.specs.Fits.{All, EachExpression, EachItem, EachKey, EachAgg, EachRow, EachLeaf, EachOver, EachJoin, Each, ExactCell, Exact}
+use Rattle.sheet_laws.specs.Reading.{pushed, children_pushed, expression_sort, label_sort, item_sort, key_sort, target_sort, agg_sort, row_sort, constant_tree, constant_sort, Runs, at_end, on, runs_append, runs_read, Good}
 use Rattle.sheet_laws.specs.Exact.{faithful}
 
 pub all_append : {A : Type 0} (P : A → Type 0) (xs ys : List A) → All P xs → All P ys → All P (xs ++ ys)
@@ -25,105 +25,105 @@ module _ (text : List ℕ) (bytes tables : ℕ) (short : bytes < 65536) (few : t
     good : All (Good bytes tables) cs
 
   abbrev P : Content → Type 0
-  P k = Exact-cell text bytes tables k
+  P k = ExactCell text bytes tables k
 
   then : {cs ds : List Cell} {st mid last : Stack} → Reads cs st mid → Reads ds mid last → Reads (cs ++ ds) st last
   then {cs} {ds} p q = record { runs = runs_append p.runs q.runs; good = all_append (Good bytes tables) cs ds p.good q.good }
 
-  a-cell : (og : ℕ) (k : Content) {st last : Stack} → P k → reduce og k st ≡ some last → Reads (alone og k) st last
-  a-cell og k {st} {last} x e =
+  a_cell : (og : ℕ) (k : Content) {st last : Stack} → P k → reduce og k st ≡ some last → Reads (alone og k) st last
+  a_cell og k {st} {last} x e =
       let f = faithful text bytes tables short few k x in
       let w = f.good.words in
       record {
-        runs = on (ap (λ (o : Option Content). bind o (λ k. reduce og k st)) (f.is og) ∙ e) at-end;
-        good = (record { words = record { a_word = w.a_word; b-word = w.b-word; c-word = w.c-word }; ok = f.good.ok }, tt);
+        runs = on (ap (λ (o : Option Content). bind o (λ k. reduce og k st)) (f.is og) ∙ e) at_end;
+        good = (record { words = record { a_word = w.a_word; b_word = w.b_word; c_word = w.c_word }; ok = f.good.ok }, tt);
       }
 
-  a-row : {A : Type 0} (tree : A → Tree) (f : A → List Cell) (Q : A → Type 0) → ((x : A) → Q x → (st : Stack) → Reads (f x) st (tree x ∷ st))
-      → (xs : List A) → All Q xs → (st : Stack) → Reads (all-cells f xs) st (pushed tree xs st)
-  a-row tree f Q r [] q st = record { runs = at-end; good = tt }
-  a-row tree f Q r (x ∷ xs) q st = then (r x q.0 st) (a-row tree f Q r xs q.1 (tree x ∷ st))
+  a_row : {A : Type 0} (tree : A → Tree) (f : A → List Cell) (Q : A → Type 0) → ((x : A) → Q x → (st : Stack) → Reads (f x) st (tree x ∷ st))
+      → (xs : List A) → All Q xs → (st : Stack) → Reads (all_cells f xs) st (pushed tree xs st)
+  a_row tree f Q r [] q st = record { runs = at_end; good = tt }
+  a_row tree f Q r (x ∷ xs) q st = then (r x q.0 st) (a_row tree f Q r xs q.1 (tree x ∷ st))
 
-  expression-reads : (e : Expression) → Each-expression P e → (st : Stack) → Reads (expression-cells e) st (expression-tree e ∷ st)
-  unfolding expression-cells reduce
-  expression-reads (constant og v) x st = a-cell og (constant_cell v) x refl
-  expression-reads (column og i) x st = a-cell og (column-cell i) x refl
-  expression-reads (unary og o e) x st = then (expression-reads e x.0 st) (a-cell og (unary-cell o) x.1 refl)
-  expression-reads (binary og o l r) x st =
-      then (expression-reads l x.0 st) (then (expression-reads r x.1.0 (expression-tree l ∷ st)) (a-cell og (binary-cell o) x.1.1 refl))
+  expression_reads : (e : Expression) → EachExpression P e → (st : Stack) → Reads (expression_cells e) st (expression_tree e ∷ st)
+  unfolding expression_cells reduce
+  expression_reads (constant og v) x st = a_cell og (constant_cell v) x refl
+  expression_reads (column og i) x st = a_cell og (column_cell i) x refl
+  expression_reads (unary og o e) x st = then (expression_reads e x.0 st) (a_cell og (unary_cell o) x.1 refl)
+  expression_reads (binary og o l r) x st =
+      then (expression_reads l x.0 st) (then (expression_reads r x.1.0 (expression_tree l ∷ st)) (a_cell og (binary_cell o) x.1.1 refl))
 
-  expressions-read : (es : List Expression) → All (Each-expression P) es → (st : Stack) → Reads (all-cells expression-cells es) st (pushed expression-tree es st)
-  expressions-read = a-row expression-tree expression-cells (Each-expression P) expression-reads
+  expressions_read : (es : List Expression) → All (EachExpression P) es → (st : Stack) → Reads (all_cells expression_cells es) st (pushed expression_tree es st)
+  expressions_read = a_row expression_tree expression_cells (EachExpression P) expression_reads
 
-  row_reads : (row : Marked (List Expression)) → Each-row P row → (st : Stack) → Reads (row-cells row) st (row-tree row ∷ st)
+  row_reads : (row : Marked (List Expression)) → EachRow P row → (st : Stack) → Reads (row_cells row) st (row_tree row ∷ st)
   unfolding reduce
-  row_reads (es, og) x st = then (expressions-read es x.0 st) (a-cell og (row-cell (length es)) x.1 (children-pushed expression-sort es st _))
+  row_reads (es, og) x st = then (expressions_read es x.0 st) (a_cell og (row_cell (length es)) x.1 (children_pushed expression_sort es st _))
 
-  leaf-reads : (og : ℕ) (l : Leaf) → Each-leaf P l → (st : Stack) → Reads (leaf-cells og l) st (node-tree (leaf og l) ∷ st)
-  unfolding leaf-cells reduce
-  leaf-reads og (scan t al none) x st = a-cell og (scan-cell false t al) x.1 refl
-  leaf-reads og (scan t al (some e)) x st = then (expression-reads e x.0 st) (a-cell og (scan-cell true t al) x.1 refl)
-  leaf-reads og (lookup by_key t al vs) x st =
-      then (a-row constant-tree constant-cells (λ v. P (constant_cell v.0)) (λ v p u. a-cell v.1 (constant_cell v.0) p refl) vs x.0 st)
-      (a-cell og (key-lookup-cell t al (length vs)) x.1 (children-pushed constant-sort vs st _))
-  leaf-reads og (lookup (by_index i) t al vs) x st =
-      then (a-row constant-tree constant-cells (λ v. P (constant_cell v.0)) (λ v p u. a-cell v.1 (constant_cell v.0) p refl) vs x.0 st)
-      (a-cell og (index-lookup-cell t al i (length vs)) x.1 (children-pushed constant-sort vs st _))
-  leaf-reads og (nothing ls) x st =
-      then (a-row label-tree label-cells (λ l. P (label-cell l.0)) (λ l p u. a-cell l.1 (label-cell l.0) p refl) ls x.0 st)
-      (a-cell og (nothing-cell (length ls)) x.1 (children-pushed label-sort ls st _))
-  leaf-reads og (values rs) x st =
-      then (a-row row-tree row-cells (Each-row P) row_reads rs x.0 st)
-      (a-cell og (values-cell (length rs)) x.1 (children-pushed row-sort rs st _))
+  leaf_reads : (og : ℕ) (l : Leaf) → EachLeaf P l → (st : Stack) → Reads (leaf_cells og l) st (node_tree (leaf og l) ∷ st)
+  unfolding leaf_cells reduce
+  leaf_reads og (scan t al none) x st = a_cell og (scan_cell false t al) x.1 refl
+  leaf_reads og (scan t al (some e)) x st = then (expression_reads e x.0 st) (a_cell og (scan_cell true t al) x.1 refl)
+  leaf_reads og (lookup by_key t al vs) x st =
+      then (a_row constant_tree constant_cells (λ v. P (constant_cell v.0)) (λ v p u. a_cell v.1 (constant_cell v.0) p refl) vs x.0 st)
+      (a_cell og (key_lookup_cell t al (length vs)) x.1 (children_pushed constant_sort vs st _))
+  leaf_reads og (lookup (by_index i) t al vs) x st =
+      then (a_row constant_tree constant_cells (λ v. P (constant_cell v.0)) (λ v p u. a_cell v.1 (constant_cell v.0) p refl) vs x.0 st)
+      (a_cell og (index_lookup_cell t al i (length vs)) x.1 (children_pushed constant_sort vs st _))
+  leaf_reads og (nothing ls) x st =
+      then (a_row label_tree label_cells (λ l. P (label_cell l.0)) (λ l p u. a_cell l.1 (label_cell l.0) p refl) ls x.0 st)
+      (a_cell og (nothing_cell (length ls)) x.1 (children_pushed label_sort ls st _))
+  leaf_reads og (values rs) x st =
+      then (a_row row_tree row_cells (EachRow P) row_reads rs x.0 st)
+      (a_cell og (values_cell (length rs)) x.1 (children_pushed row_sort rs st _))
 
-  over_reads : (og : ℕ) (o : Over) → Each-over P o → (s : Node) (st : Stack) → Reads (over-cells og o) (node-tree s ∷ st) (node-tree (over og o s) ∷ st)
-  unfolding over-cells other-cells reduce
-  over_reads og (filter e) x s st = then (expression-reads e x.0 (node-tree s ∷ st)) (a-cell og filter-cell x.1 refl)
-  over_reads og (other (limit n)) x s st = a-cell og (limit-cell n) x refl
-  over_reads og (other (offset n)) x s st = a-cell og (offset-cell n) x refl
+  over_reads : (og : ℕ) (o : Over) → EachOver P o → (s : Node) (st : Stack) → Reads (over_cells og o) (node_tree s ∷ st) (node_tree (over og o s) ∷ st)
+  unfolding over_cells other_cells reduce
+  over_reads og (filter e) x s st = then (expression_reads e x.0 (node_tree s ∷ st)) (a_cell og filter_cell x.1 refl)
+  over_reads og (other (limit n)) x s st = a_cell og (limit_cell n) x refl
+  over_reads og (other (offset n)) x s st = a_cell og (offset_cell n) x refl
   over_reads og (other (order ks)) x s st =
-      then (a-row key-tree key-cells (Each-key P) (λ k p u. then (expression-reads k.0 p.0 u) (a-cell k.2 (key-cell k.1) p.1 refl)) ks x.0 (node-tree s ∷ st))
-      (a-cell og (order-cell (length ks)) x.1 (children-pushed key-sort ks (node-tree s ∷ st) _))
+      then (a_row key_tree key_cells (EachKey P) (λ k p u. then (expression_reads k.0 p.0 u) (a_cell k.2 (key_cell k.1) p.1 refl)) ks x.0 (node_tree s ∷ st))
+      (a_cell og (order_cell (length ks)) x.1 (children_pushed key_sort ks (node_tree s ∷ st) _))
   over_reads og (other (projection is)) x s st =
-      then (a-row item-tree item-cells (Each-item P) (λ i p u. then (expression-reads i.0 p.0 u) (a-cell i.2 (item-cell i.1) p.1 refl)) is x.0 (node-tree s ∷ st))
-      (a-cell og (projection-cell (length is)) x.1 (children-pushed item-sort is (node-tree s ∷ st) _))
+      then (a_row item_tree item_cells (EachItem P) (λ i p u. then (expression_reads i.0 p.0 u) (a_cell i.2 (item_cell i.1) p.1 refl)) is x.0 (node_tree s ∷ st))
+      (a_cell og (projection_cell (length is)) x.1 (children_pushed item_sort is (node_tree s ∷ st) _))
   over_reads og (other (remap ts)) x s st =
-      then (a-row target-tree target-cells (λ t. P (target-cell t.0)) (λ t p u. a-cell t.1 (target-cell t.0) p refl) ts x.0 (node-tree s ∷ st))
-      (a-cell og (remap-cell (length ts)) x.1 (children-pushed target-sort ts (node-tree s ∷ st) _))
+      then (a_row target_tree target_cells (λ t. P (target_cell t.0)) (λ t p u. a_cell t.1 (target_cell t.0) p refl) ts x.0 (node_tree s ∷ st))
+      (a_cell og (remap_cell (length ts)) x.1 (children_pushed target_sort ts (node_tree s ∷ st) _))
   over_reads og (other (aggregate es gs)) x s st =
-      then (expressions-read es x.0 (node-tree s ∷ st))
-      (then (a-row agg-tree agg-cells (Each-agg P) (λ g p u. then (expression-reads g.1 p.0 u) (a-cell g.2 (agg-cell g.0) p.1 refl)) gs x.1.0 (pushed expression-tree es (node-tree s ∷ st)))
-      (a-cell og (aggregate-cell (length es) (length gs)) x.1.1
-      (children-pushed agg-sort gs (pushed expression-tree es (node-tree s ∷ st)) _ ∙ children-pushed expression-sort es (node-tree s ∷ st) _)))
+      then (expressions_read es x.0 (node_tree s ∷ st))
+      (then (a_row agg_tree agg_cells (EachAgg P) (λ g p u. then (expression_reads g.1 p.0 u) (a_cell g.2 (agg_cell g.0) p.1 refl)) gs x.1.0 (pushed expression_tree es (node_tree s ∷ st)))
+      (a_cell og (aggregate_cell (length es) (length gs)) x.1.1
+      (children_pushed agg_sort gs (pushed expression_tree es (node_tree s ∷ st)) _ ∙ children_pushed expression_sort es (node_tree s ∷ st) _)))
 
-  join-reads : (og : ℕ) (outer : Bool) (j : Join) → Each-join P outer j → (l r : Node) (st : Stack) → Reads (join_cells og outer j) (node-tree r ∷ node-tree l ∷ st) (node-tree (join og outer j l r) ∷ st)
+  join_reads : (og : ℕ) (outer : Bool) (j : Join) → EachJoin P outer j → (l r : Node) (st : Stack) → Reads (join_cells og outer j) (node_tree r ∷ node_tree l ∷ st) (node_tree (join og outer j l r) ∷ st)
   unfolding join_cells reduce
-  join-reads og outer (nested-loop none) x l r st = a-cell og (nested-loop-join-cell false outer) x.1 refl
-  join-reads og outer (nested-loop (some e)) x l r st =
-      then (expression-reads e x.0 (node-tree r ∷ node-tree l ∷ st)) (a-cell og (nested-loop-join-cell true outer) x.1 refl)
-  join-reads og outer (hash i j) x l r st = a-cell og (hash-join-cell outer i j) x refl
+  join_reads og outer (nested_loop none) x l r st = a_cell og (nested_loop_join_cell false outer) x.1 refl
+  join_reads og outer (nested_loop (some e)) x l r st =
+      then (expression_reads e x.0 (node_tree r ∷ node_tree l ∷ st)) (a_cell og (nested_loop_join_cell true outer) x.1 refl)
+  join_reads og outer (hash i j) x l r st = a_cell og (hash_join_cell outer i j) x refl
 
-  node-reads : (n : Node) → Each P n → (st : Stack) → Reads (cells n) st (node-tree n ∷ st)
+  node_reads : (n : Node) → Each P n → (st : Stack) → Reads (cells n) st (node_tree n ∷ st)
   unfolding cells
-  node-reads (leaf og l) x st = leaf-reads og l x st
-  node-reads (over og o s) x st = then (node-reads s x.0 st) (over_reads og o x.1 s st)
-  node-reads (join og outer j l r) x st =
-      then (node-reads l x.0 st) (then (node-reads r x.1.0 (node-tree l ∷ st)) (join-reads og outer j x.1.1 l r st))
+  node_reads (leaf og l) x st = leaf_reads og l x st
+  node_reads (over og o s) x st = then (node_reads s x.0 st) (over_reads og o x.1 s st)
+  node_reads (join og outer j l r) x st =
+      then (node_reads l x.0 st) (then (node_reads r x.1.0 (node_tree l ∷ st)) (join_reads og outer j x.1.1 l r st))
 
 -- The cells of an exact plan pass their tests.
-pub cells-good : (text : List ℕ) (tables : ℕ) → length text < 65536 → tables < 65536 → (n : Node) → Exact text tables n
+pub cells_good : (text : List ℕ) (tables : ℕ) → length text < 65536 → tables < 65536 → (n : Node) → Exact text tables n
     → All (Good (length text) tables) (cells n)
-cells-good text tables short few n x = (node-reads text (length text) tables short few n x []).good
+cells_good text tables short few n x = (node_reads text (length text) tables short few n x []).good
 
 -- They are read as that plan.
 pub complete : (text : List ℕ) (tables : ℕ) → length text < 65536 → tables < 65536 → (n : Node) → Exact text tables n
-    → (i : ℕ) → read text i (cells n) [] ≡ stack (node-tree n ∷ [])
-complete text tables short few n x i = runs-read (node-reads text (length text) tables short few n x []).runs i
+    → (i : ℕ) → read text i (cells n) [] ≡ stack (node_tree n ∷ [])
+complete text tables short few n x i = runs_read (node_reads text (length text) tables short few n x []).runs i
 
 -- So two exact plans with the same cells are the same.
-pub one-reading : (text : List ℕ) (tables : ℕ) → length text < 65536 → tables < 65536 → (n m : Node) → Exact text tables n → Exact text tables m
+pub one_reading : (text : List ℕ) (tables : ℕ) → length text < 65536 → tables < 65536 → (n m : Node) → Exact text tables n → Exact text tables m
     → cells n ≡ cells m → n ≡ m
-one-reading text tables short few n m x y e = only (sym (complete text tables short few n x 0) ∙ ap (λ (cs : List Cell). read text 0 cs []) e ∙ complete text tables short few m y 0)
+one_reading text tables short few n m x y e = only (sym (complete text tables short few n x 0) ∙ ap (λ (cs : List Cell). read text 0 cs []) e ∙ complete text tables short few m y 0)
   where
-    only : stack (node-tree n ∷ []) ≡ stack (node-tree m ∷ []) → n ≡ m
+    only : stack (node_tree n ∷ []) ≡ stack (node_tree m ∷ []) → n ≡ m
     only h = cc

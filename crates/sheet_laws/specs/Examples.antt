@@ -1,17 +1,17 @@
 -- Small sheets and what `check` says of them, by computing. A cell is written as document 01 lists it: tag, flag, a, b, c.
 use Rattle.std.specs.Prelude.{ℕ, ◌+◌, ◌*◌, ◌≡◌, refl, List, [], ◌∷◌, ◌++◌, map, length}
 use Rattle.sheet.specs.Bytes.{bytes, word, half}
-use Rattle.sheet.specs.Parts.{length-ok, edition-ok, parts-ok, table-ok, column-ok, bad-record}
-use Rattle.sheet.specs.Cell.{Cell, cell, cell-ok, bad-cell}
+use Rattle.sheet.specs.Parts.{length_ok, edition_ok, parts_ok, table_ok, column_ok, bad_record}
+use Rattle.sheet.specs.Cell.{Cell, cell, cell_ok, bad_cell}
 use Rattle.sheet.specs.Tree.{read}
 use Rattle.sheet.specs.Check.{Numbers, check, refusal}
-use Rattle.sheet.specs.Write.{cells-bytes}
+use Rattle.sheet.specs.Write.{cells_bytes}
 use Rattle.sheet_laws.specs.Content.{laid}
 
 -- the sheet of a text, table records, column records and cells
 sheet : (text tables columns : List ℕ) → List Cell → List ℕ
 sheet text tables columns ks =
-    text ++ (tables ++ (columns ++ (cells-bytes ks
+    text ++ (tables ++ (columns ++ (cells_bytes ks
     ++ (bytes (length text) ++ (bytes (length text + length tables) ++ (bytes (length text + length tables + length columns)
     ++ (bytes 1 ++ bytes (length text + length tables + length columns + 16 * length ks + 20))))))))
 
@@ -39,6 +39,6 @@ examples =
     ∷ (sheet [] [] [] (laid 0 3 0 1 0 0 ∷ laid 0 3 0 2 0 0 ∷ laid 0 45 0 2 0 0 ∷ laid 0 63 0 1 0 0 ∷ laid 0 43 1 7 0 0 ∷ laid 0 43 1 7 0 0 ∷ laid 0 61 0 2 0 0 ∷ []), refusal 10 5)
     ∷ []
 
-pub examples-checked : map (λ e. check e.0) examples ≡ map (λ e. e.1) examples
-unfolding examples sheet success check word half cells-bytes length-ok edition-ok parts-ok bad-record table-ok column-ok bad-cell cell-ok cell read
-examples-checked = refl
+pub examples_checked : map (λ e. check e.0) examples ≡ map (λ e. e.1) examples
+unfolding examples sheet success check word half cells_bytes length_ok edition_ok parts_ok bad_record table_ok column_ok bad_cell cell_ok cell read
+examples_checked = refl

@@ -4,32 +4,32 @@ use native.Mathlib.Omega.{arith}
 use mathlib.Core.Path.{◌≡◌, refl, sym, ap, ◌∙◌, subst}
 use mathlib.Core.List.{List, ◌++◌}
 use lib.ListN.{length, take}
-use Rattle.sql.specs.Plan.{Node, columns, node-size}
+use Rattle.sql.specs.Plan.{Node, columns, node_size}
 use Rattle.sql.specs.Answer.{Answer, done}
-use Rattle.sheet.specs.Parts.{table-count}
+use Rattle.sheet.specs.Parts.{table_count}
 use Rattle.sheet.specs.Cell.{origins}
 use Rattle.sheet.specs.Check.{text, schema, cells_of, plan}
 use Rattle.sheet_laws.specs.Accepted.{accepted}
-use Rattle.sheet_laws.specs.Plan.{Bytes, parts-of, text-length, plan-cells, plan-fits, plan-origins, origins-some}
-use Rattle.sheet_laws.specs.Fits.{Origins-below}
-use Rattle.origins.specs.Origins.{map-node-origins}
-use Rattle.origins.specs.Proof.{passes-keep, five-keep}
+use Rattle.sheet_laws.specs.Plan.{Bytes, parts_of, text_length, plan_cells, plan_fits, plan_origins, origins_some}
+use Rattle.sheet_laws.specs.Fits.{OriginsBelow}
+use Rattle.origins.specs.Origins.{map_node_origins}
+use Rattle.origins.specs.Proof.{passes_keep, five_keep}
 use Rattle.sound.specs.Origins.{below_left, left_below}
 use Rattle.sound.specs.Sound.{Sound}
-use Rattle.sound.specs.HandedOut.{names-inside}
-use Rattle.sound.specs.Checks.{passes-sound}
+use Rattle.sound.specs.HandedOut.{names_inside}
+use Rattle.sound.specs.Checks.{passes_sound}
 use Rattle.layout.specs.Layout.{Whole}
-use Rattle.cells.specs.Cells.{cell-words}
-use Rattle.cells.specs.Room.{most-words, Wrote}
+use Rattle.cells.specs.Cells.{cell_words}
+use Rattle.cells.specs.Room.{most_words, Wrote}
 use Rattle.cells.proofs.Laws.{fits as room_for}
-use Rattle.words.specs.Words.{node-words}
+use Rattle.words.specs.Words.{node_words}
 use Rattle.words.proofs.Sizes.{words_long}
 use Rattle.kept.specs.Kept.{Kept}
-use Rattle.schema.specs.Schema.{table-records, column-records}
+use Rattle.schema.specs.Schema.{table_records, column_records}
 use Rattle.schema.proofs.Laws.{recorded}
-use Rattle.schema.proofs.Lent.{records-said}
+use Rattle.schema.proofs.Lent.{records_said}
 use Rattle.encode.specs.Encode.{cells_in}
-use Rattle.encode.proofs.Says.{node-cells}
+use Rattle.encode.proofs.Says.{node_cells}
 use Rattle.decode.specs.Decode.{Acceptable, Decodes}
 use Rattle.fold_operator.specs.declared.Folded.{Folded}
 use Rattle.checker.specs.declared.Answer as Code
@@ -37,58 +37,58 @@ use Rattle.hand_out.specs.HandOut.{Fit, AnsweredAt, HandsOut}
 use Rattle.optimizer.specs.Choices.{chosen}
 use Rattle.optimizer.specs.declared.Chosen.{Chosen}
 use Rattle.optimizer.specs.declared.Chosen.TheVariants.{One, All}
-use Rattle.passes.specs.Passes.{Lent, Plan-in, PlanAt, Alike, Leaves, Runs, For-all}
+use Rattle.passes.specs.Passes.{Lent, PlanIn, PlanAt, Alike, Leaves, Runs, ForAll}
 use Rattle.sheet_passes.specs.SheetPasses.{RunAt, RunsOn}
 
 module _ (s : List ℕ) (b : Bytes s) (n : Node) (h : plan s ≡ done n) where
-  fit : Kept (schema s) (text s) (table-count s) n n
+  fit : Kept (schema s) (text s) (table_count s) n n
   fit =
       let a = accepted s n h in
-      (passes-sound (schema s) (text s) (table-count s) n 0 (plan-fits s b n h) a.scope-is a.targets-are, refl)
+      (passes_sound (schema s) (text s) (table_count s) n 0 (plan_fits s b n h) a.scope_is a.targets_are, refl)
 
   -- What is chosen makes no origin of its own: put through this function, the origins that the sheet has stay as they are, and no others do.
   abbrev remainder : ℕ → ℕ
   remainder og = og % origins s
 
-  chosen-keeps : (c : Chosen) (room : ℕ) (m : Node) → map-node-origins remainder n ≡ n → chosen c room (schema s) n ≡ done m → map-node-origins remainder m ≡ m
-  chosen-keeps (One k) room m e q = passes-keep room (schema s) k remainder n m e q
-  chosen-keeps All room m e q = five-keep room (schema s) remainder n m e q
+  chosen_keeps : (c : Chosen) (room : ℕ) (m : Node) → map_node_origins remainder n ≡ n → chosen c room (schema s) n ≡ done m → map_node_origins remainder m ≡ m
+  chosen_keeps (One k) room m e q = passes_keep room (schema s) k remainder n m e q
+  chosen_keeps All room m e q = five_keep room (schema s) remainder n m e q
 
-  chosen-origins : (c : Chosen) (room : ℕ) (m : Node) → chosen c room (schema s) n ≡ done m → Origins-below (origins s) m
-  chosen-origins c room m q =
-      let some = origins-some s in
-      left_below (origins s) some m (chosen-keeps c room m (below_left (origins s) some n (plan-origins s b n h)) q)
+  chosen_origins : (c : Chosen) (room : ℕ) (m : Node) → chosen c room (schema s) n ≡ done m → OriginsBelow (origins s) m
+  chosen_origins c room m q =
+      let some = origins_some s in
+      left_below (origins s) some m (chosen_keeps c room m (below_left (origins s) some n (plan_origins s b n h)) q)
 
-  text-short : length (text s) < 65536
-  text-short = let p = parts-of (accepted s n h) in omega (arith, text-length s p)
+  text_short : length (text s) < 65536
+  text_short = let p = parts_of (accepted s n h) in omega (arith, text_length s p)
 
-  lent : Lent (table-records s) (column-records s) (schema s) (text s)
-  lent = record { records = records-said s (recorded s n h); named = names-inside s b n h }
+  lent : Lent (table_records s) (column_records s) (schema s) (text s)
+  lent = record { records = records_said s (recorded s n h); named = names_inside s b n h }
 
   -- decoded, the plan is in x
-  pub decoded : (x : List ℕ) (t : ℕ) (x' : List ℕ) (room : ℕ) → Decodes s x t x' → length x' ≡ length x → length x ≤ most-words → length x ≡ cell-words * room → node-size n ≤ room
-      → Plan-in (schema s) (text s) (table-count s) x' t room n
+  pub decoded : (x : List ℕ) (t : ℕ) (x' : List ℕ) (room : ℕ) → Decodes s x t x' → length x' ≡ length x → length x ≤ most_words → length x ≡ cell_words * room → node_size n ≤ room
+      → PlanIn (schema s) (text s) (table_count s) x' t room n
   decoded x t x' room d same short all fits =
       let long = words_long n in
       let (e, w) = room_for (d n h) (omega (arith, short)) (omega (arith, long, all, fits)) in
       record { fit = fit; words_are = w; inside = omega (arith, e, long, same, all, fits); all = same ∙ all }
 
-  pub given : (t : List ℕ) → t ≡ text s → {tables columns : List ℕ} → tables ≡ table-records s → columns ≡ column-records s
-      → For-all t tables columns (schema s) (text s)
+  pub given : (t : List ℕ) → t ≡ text s → {tables columns : List ℕ} → tables ≡ table_records s → columns ≡ column_records s
+      → ForAll t tables columns (schema s) (text s)
   given t e {tables} {columns} f g = (
-    (sym e, omega (arith, ap length e, text-short)),
-    subst (λ (l : List ℕ). Lent l columns (schema s) (text s)) (sym f) (subst (λ (l : List ℕ). Lent (table-records s) l (schema s) (text s)) (sym g) lent),
+    (sym e, omega (arith, ap length e, text_short)),
+    subst (λ (l : List ℕ). Lent l columns (schema s) (text s)) (sym f) (subst (λ (l : List ℕ). Lent (table_records s) l (schema s) (text s)) (sym g) lent),
   )
 
 -- What the passes ask for, and what is answered.
 module _ (s : List ℕ) (b : Bytes s) {x y z w : List ℕ} (at : RunAt s x y z w) (t : ℕ) (x' : List ℕ) (d : Decodes s x t x') (same : length x' ≡ length x)
-    (text' : List ℕ) (e : text' ≡ text s) {tables columns : List ℕ} (f : tables ≡ table-records s) (g : columns ≡ column-records s) where
-  pub ready : PlanAt (For-all text' tables columns) x' t
+    (text' : List ℕ) (e : text' ≡ text s) {tables columns : List ℕ} (f : tables ≡ table_records s) (g : columns ≡ column_records s) where
+  pub ready : PlanAt (ForAll text' tables columns) x' t
   ready =
       record {
         schema = schema s;
         text = text s;
-        tables = table-count s;
+        tables = table_count s;
         room = at.room;
         p = at.node;
         given = given s b at.node at.is text' e f g;
@@ -97,21 +97,21 @@ module _ (s : List ℕ) (b : Bytes s) {x y z w : List ℕ} (at : RunAt s x y z w
       }
 
   -- The working form has the sheet's cells.
-  pub cells-decoded : cells_in (take t x') ≡ cells_of s
-  cells-decoded =
+  pub cells_decoded : cells_in (take t x') ≡ cells_of s
+  cells_decoded =
       ap cells_in (decoded s b at.node at.is x t x' at.room d same at.short at.all at.fits).words_are
-      ∙ node-cells at.node ∙ sym (plan-cells s b at.node at.is)
+      ∙ node_cells at.node ∙ sym (plan_cells s b at.node at.is)
 
   pub still_alike : Alike x' y z w
   still_alike =
       let a = at.alike in
       record { second = omega (arith, a.second, same); third = omega (arith, a.third, same); fourth = omega (arith, a.fourth, same) }
 
-  module _ (c : Chosen) (y' : List ℕ) (long : length y' ≡ length y) (r : Folded) (run : Runs (For-all text' tables columns) (chosen c) x' t y' r) where
-    left : (node : Node) (room : ℕ) → plan s ≡ done node → node-size node ≤ room → length x ≡ cell-words * room
+  module _ (c : Chosen) (y' : List ℕ) (long : length y' ≡ length y) (r : Folded) (run : Runs (ForAll text' tables columns) (chosen c) x' t y' r) where
+    left : (node : Node) (room : ℕ) → plan s ≡ done node → node_size node ≤ room → length x ≡ cell_words * room
         → Leaves (Fit s node) y' (chosen c room (schema s) node) r
     left node room is fits all =
-        run (schema s) (text s) (table-count s) room node (given s b node is text' e f g) (decoded s b node is x t x' room d same at.short all fits)
+        run (schema s) (text s) (table_count s) room node (given s b node is text' e f g) (decoded s b node is x t x' room d same at.short all fits)
 
     pub answered : AnsweredAt s y' r
     answered =
@@ -120,7 +120,7 @@ module _ (s : List ℕ) (b : Bytes s) {x y z w : List ℕ} (at : RunAt s x y z w
           is = at.is;
           answer = chosen c at.room (schema s) at.node;
           leaves = left at.node at.room at.is at.fits at.all;
-          origins-are = chosen-origins s b at.node at.is c at.room;
+          origins_are = chosen_origins s b at.node at.is c at.room;
           short = omega (arith, at.short, at.alike.second, long);
         }
 

@@ -2,11 +2,11 @@
 -- names lie inside the text: beside what a streamed pass is lent of the schema (crate stream), this pass is told so.
 use Rattle.std.specs.Prelude.{ℕ, ◌+◌, ◌-◌, ◌≤◌, ◌<◌, ◌≡◌, List, ◌++◌, length, take}
 use Rattle.sql.specs.Schema.{Schema}
-use Rattle.sql.specs.Plan.{node-origin, nothing, Node, leaf, column-labels}
-use Rattle.sql.specs.Optimizer.{short-circuit}
+use Rattle.sql.specs.Plan.{node_origin, nothing, Node, leaf, column_labels}
+use Rattle.sql.specs.Optimizer.{short_circuit}
 use Rattle.sql.specs.Room.{ShortCircuit}
 use Rattle.sound.specs.Sound.{Named}
-use Rattle.words.specs.Words.{node-words}
+use Rattle.words.specs.Words.{node_words}
 use Rattle.words.specs.Place.{NodeHere}
 use Rattle.records.specs.Records.{Records}
 use Rattle.column_labels.specs.ColumnLabels.{marked}
@@ -23,12 +23,12 @@ pub record Fitted (y : List ℕ) (at : ℕ) (w : List ℕ) (tail n : ℕ) (y' : 
 abbrev pub Empties : (records columns y : List ℕ) (lo hi tail n : ℕ) → List ℕ → Type 0
 Empties records columns y lo hi tail n y' =
     (schema : Schema) (p : Node) → Records records columns schema → NodeHere y lo hi p
-    → Fitted y lo (node-words (leaf (node-origin p) (nothing (marked (node-origin p) (column-labels schema p))))) tail n y'
+    → Fitted y lo (node_words (leaf (node_origin p) (nothing (marked (node_origin p) (column_labels schema p))))) tail n y'
 
 -- short_circuit takes the node's place.
 abbrev pub CircuitsNode : (records columns y : List ℕ) (lo hi tail n : ℕ) → List ℕ → Type 0
 CircuitsNode records columns y lo hi tail n y' =
-    (schema : Schema) (p : Node) → Records records columns schema → NodeHere y lo hi p → Fitted y lo (node-words (short-circuit schema p)) tail n y'
+    (schema : Schema) (p : Node) → Records records columns schema → NodeHere y lo hi p → Fitted y lo (node_words (short_circuit schema p)) tail n y'
 
 -- What the pass asks for.
 pub record CircuitAt (records columns x : List ℕ) (lo hi tail : ℕ) (y : List ℕ) (at : ℕ) : Type 0 where

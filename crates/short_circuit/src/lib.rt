@@ -1,7 +1,7 @@
 // optimizer.rs, pass 5: ShortCircuit. The plan is read in x, and what becomes of it is written to y, sources before the node (crate stream). z is a
 // scratch for labels. tables and columns are the schema's records (crate records).
 ghost use Rattle.std.specs.Prelude.{◌≡◌, ◌+◌, ◌≤◌, length};
-ghost use Rattle.cells.specs.Room.{most-words};
+ghost use Rattle.cells.specs.Room.{most_words};
 ghost use Rattle.nodes.specs.Columns.{ColumnsAt};
 ghost use Rattle.records.specs.Records.{RecordsAt};
 ghost use Rattle.short_circuit.specs.ShortCircuit.{Empties, CircuitsNode, CircuitAt, Circuits, ClimbsAt, Climbs};
@@ -19,7 +19,7 @@ fn into_nothing(
 ) -> usize
     requires columns_at { ColumnsAt tables.now y.old lo hi }
     requires records_at { RecordsAt tables.now columns.now }
-    requires z_len { (length z.old ≡ length y.old) × ((hi + tail ≤ length y.old) × (length y.old ≤ most-words)) }
+    requires z_len { (length z.old ≡ length y.old) × ((hi + tail ≤ length y.old) × (length y.old ≤ most_words)) }
     ensures { Empties tables.now columns.now y.old lo hi tail result y.new }
 {
     let n = nodes::columns(y, lo, hi, tables);
@@ -52,7 +52,7 @@ fn short_circuit_node(
 ) -> usize
     requires columns_at { ColumnsAt tables.now y.old lo hi }
     requires records_at { RecordsAt tables.now columns.now }
-    requires z_len { (length z.old ≡ length y.old) × ((hi + tail ≤ length y.old) × (length y.old ≤ most-words)) }
+    requires z_len { (length z.old ≡ length y.old) × ((hi + tail ≤ length y.old) × (length y.old ≤ most_words)) }
     ensures { CircuitsNode tables.now columns.now y.old lo hi tail result y.new }
 {
     let end = remove_useless::remove_useless(y, lo, hi, tables);

@@ -8,13 +8,13 @@ use Rattle.sql.specs.Plan.{scan, values, Node, leaf}
 
 -- One table, named by text 7, with one column, named by text 8, which is its key.
 abbrev pub keyed : Schema
-keyed = record { name = 7; primary-key = 0; columns = record { name = 8; kind = Integer; index = false } ∷ [] } ∷ []
+keyed = record { name = 7; primary_key = 0; columns = record { name = 8; kind = Integer; index = false } ∷ [] } ∷ []
 
 abbrev pub scanned : Node
 scanned = leaf 0 (scan 0 none none)
 
-abbrev pub one-row : List Expression → Node
-one-row row = leaf 0 (values ((row, 0) ∷ []))
+abbrev pub one_row : List Expression → Node
+one_row row = leaf 0 (values ((row, 0) ∷ []))
 
 abbrev pub number : ℕ → Expression
 number n = constant 0 (datum (integer (pos n)))
@@ -28,8 +28,8 @@ equals = binary 0 Equal
 abbrev pub plus : Expression → Expression → Expression
 plus = binary 0 (function Add)
 
-abbrev pub divided-by : Expression → Expression → Expression
-divided-by = binary 0 (function Divide)
+abbrev pub divided_by : Expression → Expression → Expression
+divided_by = binary 0 (function Divide)
 
 abbrev pub A : Expression
 A = column 0 0

@@ -12,7 +12,7 @@ pub record Column : Type 0 where
 
 pub record Table : Type 0 where
   pub name : ℕ
-  pub primary-key : ℕ
+  pub primary_key : ℕ
   pub columns : List Column
 
 -- Tables by number.
@@ -20,14 +20,14 @@ abbrev pub Schema : Type 0
 Schema = List Table
 
 -- A table or column that there isn't; a plan in scope names none.
-abbrev pub no-column : Column
-no-column = record { name = 0; kind = Boolean; index = false }
+abbrev pub no_column : Column
+no_column = record { name = 0; kind = Boolean; index = false }
 
 abbrev pub no_table : Table
-no_table = record { name = 0; primary-key = 0; columns = [] }
+no_table = record { name = 0; primary_key = 0; columns = [] }
 
 abbrev pub table_of : Schema → ℕ → Table
 table_of schema table = get_or schema table no_table
 
-abbrev pub column-of : Schema → ℕ → ℕ → Column
-column-of schema table c = get_or (table_of schema table).columns c no-column
+abbrev pub column_of : Schema → ℕ → ℕ → Column
+column_of schema table c = get_or (table_of schema table).columns c no_column

@@ -6,9 +6,9 @@ use Rattle.std.specs.Prelude.{ℕ, ◌+◌, ◌-◌, ◌≤◌, ◌<◌, ◌≡�
 use Rattle.sql.specs.Schema.{Schema}
 use Rattle.sql.specs.Plan.{Node}
 use Rattle.sql.specs.Answer.{Answer, done, refused}
-use Rattle.cells.specs.Cells.{cell-words, words, cell_at, Part}
-use Rattle.cells.specs.Room.{most-words, Wrote}
-use Rattle.words.specs.Words.{node-words}
+use Rattle.cells.specs.Cells.{cell_words, words, cell_at, Part}
+use Rattle.cells.specs.Room.{most_words, Wrote}
+use Rattle.words.specs.Words.{node_words}
 use Rattle.words.specs.Place.{NodeHere}
 use Rattle.edit.specs.Edit.{Shares}
 use Rattle.kept.specs.Kept.{Kept}
@@ -31,17 +31,17 @@ pub record StreamAt (Lent : Schema → Type 0) (x : List ℕ) (lo hi tail : ℕ)
   pub rest : ℕ
   pub p : Node
   pub reading : Reading schema text tables x lo hi tail y at room rest p
-  pub short : length x ≤ most-words
-  pub short-out : length y ≤ most-words
+  pub short : length x ≤ most_words
+  pub short_out : length y ≤ most_words
 
 -- The node of a done answer is appended to the first `at` words of y, which makes n words, and is fit; what is left to read has room behind it. Or the
 -- answer is refusal 14, and n is past the end.
-abbrev pub Streams-to : (Node → Type 0) → List ℕ → ℕ → ℕ → ℕ → List ℕ → Answer Node → Type 0
-Streams-to Fit y at tail n y' (done q) = (n + tail ≤ length y') × ((take n y' ≡ take at y ++ node-words q) × Fit q)
-Streams-to Fit y at tail n y' (refused number place) = (length y' < n) × ((number ≡ 14) × (place ≡ 0))
+abbrev pub StreamsTo : (Node → Type 0) → List ℕ → ℕ → ℕ → ℕ → List ℕ → Answer Node → Type 0
+StreamsTo Fit y at tail n y' (done q) = (n + tail ≤ length y') × ((take n y' ≡ take at y ++ node_words q) × Fit q)
+StreamsTo Fit y at tail n y' (refused number place) = (length y' < n) × ((number ≡ 14) × (place ≡ 0))
 
 pub record Streamed (Fit : Node → Type 0) (y : List ℕ) (at tail n : ℕ) (y' : List ℕ) (answer : Answer Node) : Type 0 where
-  pub is : Streams-to Fit y at tail n y' answer
+  pub is : StreamsTo Fit y at tail n y' answer
 
 -- y' with n words is y with `at` words after f of the node from lo up to hi; f is a function of the room, the schema, the number of cells outside the
 -- node, and the node.
@@ -55,9 +55,9 @@ Streams Lent f x lo hi tail y at n y' =
 -- The words of x from m on, up to the cell that ends before hi, are appended to the first u words of y, and then that cell, over all words from `at` on, or they
 -- have no room. Where the words end before `at`, there is nothing that the cell could be over, and n is past the end.
 pub record Finishes (x : List ℕ) (m hi : ℕ) (y : List ℕ) (at u n : ℕ) (y' : List ℕ) : Type 0 where
-  pub writes : (own : List ℕ) → Part x m (hi - cell-words) own → at ≤ u + length own
-      → Wrote y u (own ++ words (cell_at x hi) (u + length own - at + cell-words)) n y'
-  pub before : (own : List ℕ) → Part x m (hi - cell-words) own → u + length own < at → length y < n
+  pub writes : (own : List ℕ) → Part x m (hi - cell_words) own → at ≤ u + length own
+      → Wrote y u (own ++ words (cell_at x hi) (u + length own - at + cell_words)) n y'
+  pub before : (own : List ℕ) → Part x m (hi - cell_words) own → u + length own < at → length y < n
 
 -- r is n if there is room for tail words behind the first n words of y, and past the end if there isn't.
 pub record InRoom (y : List ℕ) (n tail r : ℕ) : Type 0 where

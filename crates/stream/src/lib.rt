@@ -1,11 +1,11 @@
 // Streamed passes: the plan is read in one slice, and what becomes of it is written to another, a node's sources before its own words and its cell.
 ghost use Rattle.std.specs.Prelude.{◌+◌, ◌≤◌, length};
 ghost use Rattle.stream.specs.Stream.{Finishes, InRoom};
-ghost use Rattle.cells.specs.Cells.{cell-words};
+ghost use Rattle.cells.specs.Cells.{cell_words};
 
 // The own words of the node that ends before hi, which start at m, and its cell, behind the sources that were written to y from lo up to at.
 pub fn finish(x: &[u32], m: usize, hi: usize, y: &mut [u32], lo: usize, at: usize) -> usize
-    requires { (m + cell-words ≤ hi) × (hi ≤ length x.now) }
+    requires { (m + cell_words ≤ hi) × (hi ≤ length x.now) }
     ensures { Finishes x.now m hi y.old lo at result y.new }
 {
     let end = cells::copy(x, m, hi - cells::CELL_WORDS, y, at);

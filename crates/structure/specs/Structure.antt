@@ -3,13 +3,13 @@ use Rattle.std.specs.Prelude.{ℕ, zero, suc, ◌≡◌, List, [], ◌∷◌, ge
 use Rattle.std.proofs.Math.Option.{Option, none, some}
 use Rattle.sql.specs.Answer.{Answer, done, refused}
 use Rattle.sql.specs.Plan.{Node}
-use Rattle.sheet.specs.Parts.{cell-count}
+use Rattle.sheet.specs.Parts.{cell_count}
 use Rattle.sheet.specs.Tree.{read}
-use Rattle.sheet.specs.Check.{text, cells_of, one-plan}
-use Rattle.sheet.specs.Content.{content-of}
+use Rattle.sheet.specs.Check.{text, cells_of, one_plan}
+use Rattle.sheet.specs.Content.{content_of}
 use Rattle.arity.specs.Sort
-use Rattle.arity.specs.Arity.{sort-of, parts-only, children-of}
-use Rattle.layout.specs.Layout.{as-cell}
+use Rattle.arity.specs.Arity.{sort_of, parts_only, children_of}
+use Rattle.layout.specs.Layout.{as_cell}
 use Rattle.layout.specs.declared.Cell.{Cell}
 use Rattle.layout.specs.declared.Found.{Found}
 use Rattle.layout.specs.declared.Found.TheVariants.{At, Nothing}
@@ -21,8 +21,8 @@ place (done a) = none
 place (refused number p) = some p
 
 -- The one plan of a sheet's cells, or refusal 8.
-unfoldable pub plan-of : List ℕ → Answer Node
-plan-of s = one-plan (cell-count s) (read (text s) 0 (cells_of s) [])
+unfoldable pub plan_of : List ℕ → Answer Node
+plan_of s = one_plan (cell_count s) (read (text s) 0 (cells_of s) [])
 
 -- The first `height` entries of an array as a stack, whose top is the last of them and comes first.
 unfoldable pub stacked : List ℕ → ℕ → List ℕ
@@ -41,8 +41,8 @@ pub record Takes (entries : List ℕ) (height want n : ℕ) (r : Found) : Type 0
 -- r is what cell k leaves of a stack, in the entries as they are after it; a cell's sort and children don't depend on the text.
 pub record Reduces (entries : List ℕ) (height : ℕ) (k : Cell) (r : Found) (after : List ℕ) : Type 0 where
   pub is : (text : List ℕ)
-      → left after r ≡ reduced (sort-of (content-of text (as-cell k))) (children-of (content-of text (as-cell k))) (stacked entries height)
+      → left after r ≡ reduced (sort_of (content_of text (as_cell k))) (children_of (content_of text (as_cell k))) (stacked entries height)
 
 -- r is what a cell over two expressions, an expression itself, leaves of a stack.
 pub record Operates (entries : List ℕ) (height : ℕ) (r : Found) (after : List ℕ) : Type 0 where
-  pub is : left after r ≡ reduced Sort.expression (parts-only Sort.expression 2) (stacked entries height)
+  pub is : left after r ≡ reduced Sort.expression (parts_only Sort.expression 2) (stacked entries height)

@@ -1,11 +1,11 @@
 // Refusal 8: a sheet's cells are read by a stack, as the definition reads them, but a sort stands there for each tree.
 ghost use Rattle.std.specs.Prelude.{◌≡◌, Bool, ◌≤◌, ◌<◌, length};
 ghost use Rattle.std.proofs.Math.Option.{none};
-ghost use Rattle.sheet.specs.Parts.{cell-count};
-ghost use Rattle.sheet.specs.Cell.{bad-cell};
+ghost use Rattle.sheet.specs.Parts.{cell_count};
+ghost use Rattle.sheet.specs.Cell.{bad_cell};
 ghost use Rattle.layout.specs.Layout.{Whole, found};
 ghost use Rattle.structure.specs.Sorts as Sorts;
-ghost use Rattle.structure.specs.Structure.{place, plan-of, Takes, Reduces, Operates};
+ghost use Rattle.structure.specs.Structure.{place, plan_of, Takes, Reduces, Operates};
 
 use layout::Found;
 
@@ -96,9 +96,9 @@ fn reduced(stack: &mut [u8], height: usize, k: layout::Cell) -> Found
 
 // The place of refusal 8, or nothing where the cells are one plan; with a stack that is lent.
 fn lacking_in(s: &[u8], stack: &mut [u8]) -> Found
-    requires whole { Whole s.now × (bad-cell s.now ≡ none) }
-    requires s_in_bounds { cell-count s.now ≤ length stack.old }
-    ensures { found result ≡ place (plan-of s.now) }
+    requires whole { Whole s.now × (bad_cell s.now ≡ none) }
+    requires s_in_bounds { cell_count s.now ≤ length stack.old }
+    ensures { found result ≡ place (plan_of s.now) }
 {
     let parts = layout::parts_of(s);
     let count = parts.cells.count;
@@ -124,8 +124,8 @@ fn lacking_in(s: &[u8], stack: &mut [u8]) -> Found
 
 // The same with a stack of its own. Most plans are small, and a small stack is made faster.
 pub fn lacking(s: &[u8]) -> Found
-    requires { Whole s.now × (bad-cell s.now ≡ none) }
-    ensures { found result ≡ place (plan-of s.now) }
+    requires { Whole s.now × (bad_cell s.now ≡ none) }
+    ensures { found result ≡ place (plan_of s.now) }
 {
     let parts = layout::parts_of(s);
     if parts.cells.count <= 64 {

@@ -12,31 +12,31 @@ use lib.Seq.{get_or-set_same, get_or-set_other}
 use borrow.Author.Tests.{le-leb, lt-leb, lt-ltb, le-ltb, ne_eqb, eqb-true, eqb-false}
 use Rattle.sql.specs.Expression.{Marked}
 use Rattle.sql.specs.Plan.{Over, filter, other, limit, offset, order, projection, remap, aggregate, Node, leaf, over, join}
-use Rattle.sheet.specs.Parts.{tables-at, table-count, cell-count}
+use Rattle.sheet.specs.Parts.{tables_at, table_count, cell_count}
 use Rattle.sheet.specs.Cell.{Cell, cell}
-use Rattle.sheet.specs.Content.{target-cell}
+use Rattle.sheet.specs.Content.{target_cell}
 use Rattle.sheet.specs.Scope.{member}
 use Rattle.sheet.specs.Check.{text, cells_of}
-use Rattle.sheet_laws.specs.Fits.{All, Each, Each-over, Exact-cell}
+use Rattle.sheet_laws.specs.Fits.{All, Each, EachOver, ExactCell}
 use Rattle.sheet_laws.specs.Plan.{Bytes}
 use Rattle.layout.specs.declared.Found.{Found}
 use Rattle.layout.specs.Layout.{found}
-use Rattle.node_scope.specs.Own.{is-node, segment}
-use Rattle.node_scope.proofs.Steps.{segment-first, segment-all, segment-end}
+use Rattle.node_scope.specs.Own.{is_node, segment}
+use Rattle.node_scope.proofs.Steps.{segment_first, segment_all, segment_end}
 use Rattle.scope.proofs.Reading.{indexes, stands}
-use Rattle.targets.specs.Targets.{target-number, Untargeted, Repeats}
-use Rattle.targets.proofs.Walk.{walk, Below, Below-over, Below-node, walked}
+use Rattle.targets.specs.Targets.{target_number, Untargeted, Repeats}
+use Rattle.targets.proofs.Walk.{walk, Below, BelowOver, BelowNode, walked}
 
 -- ---- one cell
 
 module _ (k : Cell) where
-  pub number_is : k.tag ≡ 43 → k.flag ≡ 1 → k.a ≡ target-number k
+  pub number_is : k.tag ≡ 43 → k.flag ≡ 1 → k.a ≡ target_number k
   number_is e f = rw (e, f) refl
 
-  pub number-none : k.tag ≡ 43 → (k.flag ≡ 1 → ⊥) → 256 ≡ target-number k
-  number-none e f = rw (e, ne_eqb _ _ f) refl
+  pub number_none : k.tag ≡ 43 → (k.flag ≡ 1 → ⊥) → 256 ≡ target_number k
+  number_none e f = rw (e, ne_eqb _ _ f) refl
 
-  pub no_target : (k.tag ≡ 43 → ⊥) → 256 ≡ target-number k
+  pub no_target : (k.tag ≡ 43 → ⊥) → 256 ≡ target_number k
   no_target e = rw (ne_eqb _ _ e) refl
 
 -- ---- the walk
@@ -45,11 +45,11 @@ module _ (k : Cell) where
 pub record Walked (s last : List ℕ) (own i : ℕ) : Type 0 where
   pub before : List ℕ
   pub order : own ≤ i
-  pub within : i ≤ cell-count s
+  pub within : i ≤ cell_count s
   pub room : length last ≡ 256
   pub past : (t : ℕ) → t < 256 → get_or last t 0 ≤ i
   pub marks : (t : ℕ) → t < 256 → ltb own (get_or last t 0) ≡ member t before
-  pub same : walk i before (segment s i (cell-count s)) ≡ walk 0 [] (cells_of s)
+  pub same : walk i before (segment s i (cell_count s)) ≡ walk 0 [] (cells_of s)
 
 -- ---- before the first Target
 
@@ -57,14 +57,14 @@ module _ (s : List ℕ) where
   pub none_yet : Untargeted s 0
   none_yet = record { within = omega arith; none_before = λ i h. absurd (omega arith) }
 
-  pub none_here : {n number : ℕ} {k : Cell} → Untargeted s n → n < cell-count s → k ≡ cell s n → number ≡ target-number k → 256 ≤ number → Untargeted s (n + 1)
+  pub none_here : {n number : ℕ} {k : Cell} → Untargeted s n → n < cell_count s → k ≡ cell s n → number ≡ target_number k → 256 ≤ number → Untargeted s (n + 1)
   none_here {n} {number} u h is e g =
       record {
         within = omega arith;
         none_before = λ i j. go i j (eqb i n) refl;
       }
     where
-      go : (i : ℕ) → i < n + 1 → (b : Bool) → eqb i n ≡ b → 256 ≤ target-number (cell s i)
+      go : (i : ℕ) → i < n + 1 → (b : Bool) → eqb i n ≡ b → 256 ≤ target_number (cell s i)
       go i j true f = rw (eqb-true i n f, sym is, sym e) g
       go i j false f = u.none_before i (let d = eqb-false i n f in omega arith)
 
@@ -72,21 +72,21 @@ module _ (s : List ℕ) where
   either_way true x y = refl
   either_way false x y = refl
 
-  past_one : (n : ℕ) (k : Cell) (ks : List Cell) → 256 ≤ target-number k → walk n [] (k ∷ ks) ≡ walk (suc n) [] ks
-  past_one n k ks h = rw (le-leb 256 (target-number k) h) (either_way (is-node k.tag) (walk (suc n) [] ks) (walk (suc n) (target-number k ∷ []) ks))
+  past_one : (n : ℕ) (k : Cell) (ks : List Cell) → 256 ≤ target_number k → walk n [] (k ∷ ks) ≡ walk (suc n) [] ks
+  past_one n k ks h = rw (le-leb 256 (target_number k) h) (either_way (is_node k.tag) (walk (suc n) [] ks) (walk (suc n) (target_number k ∷ []) ks))
 
   -- Such cells are passed over, and no number has been met.
-  passed : (n : ℕ) → Untargeted s n → walk n [] (segment s n (cell-count s)) ≡ walk 0 [] (cells_of s)
-  passed zero u = rw (segment-all s) refl
+  passed : (n : ℕ) → Untargeted s n → walk n [] (segment s n (cell_count s)) ≡ walk 0 [] (cells_of s)
+  passed zero u = rw (segment_all s) refl
   passed (suc n) u =
       let before : Untargeted s n = record { within = omega (arith, u.within); none_before = λ i j. u.none_before i (omega arith) } in
-      ap (λ (i : ℕ). walk (suc n) [] (segment s i (cell-count s))) (sym (add-one n))
-      ∙ sym (past_one n (cell s n) (segment s (n + 1) (cell-count s)) (u.none_before n (omega arith)))
-      ∙ ap (walk n []) (sym (segment-first s (omega (arith, u.within))))
+      ap (λ (i : ℕ). walk (suc n) [] (segment s i (cell_count s))) (sym (add-one n))
+      ∙ sym (past_one n (cell s n) (segment s (n + 1) (cell_count s)) (u.none_before n (omega arith)))
+      ∙ ap (walk n []) (sym (segment_first s (omega (arith, u.within))))
       ∙ passed n before
 
-  pub untargeted : {n : ℕ} → Untargeted s n → cell-count s ≤ n → none ≡ walk 0 [] (cells_of s)
-  untargeted {n} u h = rw (segment-end s u.within h) at (passed n u)
+  pub untargeted : {n : ℕ} → Untargeted s n → cell_count s ≤ n → none ≡ walk 0 [] (cells_of s)
+  untargeted {n} u h = rw (segment_end s u.within h) at (passed n u)
 
 -- ---- from there on
 
@@ -103,16 +103,16 @@ module _ (s : List ℕ) where
         same = passed s from u;
       }
 
-  module _ {last : List ℕ} {own i : ℕ} (w : Walked s last own i) (h : i < cell-count s) {k : Cell} (is : k ≡ cell s i) where
-    here : walk i w.before (k ∷ segment s (i + 1) (cell-count s)) ≡ walk 0 [] (cells_of s)
-    here = rw is (rw (segment-first s h) at w.same)
+  module _ {last : List ℕ} {own i : ℕ} (w : Walked s last own i) (h : i < cell_count s) {k : Cell} (is : k ≡ cell s i) where
+    here : walk i w.before (k ∷ segment s (i + 1) (cell_count s)) ≡ walk 0 [] (cells_of s)
+    here = rw is (rw (segment_first s h) at w.same)
 
     -- the walk goes on at i + 1
-    on : (before : List ℕ) → walk (suc i) before (segment s (i + 1) (cell-count s)) ≡ walk 0 [] (cells_of s) → walk (i + 1) before (segment s (i + 1) (cell-count s)) ≡ walk 0 [] (cells_of s)
-    on before e = ap (λ (j : ℕ). walk j before (segment s (i + 1) (cell-count s))) (add-one i) ∙ e
+    on : (before : List ℕ) → walk (suc i) before (segment s (i + 1) (cell_count s)) ≡ walk 0 [] (cells_of s) → walk (i + 1) before (segment s (i + 1) (cell_count s)) ≡ walk 0 [] (cells_of s)
+    on before e = ap (λ (j : ℕ). walk j before (segment s (i + 1) (cell_count s))) (add-one i) ∙ e
 
-    pub past-node : 50 ≤ k.tag → Walked s last (i + 1) (i + 1)
-    past-node e =
+    pub past_node : 50 ≤ k.tag → Walked s last (i + 1) (i + 1)
+    past_node e =
         record {
           before = [];
           order = omega arith;
@@ -123,12 +123,12 @@ module _ (s : List ℕ) where
           same = on [] (rw (le-leb 50 k.tag e) at here);
         }
 
-    module _ (plain : k.tag < 50) {number : ℕ} (number_of_lem : number ≡ target-number k) where
-      at_plain : walk 0 [] (cells_of s) ≡ cond (leb 256 number) (walk (suc i) w.before (segment s (i + 1) (cell-count s))) (cond (member number w.before) (some i) (walk (suc i) (number ∷ w.before) (segment s (i + 1) (cell-count s))))
+    module _ (plain : k.tag < 50) {number : ℕ} (number_of_lem : number ≡ target_number k) where
+      at_plain : walk 0 [] (cells_of s) ≡ cond (leb 256 number) (walk (suc i) w.before (segment s (i + 1) (cell_count s))) (cond (member number w.before) (some i) (walk (suc i) (number ∷ w.before) (segment s (i + 1) (cell_count s))))
       at_plain = sym here ∙ rw (lt-leb 50 k.tag plain, number_of_lem) refl
 
-      pub past-other : 256 ≤ number → Walked s last own (i + 1)
-      past-other e =
+      pub past_other : 256 ≤ number → Walked s last own (i + 1)
+      past_other e =
           record {
             before = w.before;
             order = omega arith;
@@ -140,11 +140,11 @@ module _ (s : List ℕ) where
           }
 
       module _ (small : number < 256) where
-        fresh : walk 0 [] (cells_of s) ≡ cond (member number w.before) (some i) (walk (suc i) (number ∷ w.before) (segment s (i + 1) (cell-count s)))
+        fresh : walk 0 [] (cells_of s) ≡ cond (member number w.before) (some i) (walk (suc i) (number ∷ w.before) (segment s (i + 1) (cell_count s)))
         fresh = rw (lt-leb 256 number small) at at_plain
 
-        pub met-again : own < get_or last number 0 → some i ≡ walk 0 [] (cells_of s)
-        met-again e = sym (rw (sym (w.marks number small) ∙ lt-ltb own (get_or last number 0) e) at fresh)
+        pub met_again : own < get_or last number 0 → some i ≡ walk 0 [] (cells_of s)
+        met_again e = sym (rw (sym (w.marks number small) ∙ lt-ltb own (get_or last number 0) e) at fresh)
 
         marked : (t : ℕ) (e : Bool) → eqb t number ≡ e → t < 256 → ltb own (get_or (set last number (i + 1)) t 0) ≡ (e || member t w.before)
         marked t true e b =
@@ -158,8 +158,8 @@ module _ (s : List ℕ) where
             rw (f, get_or-set_same last number (i + 1) 0 (let r = w.room in omega arith)) (omega arith)
         stamped t false e b = rw (get_or-set_other last number t (i + 1) 0 (eqb-false t number e)) (omega (arith, w.past t b))
 
-        pub past-target : get_or last number 0 ≤ own → Walked s (set last number (i + 1)) own (i + 1)
-        past-target e =
+        pub past_target : get_or last number 0 ≤ own → Walked s (set last number (i + 1)) own (i + 1)
+        past_target e =
             record {
               before = number ∷ w.before;
               order = omega arith;
@@ -170,30 +170,30 @@ module _ (s : List ℕ) where
               same = on (number ∷ w.before) (sym (rw (sym (w.marks number small) ∙ le-ltb own (get_or last number 0) e) at fresh));
             }
 
-  pub ended : {last : List ℕ} {own i : ℕ} → Walked s last own i → cell-count s ≤ i → none ≡ walk 0 [] (cells_of s)
-  ended w h = rw (segment-end s w.within h) at w.same
+  pub ended : {last : List ℕ} {own i : ℕ} → Walked s last own i → cell_count s ≤ i → none ≡ walk 0 [] (cells_of s)
+  ended w h = rw (segment_end s w.within h) at w.same
 
 -- ---- what reading a sheet's cells gives
 
 module _ (text : List ℕ) (bytes tables : ℕ) where
-  below : (ts : List (Marked (Option ℕ))) → All (λ t. Exact-cell text bytes tables (target-cell t.0)) ts → Below ts
+  below : (ts : List (Marked (Option ℕ))) → All (λ t. ExactCell text bytes tables (target_cell t.0)) ts → Below ts
   below [] e = tt
   below ((none, og) ∷ ts) e = below ts e.1
   below ((some t, og) ∷ ts) e = (e.0.0, below ts e.1)
 
-  below-over : (o : Over) → Each-over (Exact-cell text bytes tables) o → Below-over o
-  below-over (filter x) e = tt
-  below-over (other (limit m)) e = tt
-  below-over (other (offset m)) e = tt
-  below-over (other (order ks)) e = tt
-  below-over (other (projection is)) e = tt
-  below-over (other (remap ts)) e = below ts e.0
-  below-over (other (aggregate es gs)) e = tt
+  below_over : (o : Over) → EachOver (ExactCell text bytes tables) o → BelowOver o
+  below_over (filter x) e = tt
+  below_over (other (limit m)) e = tt
+  below_over (other (offset m)) e = tt
+  below_over (other (order ks)) e = tt
+  below_over (other (projection is)) e = tt
+  below_over (other (remap ts)) e = below ts e.0
+  below_over (other (aggregate es gs)) e = tt
 
-  below-node : (n : Node) → Each (Exact-cell text bytes tables) n → Below-node n
-  below-node (leaf og l) e = tt
-  below-node (over og o n) e = (below-node n e.0, below-over o e.1)
-  below-node (join og outer j l r) e = (below-node l e.0, below-node r e.1.0)
+  below_node : (n : Node) → Each (ExactCell text bytes tables) n → BelowNode n
+  below_node (leaf og l) e = tt
+  below_node (over og o n) e = (below_node n e.0, below_over o e.1)
+  below_node (join og outer j l r) e = (below_node l e.0, below_node r e.1.0)
 
 -- An answer of the walk over a sheet's cells is the one asked for.
 pub repeats : (s : List ℕ) (r : Found) → Bytes s → found r ≡ walk 0 [] (cells_of s) → Repeats s r
@@ -201,4 +201,4 @@ repeats s r b e n ok reads =
     let d = stands s b n ok reads in
     e
     ∙ ap (walk 0 []) (sym d.cells_are)
-    ∙ walked n (indexes (text s) (tables-at s) (table-count s) n d.exact) (below-node (text s) (tables-at s) (table-count s) n d.exact)
+    ∙ walked n (indexes (text s) (tables_at s) (table_count s) n d.exact) (below_node (text s) (tables_at s) (table_count s) n d.exact)

@@ -1,15 +1,15 @@
 // Refusal 10 of document 01: no two Targets of one Remap have the same number. The cells are walked once, from the first to the last. A Remap's Targets stand
 // behind the last node before it.
 ghost use Rattle.std.specs.Prelude.{◌≡◌};
-ghost use Rattle.layout.specs.Layout.{Whole, as-cell};
+ghost use Rattle.layout.specs.Layout.{Whole, as_cell};
 ghost use Rattle.scope.specs.Scope.{OnePlan};
-ghost use Rattle.targets.specs.Targets.{target-number, Untargeted, Repeats};
+ghost use Rattle.targets.specs.Targets.{target_number, Untargeted, Repeats};
 
 use layout::{Cell, Found, cell_at, parts_of};
 
 // The number of a Target that has one; 256, which no Target has, of any other cell.
 fn target_number(k: Cell) -> usize
-    ensures { result ≡ target-number (as-cell k) }
+    ensures { result ≡ target_number (as_cell k) }
 {
     if k.tag == tags::TARGET {
         if k.flag == 1 {

@@ -13,20 +13,20 @@ asks (text k) flag = leb k flag
 asks (small k) flag = false
 
 -- the fields a, b and c of a tag's cells
-abbrev pub asks-a : Tag → ℕ → Bool
-asks-a unknown flag = false
-asks-a not_carried flag = false
-asks-a (carried flags a b c) flag = asks a flag
+abbrev pub asks_a : Tag → ℕ → Bool
+asks_a unknown flag = false
+asks_a not_carried flag = false
+asks_a (carried flags a b c) flag = asks a flag
 
-abbrev pub asks-b : Tag → ℕ → Bool
-asks-b unknown flag = false
-asks-b not_carried flag = false
-asks-b (carried flags a b c) flag = asks b flag
+abbrev pub asks_b : Tag → ℕ → Bool
+asks_b unknown flag = false
+asks_b not_carried flag = false
+asks_b (carried flags a b c) flag = asks b flag
 
-abbrev pub asks-c : Tag → ℕ → Bool
-asks-c unknown flag = false
-asks-c not_carried flag = false
-asks-c (carried flags a b c) flag = asks c flag
+abbrev pub asks_c : Tag → ℕ → Bool
+asks_c unknown flag = false
+asks_c not_carried flag = false
+asks_c (carried flags a b c) flag = asks c flag
 
 -- The references of xs stand in refs' behind the first `from` of refs, and end before r. There are at most `most`.
 pub record Listed (xs : List Slot) (refs : List ℕ) (from most : ℕ) (refs' : List ℕ) (r : ℕ) : Type 0 where
@@ -35,5 +35,5 @@ pub record Listed (xs : List Slot) (refs : List ℕ) (from most : ℕ) (refs' : 
   pub few : r ≤ from + most
 
 -- the word v of a field, a reference or not
-abbrev pub if-refers : Bool → ℕ → List Slot
-if-refers refers v = cond refers (reference v) (number v) ∷ []
+abbrev pub if_refers : Bool → ℕ → List Slot
+if_refers refers v = cond refers (reference v) (number v) ∷ []

@@ -1,16 +1,16 @@
 // The text references of a sheet, in order: the names of tables and columns, then those in cells.
 ghost use Rattle.std.specs.Prelude.{◌≡◌, ◌+◌, ◌*◌, ◌≤◌, length};
 ghost use Rattle.sheet.specs.Cell.{tag_of};
-ghost use Rattle.compact.specs.Slots.{record-slots, cell-slots, in-each, slots};
+ghost use Rattle.compact.specs.Slots.{record_slots, cell_slots, in_each, slots};
 ghost use Rattle.layout.specs.Layout.{Whole};
-ghost use Rattle.text_references.specs.Asks.{asks-a, asks-b, if-refers, Listed};
+ghost use Rattle.text_references.specs.Asks.{asks_a, asks_b, if_refers, Listed};
 
 // The most references that a sheet has: a name for each of 16 tables and 256 columns, and two for each of 2,048 cells.
 pub const MOST: usize = 4368;
 
 // Field a of a cell is a reference: a String, and the first text of a Label or an Item.
 pub fn a_refers(tag: u32, flag: usize) -> bool
-    ensures { result ≡ asks-a (tag_of tag) flag }
+    ensures { result ≡ asks_a (tag_of tag) flag }
 {
     if tag == tags::STRING {
         return true;
@@ -26,7 +26,7 @@ pub fn a_refers(tag: u32, flag: usize) -> bool
 
 // Field b of a cell is a reference: the second text of a Label or an Item, and the alias of a lookup or a Scan.
 pub fn b_refers(tag: u32, flag: usize) -> bool
-    ensures { result ≡ asks-b (tag_of tag) flag }
+    ensures { result ≡ asks_b (tag_of tag) flag }
 {
     if tag == tags::LABEL {
         return 2 <= flag;
@@ -49,7 +49,7 @@ pub fn b_refers(tag: u32, flag: usize) -> bool
 // The names of n records, the first at byte `at`.
 fn list_records(s: &[u8], at: usize, n: usize, refs: &mut [usize]) -> usize
     requires { (at + n * 16 ≤ length s.now) × (n ≤ length refs.old) }
-    ensures { Listed (in-each (record-slots s.now) at n) refs.old 0 n refs.new result }
+    ensures { Listed (in_each (record_slots s.now) at n) refs.old 0 n refs.new result }
 {
     let mut i: usize = 0;
     while i < n {
@@ -62,7 +62,7 @@ fn list_records(s: &[u8], at: usize, n: usize, refs: &mut [usize]) -> usize
 // One more reference, if it is one.
 fn push(refs: &mut [usize], j: usize, refers: bool, v: usize) -> usize
     requires { j + 1 ≤ length refs.old }
-    ensures { Listed (if-refers refers v) refs.old j 1 refs.new result }
+    ensures { Listed (if_refers refers v) refs.old j 1 refs.new result }
 {
     if refers {
         refs[j] = v;
@@ -74,7 +74,7 @@ fn push(refs: &mut [usize], j: usize, refers: bool, v: usize) -> usize
 // Those of the cell that starts at byte p, behind the first j.
 fn list_cell(s: &[u8], p: usize, refs: &mut [usize], j: usize) -> usize
     requires { (p + 16 ≤ length s.now) × (j + 2 ≤ length refs.old) }
-    ensures { Listed (cell-slots s.now p) refs.old j 2 refs.new result }
+    ensures { Listed (cell_slots s.now p) refs.old j 2 refs.new result }
 {
     let k = layout::cell_from(s, p);
     let a = a_refers(k.tag, k.flag);
@@ -86,7 +86,7 @@ fn list_cell(s: &[u8], p: usize, refs: &mut [usize], j: usize) -> usize
 // Those of n cells, the first at byte `at`, behind the first `from`.
 fn list_cells(s: &[u8], at: usize, n: usize, refs: &mut [usize], from: usize) -> usize
     requires { (at + n * 16 ≤ length s.now) × (from + n * 2 ≤ length refs.old) }
-    ensures { Listed (in-each (cell-slots s.now) at n) refs.old from (n * 2) refs.new result }
+    ensures { Listed (in_each (cell_slots s.now) at n) refs.old from (n * 2) refs.new result }
 {
     let mut j = from;
     let mut i: usize = 0;

@@ -2,11 +2,11 @@
 use Rattle.std.specs.Prelude.{false, ◌≡◌, refl, [], ◌∷◌, ◌++◌}
 use Rattle.std.proofs.Math.Option.{none, some}
 use Rattle.value.specs.Value.{True, truth}
-use Rattle.value.specs.Arithmetic.{checked, add-integers}
-use Rattle.sql.specs.Expression.{Expression, constant, and, into-cnf, into-cnf-vec}
-use Rattle.sql.specs.Plan.{scan, limit, filter, other, nested-loop, Node, leaf, over, join}
+use Rattle.value.specs.Arithmetic.{checked, add_integers}
+use Rattle.sql.specs.Expression.{Expression, constant, and, into_cnf, into_cnf_vec}
+use Rattle.sql.specs.Plan.{scan, limit, filter, other, nested_loop, Node, leaf, over, join}
 use Rattle.sql.specs.Optimizer
-use Rattle.sql.specs.Samples.{keyed, scanned, one-row, number, equals, plus, A, B}
+use Rattle.sql.specs.Samples.{keyed, scanned, one_row, number, equals, plus, A, B}
 use Rattle.theorems.specs.Sizes
 
 abbrev always : Expression
@@ -16,10 +16,10 @@ always = constant 0 (truth True)
 abbrev visited : Node
 visited =
     over 0 (other (limit 5))
-    (join 0 false (nested-loop (some (and 0 (equals A B) always))) (over 0 (filter (and 0 always always)) scanned)
+    (join 0 false (nested_loop (some (and 0 (equals A B) always))) (over 0 (filter (and 0 always always)) scanned)
     (leaf 0 (scan 0 none (some (and 0 (and 0 (equals A (number 1)) (equals A (number 2))) always)))))
 
-in-each-pass : Sizes.optimize keyed visited
+in_each_pass : Sizes.optimize keyed visited
     ≡ (22 ∷ 20 ∷ 18 ∷ 18 ∷ 16 ∷ [])  -- the Limit; the join and the Filter, which fold an And with true; its Scan; the right Scan, which folds one too
     ++ ((16 ∷ 3 ∷ 3 ∷ 16 ∷ [])  -- the Limit; two normal forms, and the join, which is split and stays
     ++ ((15 ∷ 15 ∷ 15 ∷ 15 ∷ [])  -- the Filter is merged, and the join rule tried twice; the right Scan
@@ -27,10 +27,10 @@ in-each-pass : Sizes.optimize keyed visited
     ++ ((7 ∷ 7 ∷ 13 ∷ 13 ∷ [])  -- two normal forms, and the right Scan, which becomes a Filter over a lookup; the lookup
     ++ ((13 ∷ 10 ∷ 10 ∷ 10 ∷ 10 ∷ [])  -- the Limit; the join, which becomes a HashJoin; the Scan; the Filter; the lookup
     ++ (9 ∷ 9 ∷ 9 ∷ 9 ∷ 9 ∷ []))))))  -- the Scan, which loses its filter; the lookup; the Filter; the join; the Limit
-unfolding into-cnf into-cnf-vec Sizes.maybe-push-filter Sizes.push-filters-from Optimizer.maybe-push-join Optimizer.maybe-push-filter Optimizer.push-filters-from Optimizer.FilterPushdown Optimizer.index-lookup Optimizer.IndexLookup
-in-each-pass = refl
+unfolding into_cnf into_cnf_vec Sizes.maybe_push_filter Sizes.push_filters_from Optimizer.maybe_push_join Optimizer.maybe_push_filter Optimizer.push_filters_from Optimizer.FilterPushdown Optimizer.index_lookup Optimizer.IndexLookup
+in_each_pass = refl
 
 -- The left source's visit is refused, by 13: the size after the join's visit is the only one.
-up-to-a-refusal : Sizes.optimize keyed (join 0 false (nested-loop (some (and 0 always always))) (one-row (plus (number 1) always ∷ [])) (one-row (number 1 ∷ []))) ≡ (10 ∷ [])
-unfolding checked add-integers
-up-to-a-refusal = refl
+up_to_a_refusal : Sizes.optimize keyed (join 0 false (nested_loop (some (and 0 always always))) (one_row (plus (number 1) always ∷ [])) (one_row (number 1 ∷ []))) ≡ (10 ∷ [])
+unfolding checked add_integers
+up_to_a_refusal = refl

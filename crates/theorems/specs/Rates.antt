@@ -4,34 +4,34 @@ use Rattle.std.proofs.Math.Option.{none, some}
 use Rattle.std.specs.Float.Ieee as Ieee
 use Rattle.ieee754.specs.Ieee754 as Ieee754
 use Rattle.value.specs.Value.{datum, integer, float}
-use Rattle.value.specs.Arithmetic.{checked, subtract-integers, multiply-integers}
-use Rattle.sql.specs.Expression.{Expression, constant, unary, binary, function, Subtract, Multiply, SquareRoot, into-cnf, into-cnf-vec}
+use Rattle.value.specs.Arithmetic.{checked, subtract_integers, multiply_integers}
+use Rattle.sql.specs.Expression.{Expression, constant, unary, binary, function, Subtract, Multiply, SquareRoot, into_cnf, into_cnf_vec}
 use Rattle.sql.specs.Plan.{by_key, scan, lookup, filter, Node, leaf, over}
 use Rattle.sql.specs.Answer.{Answer, done, refused}
 use Rattle.sql.specs.Optimizer
 use Rattle.sql.specs.Room
-use Rattle.sql.specs.Room.{max-cells}
-use Rattle.sql.specs.Samples.{keyed, scanned, one-row, number, equals, plus, A}
+use Rattle.sql.specs.Room.{max_cells}
+use Rattle.sql.specs.Samples.{keyed, scanned, one_row, number, equals, plus, A}
 use Rattle.sheet.specs.Bytes.{bytes, word, half}
-use Rattle.sheet.specs.Parts.{length-ok, edition-ok, parts-ok, table-ok, column-ok, bad-record}
-use Rattle.sheet.specs.Cell.{Cell, cell, cell-ok, bad-cell}
+use Rattle.sheet.specs.Parts.{length_ok, edition_ok, parts_ok, table_ok, column_ok, bad_record}
+use Rattle.sheet.specs.Cell.{Cell, cell, cell_ok, bad_cell}
 use Rattle.sheet.specs.Tree.{read}
 use Rattle.sheet.specs.Check.{Numbers, check, refusal}
-use Rattle.sheet.specs.Write.{cells-bytes}
+use Rattle.sheet.specs.Write.{cells_bytes}
 use Rattle.sheet_laws.specs.Content.{laid}
 
 -- ---- sheets
 
 -- the sheet of these cells alone
 sheet : List Cell → List ℕ
-sheet ks = cells-bytes ks ++ (bytes 0 ++ (bytes 0 ++ (bytes 0 ++ (bytes 1 ++ bytes (16 * length ks + 20)))))
+sheet ks = cells_bytes ks ++ (bytes 0 ++ (bytes 0 ++ (bytes 0 ++ (bytes 1 ++ bytes (16 * length ks + 20)))))
 
 -- a cell of this tag, all else 0; and a Row and Values over one expression
-abbrev of-tag : ℕ → Cell
-of-tag t = laid 0 t 0 0 0 0
+abbrev of_tag : ℕ → Cell
+of_tag t = laid 0 t 0 0 0 0
 
-abbrev number-cell : ℕ → Cell
-number-cell n = laid 0 3 0 n 0 0
+abbrev number_cell : ℕ → Cell
+number_cell n = laid 0 3 0 n 0 0
 
 abbrev one_value : List Cell
 one_value = laid 0 45 0 1 0 0 ∷ laid 0 63 0 1 0 0 ∷ []
@@ -42,22 +42,22 @@ success cells columns = record { number = 0; place = 0; length = 0; cells = cell
 sheets : List (List ℕ × Numbers)
 sheets =
     -- the root of 7 − 2 × 3
-    (sheet (number-cell 7 ∷ number-cell 2 ∷ number-cell 3 ∷ of-tag 18 ∷ of-tag 17 ∷ of-tag 36 ∷ one_value), success 8 1)
+    (sheet (number_cell 7 ∷ number_cell 2 ∷ number_cell 3 ∷ of_tag 18 ∷ of_tag 17 ∷ of_tag 36 ∷ one_value), success 8 1)
     -- a field that isn't 0, and operands that are missing
-    ∷ (sheet (number-cell 7 ∷ number-cell 2 ∷ laid 0 18 0 1 0 0 ∷ one_value), refusal 6 2)
-    ∷ (sheet (number-cell 7 ∷ laid 0 36 1 0 0 0 ∷ one_value), refusal 6 1)
-    ∷ (sheet (number-cell 7 ∷ of-tag 17 ∷ one_value), refusal 8 1)
-    ∷ (sheet (of-tag 36 ∷ one_value), refusal 8 0)
+    ∷ (sheet (number_cell 7 ∷ number_cell 2 ∷ laid 0 18 0 1 0 0 ∷ one_value), refusal 6 2)
+    ∷ (sheet (number_cell 7 ∷ laid 0 36 1 0 0 0 ∷ one_value), refusal 6 1)
+    ∷ (sheet (number_cell 7 ∷ of_tag 17 ∷ one_value), refusal 8 1)
+    ∷ (sheet (of_tag 36 ∷ one_value), refusal 8 0)
     -- Exponentiate, Remainder, Like and Factorial are refused as before
-    ∷ (sheet (number-cell 7 ∷ number-cell 2 ∷ of-tag 19 ∷ one_value), refusal 7 2)
-    ∷ (sheet (number-cell 7 ∷ number-cell 2 ∷ of-tag 20 ∷ one_value), refusal 7 2)
-    ∷ (sheet (number-cell 7 ∷ number-cell 2 ∷ of-tag 21 ∷ one_value), refusal 7 2)
-    ∷ (sheet (number-cell 7 ∷ of-tag 35 ∷ one_value), refusal 7 1)
+    ∷ (sheet (number_cell 7 ∷ number_cell 2 ∷ of_tag 19 ∷ one_value), refusal 7 2)
+    ∷ (sheet (number_cell 7 ∷ number_cell 2 ∷ of_tag 20 ∷ one_value), refusal 7 2)
+    ∷ (sheet (number_cell 7 ∷ number_cell 2 ∷ of_tag 21 ∷ one_value), refusal 7 2)
+    ∷ (sheet (number_cell 7 ∷ of_tag 35 ∷ one_value), refusal 7 1)
     ∷ []
 
-sheets-checked : map (λ e. check e.0) sheets ≡ map (λ e. e.1) sheets
-unfolding sheets sheet success check word half cells-bytes length-ok edition-ok parts-ok bad-record table-ok column-ok bad-cell cell-ok cell read
-sheets-checked = refl
+sheets_checked : map (λ e. check e.0) sheets ≡ map (λ e. e.1) sheets
+unfolding sheets sheet success check word half cells_bytes length_ok edition_ok parts_ok bad_record table_ok column_ok bad_cell cell_ok cell read
+sheets_checked = refl
 
 -- ---- plans
 
@@ -77,17 +77,17 @@ abbrev root : Expression → Expression
 root = unary 0 (function SquareRoot)
 
 abbrev given : Expression → Node
-given e = one-row (e ∷ [])
+given e = one_row (e ∷ [])
 
-abbrev where-so : Expression → Node
-where-so p = over 0 (filter p) scanned
+abbrev where_so : Expression → Node
+where_so p = over 0 (filter p) scanned
 
 -- a plan and what the five passes answer
 plans : List (Node × Answer Node)
 plans =
     -- 7 − 2 is folded, so that the key is looked up; #0 − 2 isn't, and stays a filter
-    (where-so (equals A (minus (number 7) (number 2))), done (leaf 0 (lookup by_key 0 none ((datum (integer (pos 5)), 0) ∷ []))))
-    ∷ (where-so (equals (minus A (number 2)) (number 5)), done (leaf 0 (scan 0 none (some (equals (minus A (number 2)) (number 5))))))
+    (where_so (equals A (minus (number 7) (number 2))), done (leaf 0 (lookup by_key 0 none ((datum (integer (pos 5)), 0) ∷ []))))
+    ∷ (where_so (equals (minus A (number 2)) (number 5)), done (leaf 0 (scan 0 none (some (equals (minus A (number 2)) (number 5))))))
     -- the root of 2 × 1
     ∷ (given (root (times (number 2) (number 1))), done (given (constant 0 (datum (float 0x3FF6A09E667F3BCD)))))
     -- −1 − MIN is the largest Integer, 0 − MIN is none; 3037000499² is an Integer, 3037000500² and MIN × −1 are none. The place is the operator's.
@@ -100,6 +100,6 @@ plans =
     ∷ (given (plus (number 1) (root (whole (negsuc 0)))), refused 13 2)
     ∷ []
 
-plans-answered : map (λ e. Room.optimize max-cells keyed e.0) plans ≡ map (λ e. e.1) plans
-unfolding plans into-cnf into-cnf-vec Optimizer.maybe-push-join Optimizer.index-lookup Room.maybe-push-join Room.maybe-push-filter Room.push-filters-from Room.FilterPushdown Room.index-lookup Room.IndexLookup Room.short-circuit Room.ShortCircuit checked subtract-integers multiply-integers Ieee.of_int Ieee.to_bits Ieee754.read Ieee754.units Ieee754.root-bits
-plans-answered = refl
+plans_answered : map (λ e. Room.optimize max_cells keyed e.0) plans ≡ map (λ e. e.1) plans
+unfolding plans into_cnf into_cnf_vec Optimizer.maybe_push_join Optimizer.index_lookup Room.maybe_push_join Room.maybe_push_filter Room.push_filters_from Room.FilterPushdown Room.index_lookup Room.IndexLookup Room.short_circuit Room.ShortCircuit checked subtract_integers multiply_integers Ieee.of_int Ieee.to_bits Ieee754.read Ieee754.units Ieee754.root_bits
+plans_answered = refl

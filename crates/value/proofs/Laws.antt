@@ -44,11 +44,11 @@ differs (fin s m e) = rw (is_true (eqb (m * up e * down e) (m * up e * down e)) 
 
 -- a number that is one of the keys passes their test
 pub key : (places : List ℕ) (k : ℕ) → OneOf places k → T (has_key places k)
-key places k h = by-test (has_key places k) refl
+key places k h = by_test (has_key places k) refl
   where
-    by-test : (t : Bool) → has_key places k ≡ t → T (has_key places k)
-    by-test true e = subst T (sym e) tt
-    by-test false e = absurd (miss places k (subst (λ u. T (not u)) (sym e) tt) h)
+    by_test : (t : Bool) → has_key places k ≡ t → T (has_key places k)
+    by_test true e = subst T (sym e) tt
+    by_test false e = absurd (miss places k (subst (λ u. T (not u)) (sym e) tt) h)
 
 -- An arm `_` of a match on a Value, or one of several patterns: it is told that the variant's place is one of `places`. To show P there, show it of
 -- each variant whose place is one.
@@ -66,26 +66,26 @@ at_places places P n b i x s (Float y) h = x (key places 3 h) y
 at_places places P n b i x s (String y) h = s (key places 4 h) y
 
 -- the code's test for NaN
-pub nan-test : (x : Ieee.Float) → Ieee.fits binary64 x ≡ true → Ieee.ne x x ≡ Ieee.is_nan (Ieee.of_bits binary64 (Ieee.to_bits binary64 x))
-nan-test x h = differs x ∙ ap Ieee.is_nan (sym (kept x h))
+pub nan_test : (x : Ieee.Float) → Ieee.fits binary64 x ≡ true → Ieee.ne x x ≡ Ieee.is_nan (Ieee.of_bits binary64 (Ieee.to_bits binary64 x))
+nan_test x h = differs x ∙ ap Ieee.is_nan (sym (kept x h))
 
-pub is-nan : (x : Ieee.Float) → Ieee.is_nan x ≡ true → x ≡ nan
+pub is_nan : (x : Ieee.Float) → Ieee.is_nan x ≡ true → x ≡ nan
 unfolding Ieee.is_nan
-is-nan nan h = refl
-is-nan (inf s) h = absurd (false≢true h)
-is-nan (fin s m e) h = absurd (false≢true h)
+is_nan nan h = refl
+is_nan (inf s) h = absurd (false≢true h)
+is_nan (fin s m e) h = absurd (false≢true h)
 
 -- the code's test of a pattern for NaN: without its sign it is above infinity's
 pub nan_pattern : (bits : ℕ) → 0x7FF0000000000000 < bits % 0x8000000000000000 → Ieee.is_nan (Ieee.of_bits binary64 bits) ≡ true
 nan_pattern bits h = sym (nan_bits_is binary64 bits) ∙ (nan_bits_above binary64 bits ∙ lt-ltb 0x7FF0000000000000 (bits % 0x8000000000000000) h)
 
-pub number-pattern : (bits : ℕ) → bits % 0x8000000000000000 ≤ 0x7FF0000000000000 → T (not (Ieee.nan_bits binary64 bits))
-number-pattern bits h = subst (λ b. T (not b)) (sym (nan_bits_above binary64 bits ∙ le-ltb 0x7FF0000000000000 (bits % 0x8000000000000000) h)) tt
+pub number_pattern : (bits : ℕ) → bits % 0x8000000000000000 ≤ 0x7FF0000000000000 → T (not (Ieee.nan_bits binary64 bits))
+number_pattern bits h = subst (λ b. T (not b)) (sym (nan_bits_above binary64 bits ∙ le-ltb 0x7FF0000000000000 (bits % 0x8000000000000000) h)) tt
 
 -- `_` after arms for Null and Boolean: what is left is a datum
-pub data-left : {R : Type 0} (y : R) (f : Defined.Value → R) → ((d : Datum) → y ≡ f (datum d))
+pub data_left : {R : Type 0} (y : R) (f : Defined.Value → R) → ((d : Datum) → y ≡ f (datum d))
     → (text : List ℕ) (v : Value) → OneOf (2 ∷ 3 ∷ 4 ∷ []) (tag_of the_type v) → y ≡ f (meaning text v)
-data-left y f e text = at_places (2 ∷ 3 ∷ 4 ∷ []) (λ v. y ≡ f (meaning text v)) (λ h. absurd h) (λ h b. absurd h) (λ h i. e _) (λ h x. e _) (λ h r. e _)
+data_left y f e text = at_places (2 ∷ 3 ∷ 4 ∷ []) (λ v. y ≡ f (meaning text v)) (λ h. absurd h) (λ h b. absurd h) (λ h i. e _) (λ h x. e _) (λ h r. e _)
 
 -- ---- logic
 
@@ -102,21 +102,21 @@ undecided false true h y = refl
 undecided true false h y = refl
 undecided true true h y = absurd (false≢true (sym h))
 
-pub null-decided : (decisive b : Bool) → beq b decisive ≡ true → ofBool b ≡ table_of decisive Unknown (ofBool b)
-null-decided false false h = refl
-null-decided false true h = absurd (false≢true h)
-null-decided true false h = absurd (false≢true h)
-null-decided true true h = refl
+pub null_decided : (decisive b : Bool) → beq b decisive ≡ true → ofBool b ≡ table_of decisive Unknown (ofBool b)
+null_decided false false h = refl
+null_decided false true h = absurd (false≢true h)
+null_decided true false h = absurd (false≢true h)
+null_decided true true h = refl
 
-pub null-undecided : (decisive b : Bool) → beq b decisive ≡ false → Unknown ≡ table_of decisive Unknown (ofBool b)
-null-undecided false false h = absurd (false≢true (sym h))
-null-undecided false true h = refl
-null-undecided true false h = refl
-null-undecided true true h = absurd (false≢true (sym h))
+pub null_undecided : (decisive b : Bool) → beq b decisive ≡ false → Unknown ≡ table_of decisive Unknown (ofBool b)
+null_undecided false false h = absurd (false≢true (sym h))
+null_undecided false true h = refl
+null_undecided true false h = refl
+null_undecided true true h = absurd (false≢true (sym h))
 
-pub both-null : (decisive : Bool) → Unknown ≡ table_of decisive Unknown Unknown
-both-null false = refl
-both-null true = refl
+pub both_null : (decisive : Bool) → Unknown ≡ table_of decisive Unknown Unknown
+both_null false = refl
+both_null true = refl
 
 -- ---- integers
 

@@ -28,12 +28,12 @@ rounded i = Ieee.of_int binary64 i
 abbrev pub number_of : ℕ → Float
 number_of bits = Ieee.of_bits binary64 bits
 
-unfoldable pub compare-integers : ℤ → ℤ → Finding
-compare-integers a b = order (lt_z a b) (lt_z b a)
+unfoldable pub compare_integers : ℤ → ℤ → Finding
+compare_integers a b = order (lt_z a b) (lt_z b a)
 
 -- as IEEE 754 compares: zeros of both signs are equal, and NaN is unordered with everything, itself too
-unfoldable pub compare-floats : Float → Float → Finding
-compare-floats x y = cond (Ieee.eq x y) Equal (cond (Ieee.lt x y) Less (cond (Ieee.lt y x) Greater Unordered))
+unfoldable pub compare_floats : Float → Float → Finding
+compare_floats x y = cond (Ieee.eq x y) Equal (cond (Ieee.lt x y) Less (cond (Ieee.lt y x) Greater Unordered))
 
 -- the first finding, or where that is Equal the second
 abbrev pub then : Finding → Finding → Finding
@@ -44,23 +44,23 @@ then Unordered f = Unordered
 then NotComparable f = NotComparable
 
 -- Strings go by their first bytes that differ, and one that the other begins with is less.
-unfoldable pub compare-bytes : List ℕ → List ℕ → Finding
-compare-bytes [] [] = Equal
-compare-bytes [] (y ∷ ys) = Less
-compare-bytes (x ∷ xs) [] = Greater
-compare-bytes (x ∷ xs) (y ∷ ys) = then (order (ltb x y) (ltb y x)) (compare-bytes xs ys)
+unfoldable pub compare_bytes : List ℕ → List ℕ → Finding
+compare_bytes [] [] = Equal
+compare_bytes [] (y ∷ ys) = Less
+compare_bytes (x ∷ xs) [] = Greater
+compare_bytes (x ∷ xs) (y ∷ ys) = then (order (ltb x y) (ltb y x)) (compare_bytes xs ys)
 
 -- An Integer met by a Float is rounded first.
-abbrev pub compare-data : Datum → Datum → Finding
-compare-data (integer a) (integer b) = compare-integers a b
-compare-data (integer a) (float b) = compare-floats (rounded a) (number_of b)
-compare-data (integer a) (string r t) = NotComparable
-compare-data (float a) (integer b) = compare-floats (number_of a) (rounded b)
-compare-data (float a) (float b) = compare-floats (number_of a) (number_of b)
-compare-data (float a) (string r t) = NotComparable
-compare-data (string r t) (integer b) = NotComparable
-compare-data (string r t) (float b) = NotComparable
-compare-data (string r t) (string q u) = compare-bytes t u
+abbrev pub compare_data : Datum → Datum → Finding
+compare_data (integer a) (integer b) = compare_integers a b
+compare_data (integer a) (float b) = compare_floats (rounded a) (number_of b)
+compare_data (integer a) (string r t) = NotComparable
+compare_data (float a) (integer b) = compare_floats (number_of a) (rounded b)
+compare_data (float a) (float b) = compare_floats (number_of a) (number_of b)
+compare_data (float a) (string r t) = NotComparable
+compare_data (string r t) (integer b) = NotComparable
+compare_data (string r t) (float b) = NotComparable
+compare_data (string r t) (string q u) = compare_bytes t u
 
 -- The one comparison. Null comes before kinds, and false is less than true.
 abbrev pub compare : Value → Value → Comparison
@@ -76,25 +76,25 @@ compare (truth False) (datum g) = Found NotComparable
 compare (truth True) (datum g) = Found NotComparable
 compare (datum f) (truth False) = Found NotComparable
 compare (datum f) (truth True) = Found NotComparable
-compare (datum f) (datum g) = Found (compare-data f g)
+compare (datum f) (datum g) = Found (compare_data f g)
 
 -- ---- the three operators: each is true at one finding alone, and this is its test
 
-abbrev pub is-less : Comparison → Bool
-is-less Null = false
-is-less (Found Less) = true
-is-less (Found Equal) = false
-is-less (Found Greater) = false
-is-less (Found Unordered) = false
-is-less (Found NotComparable) = false
+abbrev pub is_less : Comparison → Bool
+is_less Null = false
+is_less (Found Less) = true
+is_less (Found Equal) = false
+is_less (Found Greater) = false
+is_less (Found Unordered) = false
+is_less (Found NotComparable) = false
 
-abbrev pub is-equal : Comparison → Bool
-is-equal Null = false
-is-equal (Found Less) = false
-is-equal (Found Equal) = true
-is-equal (Found Greater) = false
-is-equal (Found Unordered) = false
-is-equal (Found NotComparable) = false
+abbrev pub is_equal : Comparison → Bool
+is_equal Null = false
+is_equal (Found Less) = false
+is_equal (Found Equal) = true
+is_equal (Found Greater) = false
+is_equal (Found Unordered) = false
+is_equal (Found NotComparable) = false
 
 abbrev pub is_greater : Comparison → Bool
 is_greater Null = false
@@ -117,10 +117,10 @@ abbrev pub compared : (Comparison → Bool) → Value → Value → Result Value
 compared test v w = answer (compare v w) (test (compare v w))
 
 abbrev pub equal : Value → Value → Result Value
-equal = compared is-equal
+equal = compared is_equal
 
-abbrev pub greater-than : Value → Value → Result Value
-greater-than = compared is_greater
+abbrev pub greater_than : Value → Value → Result Value
+greater_than = compared is_greater
 
-abbrev pub less-than : Value → Value → Result Value
-less-than = compared is-less
+abbrev pub less_than : Value → Value → Result Value
+less_than = compared is_less

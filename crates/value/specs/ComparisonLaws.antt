@@ -4,8 +4,8 @@ use Rattle.std.specs.Prelude.{ℕ, ◌<◌, ◌≡◌, ◌↔◌, ◌⊎◌, ◌
 use Rattle.std.proofs.Math.Option.{Option, none, some}
 use Rattle.std.specs.Int.Signed.{lt_z}
 use Rattle.value.specs.Value.{False, Unknown, True, integer, float, string, Value, truth, datum, null, boolean, ok}
-use Rattle.value.specs.Comparison.{Finding, Comparison, Null, Found, Less, Equal, Greater, Unordered, NotComparable, compare, equal, greater-than, less-than}
-use Rattle.value.specs.Undefined.{is-nan}
+use Rattle.value.specs.Comparison.{Finding, Comparison, Null, Found, Less, Equal, Greater, Unordered, NotComparable, compare, equal, greater_than, less_than}
+use Rattle.value.specs.Undefined.{is_nan}
 
 -- with the sides swapped: less and greater swap, and nothing else
 abbrev pub turned : Finding → Finding
@@ -39,22 +39,22 @@ pub data Before (t u : List ℕ) : Type 0 where
 
 -- when a comparison's finding is Less, Equal and Greater
 pub record Finds (less equal greater : Type 0) (c : Comparison) : Type 0 where
-  pub finds-less : (c ≡ Found Less) ↔ less
-  pub finds-equal : (c ≡ Found Equal) ↔ equal
-  pub finds-greater : (c ≡ Found Greater) ↔ greater
+  pub finds_less : (c ≡ Found Less) ↔ less
+  pub finds_equal : (c ≡ Found Equal) ↔ equal
+  pub finds_greater : (c ≡ Found Greater) ↔ greater
 
-pub record Comparison-laws : Type 0 where
+pub record ComparisonLaws : Type 0 where
   -- each operator is true at its own finding alone
-  pub own-finding : (v w : Value)
-      → Finds (less-than v w ≡ ok (boolean true)) (equal v w ≡ ok (boolean true)) (greater-than v w ≡ ok (boolean true)) (compare v w)
-  pub swapped-sides : (v w : Value) → compare w v ≡ swapped (compare v w)
+  pub own_finding : (v w : Value)
+      → Finds (less_than v w ≡ ok (boolean true)) (equal v w ≡ ok (boolean true)) (greater_than v w ≡ ok (boolean true)) (compare v w)
+  pub swapped_sides : (v w : Value) → compare w v ≡ swapped (compare v w)
   -- Null, whatever the other value's kind
-  pub null-apart : (v w : Value) → (compare v w ≡ Null) ↔ ((v ≡ null) ⊎ (w ≡ null))
+  pub null_apart : (v w : Value) → (compare v w ≡ Null) ↔ ((v ≡ null) ⊎ (w ≡ null))
   -- kinds of two families, a Float that is NaN like any other
-  pub not-comparable : (v w : Value) (f g : Family) → family v ≡ some f → family w ≡ some g → (compare v w ≡ Found NotComparable) ↔ (f ≢ g)
+  pub not_comparable : (v w : Value) (f g : Family) → family v ≡ some f → family w ≡ some g → (compare v w ≡ Found NotComparable) ↔ (f ≢ g)
   -- two numbers, one of them NaN
   pub unordered : (v w : Value) → (compare v w ≡ Found Unordered)
-      ↔ ((family v ≡ some numbers) × (family w ≡ some numbers) × ((is-nan v ≡ ok (boolean true)) ⊎ (is-nan w ≡ ok (boolean true))))
+      ↔ ((family v ≡ some numbers) × (family w ≡ some numbers) × ((is_nan v ≡ ok (boolean true)) ⊎ (is_nan w ≡ ok (boolean true))))
   -- false before true, Integers in their exact order, Strings in the order of their bytes
   pub booleans : (a b : Bool) → Finds ((a ≡ false) × (b ≡ true)) (a ≡ b) ((a ≡ true) × (b ≡ false)) (compare (boolean a) (boolean b))
   pub integers : (a b : ℤ) → Finds (lt_z a b ≡ true) (a ≡ b) (lt_z b a ≡ true) (compare (datum (integer a)) (datum (integer b)))

@@ -21,9 +21,9 @@ or Unknown Unknown = Unknown
 or Unknown True = True
 
 -- NOT of a value. Its operand must be a Boolean or Null.
-abbrev pub logical-not : Value → Result Value
-logical-not (truth a) = ok (truth (not a))
-logical-not (datum f) = err mismatch
+abbrev pub logical_not : Value → Result Value
+logical_not (truth a) = ok (truth (not a))
+logical_not (datum f) = err mismatch
 
 -- AND or OR, whichever `table` is, of two values. Both operands must be Booleans or Null: also of false AND 1 the Rust says that it can't.
 abbrev pub logical : (Truth → Truth → Truth) → Value → Value → Result Value
@@ -31,8 +31,8 @@ logical table (truth a) (truth b) = ok (truth (table a b))
 logical table (truth a) (datum g) = err mismatch
 logical table (datum f) w = err mismatch
 
-abbrev pub logical-and : Value → Value → Result Value
-logical-and = logical and
+abbrev pub logical_and : Value → Value → Result Value
+logical_and = logical and
 
-abbrev pub logical-or : Value → Value → Result Value
-logical-or = logical or
+abbrev pub logical_or : Value → Value → Result Value
+logical_or = logical or

@@ -1,9 +1,9 @@
--- What the code's values and answers stand for. Contracts say that what a result stands for equals the definition at what the arguments stand for.
+-- What the code's values and answers stand for. Contracts say that what a outcome_of stands for equals the definition at what the arguments stand for.
 use Rattle.std.specs.Prelude.{ℕ, ◌-◌, ◌/◌, ◌%◌, List, Bool, true, false, cond, ltb, ℤ, pos, negsuc, take, drop}
 use Rattle.std.specs.Float.Ieee as Ieee
 use Rattle.std.specs.Float.{binary64}
 use Rattle.value.specs.Value as Defined
-use Rattle.value.specs.Value.{Truth, integer, float, string, datum, null, boolean, ok, err, overflow, division-by-zero, mismatch}
+use Rattle.value.specs.Value.{Truth, integer, float, string, datum, null, boolean, ok, err, overflow, division_by_zero, mismatch}
 use Rattle.value.specs.Logic.{and, or}
 use Rattle.value.specs.declared.Value.{Value}
 use Rattle.value.specs.declared.Value.TheVariants as Value
@@ -17,12 +17,12 @@ use Rattle.value.specs.declared.Result.TheVariants as Result
 abbrev pub offset : ℕ → ℕ
 offset reference = reference % 65536
 
-abbrev pub text-length : ℕ → ℕ
-text-length reference = reference / 65536
+abbrev pub text_length : ℕ → ℕ
+text_length reference = reference / 65536
 
 -- the bytes of a text that a reference refers to
-abbrev pub bytes-at : List ℕ → ℕ → List ℕ
-bytes-at text reference = take (text-length reference) (drop (offset reference) text)
+abbrev pub bytes_at : List ℕ → ℕ → List ℕ
+bytes_at text reference = take (text_length reference) (drop (offset reference) text)
 
 -- ---- values and answers
 
@@ -32,25 +32,25 @@ meaning text Value.Null = null
 meaning text (Value.Boolean b) = boolean b
 meaning text (Value.Integer i) = datum (integer i)
 meaning text (Value.Float x) = datum (float (Ieee.to_bits binary64 x))
-meaning text (Value.String r) = datum (string r (bytes-at text r))
+meaning text (Value.String r) = datum (string r (bytes_at text r))
 
 abbrev pub error : Error → Defined.Error
 error Error.Overflow = overflow
-error Error.DivisionByZero = division-by-zero
+error Error.DivisionByZero = division_by_zero
 error Error.Mismatch = mismatch
 
-abbrev pub result : List ℕ → Result → Defined.Result Defined.Value
-result text (Result.Ok v) = ok (meaning text v)
-result text (Result.Err e) = err (error e)
+abbrev pub outcome_of : List ℕ → Result → Defined.Result Defined.Value
+outcome_of text (Result.Ok v) = ok (meaning text v)
+outcome_of text (Result.Err e) = err (error e)
 
 -- ---- the 64 bits of an Integer, in two's complement
 
-unfoldable pub integer-bits : ℤ → ℕ
-integer-bits (pos n) = n
-integer-bits (negsuc n) = 18446744073709551615 - n
+unfoldable pub integer_bits : ℤ → ℕ
+integer_bits (pos n) = n
+integer_bits (negsuc n) = 18446744073709551615 - n
 
-unfoldable pub integer-of-bits : ℕ → ℤ
-integer-of-bits n = cond (ltb n 9223372036854775808) (pos n) (negsuc (18446744073709551615 - n))
+unfoldable pub integer_of_bits : ℕ → ℤ
+integer_of_bits n = cond (ltb n 9223372036854775808) (pos n) (negsuc (18446744073709551615 - n))
 
 -- ---- logic
 

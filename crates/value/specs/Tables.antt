@@ -14,16 +14,16 @@ table f = line (f True) ∷ line (f False) ∷ line (f Unknown) ∷ []
 pub not_table : line not ≡ (False ∷ True ∷ Unknown ∷ [])
 not_table = refl
 
-pub and-table : table and ≡
+pub and_table : table and ≡
     ((True ∷ False ∷ Unknown ∷ [])
     ∷ (False ∷ False ∷ False ∷ [])
     ∷ (Unknown ∷ False ∷ Unknown ∷ [])
     ∷ [])
-and-table = refl
+and_table = refl
 
-pub or-table : table or ≡
+pub or_table : table or ≡
     ((True ∷ True ∷ True ∷ [])
     ∷ (True ∷ False ∷ Unknown ∷ [])
     ∷ (True ∷ Unknown ∷ Unknown ∷ [])
     ∷ [])
-or-table = refl
+or_table = refl

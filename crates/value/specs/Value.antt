@@ -33,11 +33,11 @@ boolean b = truth (ofBool b)
 
 -- Why an operator has no value. `number` is document 01's.
 pub data Error : Type 0 where
-  overflow division-by-zero mismatch : Error
+  overflow division_by_zero mismatch : Error
 
 abbrev pub number : Error → ℕ
 number overflow = 11
-number division-by-zero = 12
+number division_by_zero = 12
 number mismatch = 13
 
 -- The Rust's Result.

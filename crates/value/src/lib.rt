@@ -2,9 +2,9 @@
 ghost use Rattle.std.specs.Prelude.{ℕ, ◌≡◌, List};
 ghost use Rattle.std.specs.Float.Ieee as Ieee;
 ghost use Rattle.std.specs.Float.{binary64};
-ghost use Rattle.value.specs.Meaning.{meaning, error, result, integer-bits, integer-of-bits};
+ghost use Rattle.value.specs.Meaning.{meaning, error, outcome_of, integer_bits, integer_of_bits};
 ghost use Rattle.value.specs.Value.{number};
-ghost use Rattle.value.specs.Undefined.{is-undefined, is-null, is-nan};
+ghost use Rattle.value.specs.Undefined.{is_undefined, is_null, is_nan};
 
 pub mod logic;
 
@@ -39,7 +39,7 @@ pub enum Result {
 
 // The number of the refusal that an error gives.
 pub fn number(e: Error) -> u32
-    ensures* { λ r. ⌜ r ≡ number (error e) ⌝ }
+    ensures { result ≡ number (error e) }
 {
     match e {
         Error::Overflow => 11,
@@ -50,7 +50,7 @@ pub fn number(e: Error) -> u32
 
 // A Float's 64-bit pattern; a NaN's is the one that a sheet allows, since compiled code may hold any.
 pub fn float_bits(x: f64) -> u64
-    ensures* { λ r. ⌜ r ≡ Ieee.to_bits binary64 x ⌝ }
+    ensures { result ≡ Ieee.to_bits binary64 x }
 {
     if x != x {
         return 0x7FF8000000000000;
@@ -60,7 +60,7 @@ pub fn float_bits(x: f64) -> u64
 
 // The Float of a 64-bit pattern; each NaN's pattern gives NaN.
 pub fn float_of_bits(bits: u64) -> f64
-    ensures* { λ r. ⌜ r ≡ Ieee.of_bits binary64 bits ⌝ }
+    ensures { result ≡ Ieee.of_bits binary64 bits }
 {
     if 0x7FF0000000000000 < bits % 0x8000000000000000 {
         return 0.0 / 0.0;
@@ -70,7 +70,7 @@ pub fn float_of_bits(bits: u64) -> f64
 
 // An Integer's 64 bits, in two's complement.
 pub fn integer_bits(i: i64) -> u64
-    ensures* { λ r. ⌜ r ≡ integer-bits i ⌝ }
+    ensures { result ≡ integer_bits i }
 {
     if 0 <= i {
         return i as u64;
@@ -80,7 +80,7 @@ pub fn integer_bits(i: i64) -> u64
 
 // The Integer of 64 bits.
 pub fn integer_of_bits(bits: u64) -> i64
-    ensures* { λ r. ⌜ r ≡ integer-of-bits bits ⌝ }
+    ensures { result ≡ integer_of_bits bits }
 {
     if bits < 0x8000000000000000 {
         return bits as i64;
@@ -90,7 +90,7 @@ pub fn integer_of_bits(bits: u64) -> i64
 
 // Whether a value is undefined: Null or NaN.
 pub fn is_undefined(v: Value) -> bool
-    ensures* { λ r. ⌜ ((text : List ℕ) → r ≡ is-undefined (meaning text v)) ⌝ }
+    ensures { (text : List ℕ) → result ≡ is_undefined (meaning text v) }
 {
     match v {
         Value::Null => true,
@@ -101,7 +101,7 @@ pub fn is_undefined(v: Value) -> bool
 
 // IS NULL.
 pub fn is_null(v: Value) -> Result
-    ensures* { λ r. ⌜ ((text : List ℕ) → result text r ≡ is-null (meaning text v)) ⌝ }
+    ensures { (text : List ℕ) → outcome_of text result ≡ is_null (meaning text v) }
 {
     match v {
         Value::Null => Result::Ok(Value::Boolean(true)),
@@ -111,7 +111,7 @@ pub fn is_null(v: Value) -> Result
 
 // IS NAN, of a Float or Null.
 pub fn is_nan(v: Value) -> Result
-    ensures* { λ r. ⌜ ((text : List ℕ) → result text r ≡ is-nan (meaning text v)) ⌝ }
+    ensures { (text : List ℕ) → outcome_of text result ≡ is_nan (meaning text v) }
 {
     match v {
         Value::Null => Result::Ok(Value::Null),

@@ -1,13 +1,13 @@
 // Logical AND, OR and NOT. Operands must be Booleans or Null.
 ghost use Rattle.std.specs.Prelude.{ℕ, ◌≡◌, List};
-ghost use Rattle.value.specs.Meaning.{meaning, result, table_of};
+ghost use Rattle.value.specs.Meaning.{meaning, outcome_of, table_of};
 ghost use Rattle.value.specs.Value.{boolean, null};
-ghost use Rattle.value.specs.Logic.{logical, logical-not, logical-and, logical-or};
+ghost use Rattle.value.specs.Logic.{logical, logical_not, logical_and, logical_or};
 
 use crate::{Error, Result, Value};
 
 pub fn not(v: Value) -> Result
-    ensures* { λ r. ⌜ ((text : List ℕ) → result text r ≡ logical-not (meaning text v)) ⌝ }
+    ensures { (text : List ℕ) → outcome_of text result ≡ logical_not (meaning text v) }
 {
     match v {
         Value::Boolean(b) => Result::Ok(Value::Boolean(!b)),
@@ -17,20 +17,20 @@ pub fn not(v: Value) -> Result
 }
 
 pub fn and(lhs: Value, rhs: Value) -> Result
-    ensures* { λ r. ⌜ ((text : List ℕ) → result text r ≡ logical-and (meaning text lhs) (meaning text rhs)) ⌝ }
+    ensures { (text : List ℕ) → outcome_of text result ≡ logical_and (meaning text lhs) (meaning text rhs) }
 {
     decided_by(false, lhs, rhs)
 }
 
 pub fn or(lhs: Value, rhs: Value) -> Result
-    ensures* { λ r. ⌜ ((text : List ℕ) → result text r ≡ logical-or (meaning text lhs) (meaning text rhs)) ⌝ }
+    ensures { (text : List ℕ) → outcome_of text result ≡ logical_or (meaning text lhs) (meaning text rhs) }
 {
     decided_by(true, lhs, rhs)
 }
 
 // AND is decided by a side that is false, OR by one that is true.
 fn decided_by(decisive: bool, lhs: Value, rhs: Value) -> Result
-    ensures* { λ r. ⌜ ((text : List ℕ) → result text r ≡ logical (table_of decisive) (meaning text lhs) (meaning text rhs)) ⌝ }
+    ensures { (text : List ℕ) → outcome_of text result ≡ logical (table_of decisive) (meaning text lhs) (meaning text rhs) }
 {
     match lhs {
         Value::Boolean(a) => boolean_and_value(decisive, a, rhs),
@@ -40,7 +40,7 @@ fn decided_by(decisive: bool, lhs: Value, rhs: Value) -> Result
 }
 
 fn boolean_and_value(decisive: bool, a: bool, rhs: Value) -> Result
-    ensures* { λ r. ⌜ ((text : List ℕ) → result text r ≡ logical (table_of decisive) (boolean a) (meaning text rhs)) ⌝ }
+    ensures { (text : List ℕ) → outcome_of text result ≡ logical (table_of decisive) (boolean a) (meaning text rhs) }
 {
     match rhs {
         Value::Boolean(b) => {
@@ -62,7 +62,7 @@ fn boolean_and_value(decisive: bool, a: bool, rhs: Value) -> Result
 }
 
 fn null_and_value(decisive: bool, rhs: Value) -> Result
-    ensures* { λ r. ⌜ ((text : List ℕ) → result text r ≡ logical (table_of decisive) null (meaning text rhs)) ⌝ }
+    ensures { (text : List ℕ) → outcome_of text result ≡ logical (table_of decisive) null (meaning text rhs) }
 {
     match rhs {
         Value::Boolean(b) => {

@@ -5,11 +5,11 @@ use Rattle.sql.specs.Expression.{Expression}
 use Rattle.sql.specs.Plan.{Node}
 use Rattle.cells.specs.Cells.{Part}
 use Rattle.cells.specs.Room.{Wrote}
-use Rattle.words.specs.Words.{expression-words, node-words}
+use Rattle.words.specs.Words.{expression_words, node_words}
 
 -- e stands in s from word lo up to hi.
 pub record ExpressionHere (s : List ℕ) (lo hi : ℕ) (e : Expression) : Type 0 where
-  pub part : Part s lo hi (expression-words e)
+  pub part : Part s lo hi (expression_words e)
 
 -- Some expression stands there.
 pub record ExpressionAt (s : List ℕ) (lo hi : ℕ) : Type 0 where
@@ -18,14 +18,14 @@ pub record ExpressionAt (s : List ℕ) (lo hi : ℕ) : Type 0 where
 
 -- f of the expression from lo up to hi is appended to the first `at` words of d, or has no room.
 abbrev pub Maps : (Expression → Expression) → List ℕ → ℕ → ℕ → List ℕ → ℕ → ℕ → List ℕ → Type 0
-Maps f s lo hi d at n d' = (e : Expression) → ExpressionHere s lo hi e → Wrote d at (expression-words (f e)) n d'
+Maps f s lo hi d at n d' = (e : Expression) → ExpressionHere s lo hi e → Wrote d at (expression_words (f e)) n d'
 
 pub record NodeHere (s : List ℕ) (lo hi : ℕ) (p : Node) : Type 0 where
-  pub part : Part s lo hi (node-words p)
+  pub part : Part s lo hi (node_words p)
 
 pub record NodeAt (s : List ℕ) (lo hi : ℕ) : Type 0 where
   pub p : Node
   pub here : NodeHere s lo hi p
 
 abbrev pub MapsNode : (Node → Node) → List ℕ → ℕ → ℕ → List ℕ → ℕ → ℕ → List ℕ → Type 0
-MapsNode f s lo hi d at n d' = (p : Node) → NodeHere s lo hi p → Wrote d at (node-words (f p)) n d'
+MapsNode f s lo hi d at n d' = (p : Node) → NodeHere s lo hi p → Wrote d at (node_words (f p)) n d'

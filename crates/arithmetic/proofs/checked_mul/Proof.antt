@@ -4,7 +4,7 @@ use lib.Ieee.{binary64}
 use lib.Ieee as Ieee
 use borrow.Author.Rules.{rules}
 use Rattle.value.proofs.Laws.{read_back}
-use Rattle.value.specs.Arithmetic.{multiply-integers}
+use Rattle.value.specs.Arithmetic.{multiply_integers}
 use Rattle.arithmetic.proofs.checked_mul.Statement.{statement}
 use Rattle.arithmetic.proofs.checked_mul.Tie as tie
 
@@ -29,17 +29,17 @@ enum-told-2 c = search rules
 returns : tie.Need-returns
 returns c text =
     c.multiply-integers.ensures text
-    ∙ (ap₂ multiply-integers (read_back c.before.before.a.given.0.0 c.before.known-told.given.0.1) (read_back c.before.before.a.given.0.1.0 c.before.known-told.given.1.0.1)
-    ∙ (rw c.before.before.a.given.1 at (c.before.before.before.before.operands_of.ensures text multiply-integers (Ieee.mul binary64))))
+    ∙ (ap₂ multiply_integers (read_back c.before.before.a.given.0.0 c.before.known-told.given.0.1) (read_back c.before.before.a.given.0.1.0 c.before.known-told.given.1.0.1)
+    ∙ (rw c.before.before.a.given.1 at (c.before.before.before.before.operands_of.ensures text multiply_integers (Ieee.mul binary64))))
 
-returns-2 : tie.Need-returns-2
-returns-2 c text = rw c.before.x.given.1 at (c.before.before.before.operands_of.ensures text multiply-integers (Ieee.mul binary64))
+returns_2 : tie.Need-returns-2
+returns_2 c text = rw c.before.x.given.1 at (c.before.before.before.operands_of.ensures text multiply_integers (Ieee.mul binary64))
 
-returns-3 : tie.Need-returns-3
-returns-3 c text = rw c.enum_told.given.1 at (c.before.before.operands_of.ensures text multiply-integers (Ieee.mul binary64))
+returns_3 : tie.Need-returns-3
+returns_3 c text = rw c.enum_told.given.1 at (c.before.before.operands_of.ensures text multiply_integers (Ieee.mul binary64))
 
-returns-4 : tie.Need-returns-4
-returns-4 c text = rw c.enum-told2.given.1 at (c.before.before.operands_of.ensures text multiply-integers (Ieee.mul binary64))
+returns_4 : tie.Need-returns-4
+returns_4 c text = rw c.enum-told2.given.1 at (c.before.before.operands_of.ensures text multiply_integers (Ieee.mul binary64))
 
 pub checked-mul-spec : {M : Type 1} → statement M
 checked-mul-spec =
@@ -52,6 +52,6 @@ checked-mul-spec =
     enum_told
     enum-told-2
     returns
-    returns-2
-    returns-3
-    returns-4)
+    returns_2
+    returns_3
+    returns_4)

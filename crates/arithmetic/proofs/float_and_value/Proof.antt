@@ -4,7 +4,7 @@ use lib.Ieee.{binary64}
 use lib.Ieee as Ieee
 use borrow.Author.Rules.{rules}
 use Rattle.value.proofs.Laws.{kept, read_back}
-use Rattle.arithmetic.proofs.Laws.{boolean-right}
+use Rattle.arithmetic.proofs.Laws.{boolean_right}
 use Rattle.value.specs.Arithmetic.{written}
 use Rattle.value.specs.Value.{float}
 use Rattle.arithmetic.proofs.float_and_value.Statement.{statement}
@@ -35,18 +35,18 @@ returns c text whole double =
     (sym (kept c.before.before.before.before.args.x c.before.before.before.before.well-formed.0.1))
     (rw (read_back c.before.before.rhs.given.0.0 c.before.known-told.given.0.1) at c.nearest-f64.ensures.of-int))
 
-returns-2 : tie.Need-returns-2
-returns-2 c text whole double =
+returns_2 : tie.Need-returns-2
+returns_2 c text whole double =
     rw c.before.rhs2.given.1
     (ap₂ (λ x y. written (double x y))
     (sym (kept c.before.before.before.args.x c.before.before.before.well-formed.0.1))
     (sym (kept c.before.rhs2.given.0.0 c.known-told2.given.0.1)))
 
-returns-3 : tie.Need-returns-3
-returns-3 c text whole double = rw c.enum_told.given.1
+returns_3 : tie.Need-returns-3
+returns_3 c text whole double = rw c.enum_told.given.1
 
-returns-4 : tie.Need-returns-4
-returns-4 c text whole double = rw c.enum-told2.given.1 (boolean-right whole double (float (Ieee.to_bits binary64 c.before.before.args.x)) c.enum-told2.given.0.0)
+returns_4 : tie.Need-returns-4
+returns_4 c text whole double = rw c.enum-told2.given.1 (boolean_right whole double (float (Ieee.to_bits binary64 c.before.before.args.x)) c.enum-told2.given.0.0)
 
 returns-5 : tie.Need-returns-5
 returns-5 c text whole double = rw c.enum-told3.given.1
@@ -62,7 +62,7 @@ float-and-value-spec =
     enum-told-2
     enum-told-3
     returns
-    returns-2
-    returns-3
-    returns-4
+    returns_2
+    returns_3
+    returns_4
     returns-5)

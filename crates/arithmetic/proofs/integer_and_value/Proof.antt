@@ -4,7 +4,7 @@ use mir.ValLaws.{to_z-of_z}
 use mir.Syntax.{w64}
 use borrow.Author.Rules.{rules}
 use Rattle.value.proofs.Laws.{kept, read_back}
-use Rattle.arithmetic.proofs.Laws.{boolean-right}
+use Rattle.arithmetic.proofs.Laws.{boolean_right}
 use Rattle.value.specs.Arithmetic.{written}
 use Rattle.value.specs.Value.{integer}
 use Rattle.arithmetic.proofs.integer_and_value.Statement.{statement}
@@ -31,18 +31,18 @@ enum-told-3 c = search rules
 returns : tie.Need-returns
 returns c text whole double = rw c.before.rhs.given.1 (ap₂ whole (to_z-of_z w64 c.before.before.before.args.a c.before.before.before.ranges.a) (read_back c.before.rhs.given.0.0 c.known-told.given.0.1))
 
-returns-2 : tie.Need-returns-2
-returns-2 c text whole double =
+returns_2 : tie.Need-returns-2
+returns_2 c text whole double =
     rw c.before.before.rhs2.given.1
     (ap₂ (λ x y. written (double x y))
     (rw (to_z-of_z w64 c.before.before.before.before.args.a c.before.before.before.before.ranges.a) at c.nearest-f64.ensures.of-int)
     (sym (kept c.before.before.rhs2.given.0.0 c.before.known-told2.given.0.1)))
 
-returns-3 : tie.Need-returns-3
-returns-3 c text whole double = rw c.enum_told.given.1
+returns_3 : tie.Need-returns-3
+returns_3 c text whole double = rw c.enum_told.given.1
 
-returns-4 : tie.Need-returns-4
-returns-4 c text whole double = rw c.enum-told2.given.1 (boolean-right whole double (integer c.before.before.args.a) c.enum-told2.given.0.0)
+returns_4 : tie.Need-returns-4
+returns_4 c text whole double = rw c.enum-told2.given.1 (boolean_right whole double (integer c.before.before.args.a) c.enum-told2.given.0.0)
 
 returns-5 : tie.Need-returns-5
 returns-5 c text whole double = rw c.enum-told3.given.1
@@ -58,7 +58,7 @@ integer-and-value-spec =
     enum-told-2
     enum-told-3
     returns
-    returns-2
-    returns-3
-    returns-4
+    returns_2
+    returns_3
+    returns_4
     returns-5)

@@ -3,7 +3,7 @@ use mathlib.Core.Path.{sym, ap}
 use lib.Ieee as Ieee
 use borrow.Author.Rules.{rules}
 use Rattle.value.proofs.Laws.{kept, read_back}
-use Rattle.arithmetic.proofs.Laws.{of-boolean}
+use Rattle.arithmetic.proofs.Laws.{of_boolean}
 use Rattle.value.specs.Arithmetic.{written}
 use Rattle.arithmetic.proofs.negate.Statement.{statement}
 use Rattle.arithmetic.proofs.negate.Tie as tie
@@ -29,14 +29,14 @@ enum-told-3 c = search rules
 returns : tie.Need-returns
 returns c text = rw c.before.before.v.given.1 (rw (read_back c.before.before.v.given.0.0 c.before.known-told.given.0.1) at (c.negate-integer.ensures text))
 
-returns-2 : tie.Need-returns-2
-returns-2 c text = rw c.before.v2.given.1 (ap (λ x. written (Ieee.neg x)) (sym (kept c.before.v2.given.0.0 c.known-told2.given.0.1)))
+returns_2 : tie.Need-returns-2
+returns_2 c text = rw c.before.v2.given.1 (ap (λ x. written (Ieee.neg x)) (sym (kept c.before.v2.given.0.0 c.known-told2.given.0.1)))
 
-returns-3 : tie.Need-returns-3
-returns-3 c text = rw c.enum_told.given.1
+returns_3 : tie.Need-returns-3
+returns_3 c text = rw c.enum_told.given.1
 
-returns-4 : tie.Need-returns-4
-returns-4 c text = rw c.enum-told2.given.1 (of-boolean c.enum-told2.given.0.0)
+returns_4 : tie.Need-returns-4
+returns_4 c text = rw c.enum-told2.given.1 (of_boolean c.enum-told2.given.0.0)
 
 returns-5 : tie.Need-returns-5
 returns-5 c text = rw c.enum-told3.given.1
@@ -52,7 +52,7 @@ negate-spec =
     enum-told-2
     enum-told-3
     returns
-    returns-2
-    returns-3
-    returns-4
+    returns_2
+    returns_3
+    returns_4
     returns-5)

@@ -1,6 +1,6 @@
 -- `arithmetic::null_and_value` meets its contract.
 use borrow.Author.Rules.{rules}
-use Rattle.arithmetic.proofs.Laws.{null-boolean}
+use Rattle.arithmetic.proofs.Laws.{null_boolean}
 use Rattle.arithmetic.proofs.null_and_value.Statement.{statement}
 use Rattle.arithmetic.proofs.null_and_value.Tie as tie
 
@@ -22,14 +22,14 @@ enum-told-5 c = search rules
 returns : tie.Need-returns
 returns c text whole double = rw c.enum_told.given.1
 
-returns-2 : tie.Need-returns-2
-returns-2 c text whole double = rw c.enum-told2.given.1
+returns_2 : tie.Need-returns-2
+returns_2 c text whole double = rw c.enum-told2.given.1
 
-returns-3 : tie.Need-returns-3
-returns-3 c text whole double = rw c.enum-told3.given.1
+returns_3 : tie.Need-returns-3
+returns_3 c text whole double = rw c.enum-told3.given.1
 
-returns-4 : tie.Need-returns-4
-returns-4 c text whole double = rw c.enum-told4.given.1 (null-boolean whole double c.enum-told4.given.0.0)
+returns_4 : tie.Need-returns-4
+returns_4 c text whole double = rw c.enum-told4.given.1 (null_boolean whole double c.enum-told4.given.0.0)
 
 returns-5 : tie.Need-returns-5
 returns-5 c text whole double = rw c.enum-told5.given.1
@@ -44,7 +44,7 @@ null-and-value-spec =
     enum-told-4
     enum-told-5
     returns
-    returns-2
-    returns-3
-    returns-4
+    returns_2
+    returns_3
+    returns_4
     returns-5)

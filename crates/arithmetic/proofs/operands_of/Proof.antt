@@ -4,8 +4,8 @@ use borrow.Author.Rules.{rules}
 use Rattle.value.specs.Arithmetic.{arithmetic}
 use Rattle.value.specs.Value.{datum, integer}
 use Rattle.value.proofs.Laws.{read_back}
-use Rattle.arithmetic.proofs.Laws.{boolean-left, string-left}
-use Rattle.value.specs.Meaning.{meaning, bytes-at}
+use Rattle.arithmetic.proofs.Laws.{boolean_left, string_left}
+use Rattle.value.specs.Meaning.{meaning, bytes_at}
 use Rattle.arithmetic.proofs.operands_of.Statement.{statement}
 use Rattle.arithmetic.proofs.operands_of.Tie as tie
 
@@ -39,17 +39,17 @@ returns c text whole double =
     (c.integer-and-value.ensures text whole double
     ∙ ap (λ i. arithmetic whole double (datum (integer i)) (meaning text c.before.before.before.before.args.rhs)) (read_back c.before.before.lhs.given.0.0 c.before.known-told.given.0.1))
 
-returns-2 : tie.Need-returns-2
-returns-2 c text whole double = rw c.before.before.lhs2.given.1 (c.float-and-value.ensures text whole double)
+returns_2 : tie.Need-returns-2
+returns_2 c text whole double = rw c.before.before.lhs2.given.1 (c.float-and-value.ensures text whole double)
 
-returns-3 : tie.Need-returns-3
-returns-3 c text whole double = rw c.before.enum_told.given.1 (c.null-and-value.ensures text whole double)
+returns_3 : tie.Need-returns-3
+returns_3 c text whole double = rw c.before.enum_told.given.1 (c.null-and-value.ensures text whole double)
 
-returns-4 : tie.Need-returns-4
-returns-4 c text whole double = rw c.enum-told2.given.1 (boolean-left whole double c.enum-told2.given.0.0 (meaning text c.before.before.args.rhs))
+returns_4 : tie.Need-returns-4
+returns_4 c text whole double = rw c.enum-told2.given.1 (boolean_left whole double c.enum-told2.given.0.0 (meaning text c.before.before.args.rhs))
 
 returns-5 : tie.Need-returns-5
-returns-5 c text whole double = rw c.enum-told3.given.1 (string-left whole double c.enum-told3.given.0.0 (bytes-at text c.enum-told3.given.0.0) (meaning text c.before.before.args.rhs))
+returns-5 c text whole double = rw c.enum-told3.given.1 (string_left whole double c.enum-told3.given.0.0 (bytes_at text c.enum-told3.given.0.0) (meaning text c.before.before.args.rhs))
 
 pub operands-of-spec : {M : Type 1} → statement M
 operands-of-spec =
@@ -64,7 +64,7 @@ operands-of-spec =
     enum-told-2
     enum-told-3
     returns
-    returns-2
-    returns-3
-    returns-4
+    returns_2
+    returns_3
+    returns_4
     returns-5)

@@ -3,7 +3,7 @@ use mathlib.Core.Path.{ap, ◌∙◌}
 use Prim.Native.Nat.{ℕ}
 use lib.Ieee as Ieee
 use lib.Ieee.{binary64}
-use Rattle.ieee754.specs.Ieee754.{square-root-bits}
+use Rattle.ieee754.specs.Ieee754.{square_root_bits}
 use Rattle.ieee754.proofs.SquareRoot.{root_kept}
 use borrow.Author.Rules.{rules}
 use Rattle.arithmetic.proofs.root_of_float.Statement.{statement}
@@ -21,7 +21,7 @@ float-of-bits-requires c κs = search rules
 returns : tie.Need-returns
 returns c =
     ap (Ieee.to_bits binary64) c.float-of-bits.ensures
-    ∙ ap (λ (p : ℕ). Ieee.to_bits binary64 (Ieee.of_bits binary64 p)) (c.before.square-root-bits.ensures ∙ ap square-root-bits c.before.before.float-bits.ensures)
+    ∙ ap (λ (p : ℕ). Ieee.to_bits binary64 (Ieee.of_bits binary64 p)) (c.before.square-root-bits.ensures ∙ ap square_root_bits c.before.before.float-bits.ensures)
     ∙ root_kept (Ieee.to_bits binary64 c.before.before.before.args.x)
 
 pub root-of-float-spec : {M : Type 1} → statement M

@@ -14,20 +14,20 @@ returns c = search rules
 children-to-56-requires : tie.Need-children-to-56-requires
 children-to-56-requires c κs = search rules
 
-returns-2 : tie.Need-returns-2
-returns-2 c = search rules
+returns_2 : tie.Need-returns-2
+returns_2 c = search rules
 
 children-from-57-requires : tie.Need-children-from-57-requires
 children-from-57-requires c κs = search rules
 
-returns-3 : tie.Need-returns-3
-returns-3 c = search rules
+returns_3 : tie.Need-returns-3
+returns_3 c = search rules
 
 asking-requires : tie.Need-asking-requires
 asking-requires c κs = search rules
 
-returns-4 : tie.Need-returns-4
-returns-4 c = unasked (omega arith) c.asking.ensures
+returns_4 : tie.Need-returns-4
+returns_4 c = unasked (omega arith) c.asking.ensures
 
 pub children-of-spec : {M : Type 1} → statement M
 children-of-spec =
@@ -36,8 +36,8 @@ children-of-spec =
     operands-requires
     returns
     children-to-56-requires
-    returns-2
+    returns_2
     children-from-57-requires
-    returns-3
+    returns_3
     asking-requires
-    returns-4)
+    returns_4)

@@ -16,20 +16,20 @@ returns c = asked_by (asking 0 0 0 0) 0 10 (λ text zeros. refl) (omega arith) (
 asking-requires-2 : tie.Need-asking-requires-2
 asking-requires-2 c κs = search rules
 
-returns-2 : tie.Need-returns-2
-returns-2 c = asked_by (asking 0 2 2 0) 10 9 (λ text zeros. refl) (omega arith) (omega arith) (omega arith) c.asking2.ensures
+returns_2 : tie.Need-returns-2
+returns_2 c = asked_by (asking 0 2 2 0) 10 9 (λ text zeros. refl) (omega arith) (omega arith) (omega arith) c.asking2.ensures
 
 asking-requires-3 : tie.Need-asking-requires-3
 asking-requires-3 c κs = search rules
 
-returns-3 : tie.Need-returns-3
-returns-3 c = asked_by (asking 0 0 0 0) 19 11 (λ text zeros. refl) (omega arith) (omega arith) (omega arith) c.asking3.ensures
+returns_3 : tie.Need-returns-3
+returns_3 c = asked_by (asking 0 0 0 0) 19 11 (λ text zeros. refl) (omega arith) (omega arith) (omega arith) c.asking3.ensures
 
 asking-requires-4 : tie.Need-asking-requires-4
 asking-requires-4 c κs = search rules
 
-returns-4 : tie.Need-returns-4
-returns-4 c = asked_by (asking 0 2 1 0) 30 5 (λ text zeros. refl) (omega arith) (omega arith) (omega arith) c.asking4.ensures
+returns_4 : tie.Need-returns-4
+returns_4 c = asked_by (asking 0 2 1 0) 30 5 (λ text zeros. refl) (omega arith) (omega arith) (omega arith) c.asking4.ensures
 
 asking-requires-5 : tie.Need-asking-requires-5
 asking-requires-5 c κs = search rules
@@ -56,11 +56,11 @@ operands-spec =
     asking-requires
     returns
     asking-requires-2
-    returns-2
+    returns_2
     asking-requires-3
-    returns-3
+    returns_3
     asking-requires-4
-    returns-4
+    returns_4
     asking-requires-5
     returns-5
     asking-requires-6

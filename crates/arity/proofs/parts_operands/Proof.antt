@@ -2,7 +2,7 @@
 use native.Mathlib.Omega.{arith}
 use mathlib.Core.Path.{refl}
 use Rattle.arity.specs.Arity.{asking}
-use Rattle.arity.proofs.Laws.{asked_by, asked-as}
+use Rattle.arity.proofs.Laws.{asked_by, asked_as}
 use borrow.Author.Rules.{rules}
 use Rattle.arity.proofs.parts_operands.Statement.{statement}
 use Rattle.arity.proofs.parts_operands.Tie as tie
@@ -16,26 +16,26 @@ returns c = asked_by (asking 0 0 0 0) 37 4 (λ text zeros. refl) (omega arith) (
 asking-requires-2 : tie.Need-asking-requires-2
 asking-requires-2 c κs = search rules
 
-returns-2 : tie.Need-returns-2
-returns-2 c = asked_by (asking 0 2 1 0) 41 2 (λ text zeros. refl) (omega arith) (omega arith) (omega arith) c.asking2.ensures
+returns_2 : tie.Need-returns-2
+returns_2 c = asked_by (asking 0 2 1 0) 41 2 (λ text zeros. refl) (omega arith) (omega arith) (omega arith) c.asking2.ensures
 
 asking-requires-3 : tie.Need-asking-requires-3
 asking-requires-3 c κs = search rules
 
-returns-3 : tie.Need-returns-3
-returns-3 c = asked-as 43 (asking 0 0 0 0) (λ text zeros. refl) (omega arith) (omega arith) c.asking3.ensures
+returns_3 : tie.Need-returns-3
+returns_3 c = asked_as 43 (asking 0 0 0 0) (λ text zeros. refl) (omega arith) (omega arith) c.asking3.ensures
 
 asking-requires-4 : tie.Need-asking-requires-4
 asking-requires-4 c κs = search rules
 
-returns-4 : tie.Need-returns-4
-returns-4 c = asked-as 44 (asking 0 2 1 0) (λ text zeros. refl) (omega arith) (omega arith) c.asking4.ensures
+returns_4 : tie.Need-returns-4
+returns_4 c = asked_as 44 (asking 0 2 1 0) (λ text zeros. refl) (omega arith) (omega arith) c.asking4.ensures
 
 asking-requires-5 : tie.Need-asking-requires-5
 asking-requires-5 c κs = search rules
 
 returns-5 : tie.Need-returns-5
-returns-5 c = asked-as 45 (asking 0 2 c.before.before.before.before.before.before.args.a 0) (λ text zeros. refl) (omega arith) (omega arith) c.asking5.ensures
+returns-5 c = asked_as 45 (asking 0 2 c.before.before.before.before.before.before.args.a 0) (λ text zeros. refl) (omega arith) (omega arith) c.asking5.ensures
 
 asking-requires-6 : tie.Need-asking-requires-6
 asking-requires-6 c κs = search rules
@@ -50,11 +50,11 @@ parts-operands-spec =
     asking-requires
     returns
     asking-requires-2
-    returns-2
+    returns_2
     asking-requires-3
-    returns-3
+    returns_3
     asking-requires-4
-    returns-4
+    returns_4
     asking-requires-5
     returns-5
     asking-requires-6

@@ -2,7 +2,7 @@
 use Prim.Native.Nat.{◌+◌, ◌-◌}
 use native.Mathlib.Omega.{arith}
 use mathlib.Core.Path.{refl}
-use Rattle.arity.proofs.Laws.{sorted-by, unsorted}
+use Rattle.arity.proofs.Laws.{sorted_by, unsorted}
 use borrow.Author.Rules.{rules}
 use Rattle.arity.proofs.sort_of.Statement.{statement}
 use Rattle.arity.proofs.sort_of.Tie as tie
@@ -19,14 +19,14 @@ cast-result c = search rules
 add-result : tie.Need-overflow-add-result
 add-result c = search rules
 
-returns-2 : tie.Need-returns-2
-returns-2 c = sorted-by (λ t. t - 40 + 3) 40 6 (λ text x. refl) (omega arith) (omega arith) (omega arith)
+returns_2 : tie.Need-returns-2
+returns_2 c = sorted_by (λ t. t - 40 + 3) 40 6 (λ text x. refl) (omega arith) (omega arith) (omega arith)
 
-returns-3 : tie.Need-returns-3
-returns-3 c = sorted-by (λ t. 0) 46 4 (λ text x. refl) (omega arith) (omega arith) (omega arith)
+returns_3 : tie.Need-returns-3
+returns_3 c = sorted_by (λ t. 0) 46 4 (λ text x. refl) (omega arith) (omega arith) (omega arith)
 
-returns-4 : tie.Need-returns-4
-returns-4 c = sorted-by (λ t. 9) 50 14 (λ text x. refl) (omega arith) (omega arith) (omega arith)
+returns_4 : tie.Need-returns-4
+returns_4 c = sorted_by (λ t. 9) 50 14 (λ text x. refl) (omega arith) (omega arith) (omega arith)
 
 returns-5 : tie.Need-returns-5
 returns-5 c = unsorted (omega arith)
@@ -39,7 +39,7 @@ sort-of-spec =
     returns
     cast-result
     add-result
-    returns-2
-    returns-3
-    returns-4
+    returns_2
+    returns_3
+    returns_4
     returns-5)

@@ -40,7 +40,7 @@ use denote.Triple.Table.{entered, cited}
 use denote.Triple.Walked.{says, needs, Stays, stay_none, walk_of, Goes-none, Walks, ends_at, walked, walk_Meets}
 use denote.Exit.{yes}
 use denote.Triple.Clauses.{ensured, lasts}
-use Rattle.sheet.specs.Parts.{cell-count}
+use Rattle.sheet.specs.Parts.{cell_count}
 use Rattle.sheet.specs.Cell as Sheet
 use Rattle.layout.specs.Layout.{Whole, IsCell}
 use Rattle.layout.specs.declared.Cell.{Cell}
@@ -83,7 +83,7 @@ module _ {M : Type 1} {𝓤 : Ura M} (𝓛 : Logic 𝓤) (mem : Memory → SProp
 
   -- what is asked, and what is said of the result
   abbrev Asked : Type 0
-  Asked = Whole d.sheet.now × (d.number < cell-count d.sheet.now)
+  Asked = Whole d.sheet.now × (d.number < cell_count d.sheet.now)
 
   abbrev Said : Cell → Type 0
   Said r = IsCell (Sheet.cell d.sheet.now d.number) r
@@ -154,22 +154,22 @@ module _ {M : Type 1} {𝓤 : Ura M} (𝓛 : Logic 𝓤) (mem : Memory → SProp
 module _ {M : Type 1} {𝓤 : Ura M} (𝓛 : Logic 𝓤) (mem : Memory → SProp 𝓤) (run : Routine → Fun 𝓤) where
   open 𝓛 use {H}
 
-  cell-walks : (C : Calls 𝓤 H) (Λ : Loops 𝓤 H) → FmC 𝓤 H 𝓛.laws C → Triple 𝓤 (C #cell-at) (CellAt 𝓛 mem run)
+  cell_walks : (C : Calls 𝓤 H) (Λ : Loops 𝓤 H) → FmC 𝓤 H 𝓛.laws C → Triple 𝓤 (C #cell-at) (CellAt 𝓛 mem run)
       → Walks 𝓛 cell.ended stayed (WpFn 𝓤 H C Λ code.function) (cell.clauses 𝓛 mem run)
-  cell-walks C Λ fm known = walked 𝓛 cell.ended stayed (cell.clauses 𝓛 mem run) (WpFn 𝓤 H C Λ code.function) (λ κs. (LL.vals (T.the_type (named_lft 1 0 tt κs)) (T'.the_laws (named_lft 1 0 tt κs)), tt)) (λ κs. (LL.tells (T.the_type (named_lft 1 0 tt κs)) (T'.the_laws (named_lft 1 0 tt κs)), tt))
-      (λ κs qs bounds a g are. needs 𝓤 (Whole a.0.sheet.now × (a.0.number < cell-count a.0.sheet.now)) _ (λ h.
+  cell_walks C Λ fm known = walked 𝓛 cell.ended stayed (cell.clauses 𝓛 mem run) (WpFn 𝓤 H C Λ code.function) (λ κs. (LL.vals (T.the_type (named_lft 1 0 tt κs)) (T'.the_laws (named_lft 1 0 tt κs)), tt)) (λ κs. (LL.tells (T.the_type (named_lft 1 0 tt κs)) (T'.the_laws (named_lft 1 0 tt κs)), tt))
+      (λ κs qs bounds a g are. needs 𝓤 (Whole a.0.sheet.now × (a.0.number < cell_count a.0.sheet.now)) _ (λ h.
       walk 𝓛 mem run κs.0 qs.0 a.0 C Λ fm known h ((LL.lawful (T.the_type (named_lft 1 0 tt κs)) (T'.the_laws (named_lft 1 0 tt κs)) 𝓛).typed a.0 _ are.0).0))
 
-cell-meets : {M : Type 1} {𝓤 : Ura M} (𝓛 : Logic 𝓤) (mem : Memory → SProp 𝓤) (run : Routine → Fun 𝓤) (𝓣 : Tables 𝓤 𝓛.H)
+cell_meets : {M : Type 1} {𝓤 : Ura M} (𝓛 : Logic 𝓤) (mem : Memory → SProp 𝓤) (run : Routine → Fun 𝓤) (𝓣 : Tables 𝓤 𝓛.H)
     → Triple 𝓤 (𝓣.C #cell-at) (CellAt 𝓛 mem run)
     → Meets 𝓛 cell.signature (WpFn 𝓤 𝓛.H 𝓣.C 𝓣.Λ code.function) (cell.spec 𝓛 mem run)
-cell-meets {𝓤 = 𝓤} 𝓛 mem run 𝓣 known = walk_Meets 𝓛 cell.ended stayed (Goes-none 𝓛 1 B yes (λ κs x f. refl), tt) (cell.clauses 𝓛 mem run) (WpFn 𝓤 𝓛.H 𝓣.C 𝓣.Λ code.function) (WpFn-mono 𝓤 𝓛.H 𝓛.laws 𝓣 code.function)
-    (cell-walks 𝓛 mem run 𝓣.C 𝓣.Λ (fm_of 𝓤 𝓛.H 𝓛.laws 𝓣) known)
+cell_meets {𝓤 = 𝓤} 𝓛 mem run 𝓣 known = walk_Meets 𝓛 cell.ended stayed (Goes-none 𝓛 1 B yes (λ κs x f. refl), tt) (cell.clauses 𝓛 mem run) (WpFn 𝓤 𝓛.H 𝓣.C 𝓣.Λ code.function) (WpFn-mono 𝓤 𝓛.H 𝓛.laws 𝓣 code.function)
+    (cell_walks 𝓛 mem run 𝓣.C 𝓣.Λ (fm_of 𝓤 𝓛.H 𝓛.laws 𝓣) known)
 
 pub cell-spec : {M : Type 1} → stated.statement M
 unfolding code.routine tables_of
 cell-spec 𝓤 𝓛 𝓜 𝓡 =
     entered 𝓤 𝓛.H (triple_of 𝓛 cell.signature (cell.spec 𝓛 𝓜.mem 𝓡.run))
     (tables 𝓤 𝓛.H 𝓜 𝓡 code.env).C (tables 𝓤 𝓛.H 𝓜 𝓡 code.env).Λ #cell code.function (code.unfolded 𝓤 𝓛.H 𝓜 𝓡)
-    (cell-meets 𝓛 𝓜.mem 𝓡.run (tables_of 𝓤 𝓛.H 𝓜 (tables 𝓤 𝓛.H 𝓜 𝓡 code.env))
+    (cell_meets 𝓛 𝓜.mem 𝓡.run (tables_of 𝓤 𝓛.H 𝓜 (tables 𝓤 𝓛.H 𝓜 𝓡 code.env))
     (cited 𝓤 𝓛.H (CellAt 𝓛 𝓜.mem 𝓡.run) 𝓜 𝓡 code.env #cell-at cell-at-def.routine code.calls-layout::cell-at (cell-at-thm.met 𝓤 𝓛 𝓜 𝓡)))

@@ -36,7 +36,7 @@ use denote.Triple.Table.{entered, cited}
 use denote.Triple.Walked.{says, needs, Stays, stay_none, stay_none_slice, walk_of, Goes-none, Goes-none_slice, Walks, ends_at, walked, walk_Meets}
 use denote.Exit.{yes}
 use denote.Triple.Clauses.{ensured, lasts}
-use Rattle.sheet.specs.Parts.{cell-count}
+use Rattle.sheet.specs.Parts.{cell_count}
 use Rattle.sheet.specs.Cell as Sheet
 use Rattle.layout.specs.Layout.{Whole, IsCell}
 use Rattle.layout.specs.declared.Cell.{Cell}
@@ -54,7 +54,7 @@ use Rattle.cell_view.proofs.cell.Symbol as cell-def
 use Rattle.cell_view.proofs.cell.Symbol.{name as #cell}
 use Rattle.cell_view.proofs.cell.Met as cell-thm
 use Rattle.cell_view.specs.contracts.cell_of.Key.{name as #cell-of}
-use Rattle.cell_view.specs.contracts.cell_of as cell-of
+use Rattle.cell_view.specs.contracts.cell_of as cell_of
 use Rattle.cell_view.proofs.cell_of.Statement as stated
 use Rattle.cell_view.proofs.cell_of.Code as code
 
@@ -62,12 +62,12 @@ use Rattle.cell_view.proofs.cell_of.Code as code
 abbrev B : Lfts 1 → RattleType
 B κs = T.the_row (named_lft 1 0 tt κs)
 
-abbrev stayed : Stays (cell-of.ended).signature.params (cell-of.ended).kept
+abbrev stayed : Stays (cell_of.ended).signature.params (cell_of.ended).kept
 stayed = (stay_none_slice (0 ∷ []) tt (plain (λ _. u8)) yes, (stay_none (λ _. usize) yes, tt))
 
 -- what is asked of a sheet and a cell number, and what is said of the cell
 abbrev Asked : List ℕ → ℕ → Type 0
-Asked s n = Whole s × (n < cell-count s)
+Asked s n = Whole s × (n < cell_count s)
 
 abbrev Said : List ℕ → ℕ → Cell → Type 0
 Said s n t = IsCell (Sheet.cell s n) t
@@ -98,7 +98,7 @@ module _ {M : Type 1} {𝓤 : Ura M} (𝓛 : Logic 𝓤) (mem : Memory → SProp
   abbrev v : Val
   v = slice_val s.ref_ptr (length s.now)
 
-  abbrev vals : Vals cell-of.signature (κ, tt)
+  abbrev vals : Vals cell_of.signature (κ, tt)
   vals = (v ∷ [], (vint w64 n ∷ [], tt))
 
   -- the view's type as a local has it
@@ -106,58 +106,58 @@ module _ {M : Type 1} {𝓤 : Ura M} (𝓛 : Logic 𝓤) (mem : Memory → SProp
   αᵉ = record { mir = erased; lft = κ }
 
   abbrev Post : Val → SProp 𝓤
-  Post = (walk_of 𝓛 cell-of.ended stayed (cell-of.clauses 𝓛 mem run)).post (((κ, tt), (q, tt), tt, (s, (n, tt)), vals), tt)
+  Post = (walk_of 𝓛 cell_of.ended stayed (cell_of.clauses 𝓛 mem run)).post (((κ, tt), (q, tt), tt, (s, (n, tt)), vals), tt)
 
   abbrev Own : Fml
   Own = (ShrSlice (named 0) κ u8).own_val s (v ∷ [])
 
   -- the call of `view`
-  abbrev to-view : (View 𝓛 mem run).Ghost
-  to-view = (((κ, tt), (q, tt), tt, (s, (n, tt)), vals), tt)
+  abbrev to_view : (View 𝓛 mem run).Ghost
+  to_view = (((κ, tt), (q, tt), tt, (s, (n, tt)), vals), tt)
 
-  goes-view : ent 𝓤 (on_entry 𝓛 cell-of.signature (κ, tt) (q, tt) (s, (n, tt)) vals) (sep 𝓤 ((View 𝓛 mem run).pre to-view) (sem 𝓛 Own))
-  goes-view =
+  goes_view : ent 𝓤 (on_entry 𝓛 cell_of.signature (κ, tt) (q, tt) (s, (n, tt)) vals) (sep 𝓤 ((View 𝓛 mem run).pre to_view) (sem 𝓛 Own))
+  goes_view =
       qed 𝓛 ((‵ (flft κ q) ⊛ ‵ ftrue) ∷ ‵ (owns (ShrSlice (named 0) κ u8 ∷ usize ∷ []) (s, (n, tt)) vals) ∷ []) ∵
       move ! (1 ∷ []) $ fsplit ! $ use1 𝓛 (‵ Own ⊛ ‵ Own) ((shr_slice_copy 𝓛 (named 0) κ u8).twice s (v ∷ [])) $ split ! $
-      move ! (0 ∷ 2 ∷ []) $ fjoin ! $ move ! (2 ∷ 0 ∷ []) $ use2 𝓛 (raw ((View 𝓛 mem run).pre to-view)) (qed 𝓛 ((‵ (flft κ q) ⊛ ‵ ftrue) ∷ ‵ (owns (ShrSlice (named 0) κ u8 ∷ usize ∷ []) (s, (n, tt)) vals) ∷ []) ∵ join ! $ frame ! $ done !) $ frame ! $ done !
+      move ! (0 ∷ 2 ∷ []) $ fjoin ! $ move ! (2 ∷ 0 ∷ []) $ use2 𝓛 (raw ((View 𝓛 mem run).pre to_view)) (qed 𝓛 ((‵ (flft κ q) ⊛ ‵ ftrue) ∷ ‵ (owns (ShrSlice (named 0) κ u8 ∷ usize ∷ []) (s, (n, tt)) vals) ∷ []) ∵ join ! $ frame ! $ done !) $ frame ! $ done !
 
-  view-said : (r : CellView) → ent 𝓤 (ensured 𝓛 view.ended (view.clauses 𝓛 mem run) (κ, tt) (s, (n, tt)) tt r) (fact 𝓤 (Of r s n))
-  view-said r = ex_e 𝓤 _ (λ ws. snd∗ 𝓤 (sem 𝓛 (lasts view.ended (κ, tt) (s, (n, tt)) ws)) (fact 𝓤 (Of r s n)))
+  view_said : (r : CellView) → ent 𝓤 (ensured 𝓛 view.ended (view.clauses 𝓛 mem run) (κ, tt) (s, (n, tt)) tt r) (fact 𝓤 (Of r s n))
+  view_said r = ex_e 𝓤 _ (λ ws. snd∗ 𝓤 (sem 𝓛 (lasts view.ended (κ, tt) (s, (n, tt)) ws)) (fact 𝓤 (Of r s n)))
 
   -- the call of `cell`, at the view r with the machine value u
   abbrev to_cell : CellView → Val → (Read 𝓛 mem run).Ghost
   to_cell r u = (((κ, tt), (q, tt), tt, (r, tt), (u ∷ [], tt)), tt)
 
-  goes-cell : (r : CellView) (u : Val) → Asked r.sheet.now r.number → ent 𝓤 (⋆ 𝓛 (‵ ((B (κ, tt)).own r (u ∷ [])) ∷ (‵ (flft κ q) ⊛ ‵ ftrue) ∷ [])) ((Read 𝓛 mem run).pre (to_cell r u))
-  goes-cell r u h = qed 𝓛 (‵ ((B (κ, tt)).own r (u ∷ [])) ∷ (‵ (flft κ q) ⊛ ‵ ftrue) ∷ []) ∵ says ! h $ nothing ! $ move ! (1 ∷ 0 ∷ []) $ fjoin ! $ move ! (1 ∷ 0 ∷ []) $ frame ! $ done !
+  goes_cell : (r : CellView) (u : Val) → Asked r.sheet.now r.number → ent 𝓤 (⋆ 𝓛 (‵ ((B (κ, tt)).own r (u ∷ [])) ∷ (‵ (flft κ q) ⊛ ‵ ftrue) ∷ [])) ((Read 𝓛 mem run).pre (to_cell r u))
+  goes_cell r u h = qed 𝓛 (‵ ((B (κ, tt)).own r (u ∷ [])) ∷ (‵ (flft κ q) ⊛ ‵ ftrue) ∷ []) ∵ says ! h $ nothing ! $ move ! (1 ∷ 0 ∷ []) $ fjoin ! $ move ! (1 ∷ 0 ∷ []) $ frame ! $ done !
 
-  cell-said : (r : CellView) (t : Cell) → ent 𝓤 (ensured 𝓛 cell.ended (cell.clauses 𝓛 mem run) (κ, tt) (r, tt) tt t) (fact 𝓤 (Said r.sheet.now r.number t))
-  cell-said r t = ex_e 𝓤 _ (λ ws. snd∗ 𝓤 (sem 𝓛 (lasts cell.ended (κ, tt) (r, tt) ws)) (fact 𝓤 (Said r.sheet.now r.number t)))
+  cell_said : (r : CellView) (t : Cell) → ent 𝓤 (ensured 𝓛 cell.ended (cell.clauses 𝓛 mem run) (κ, tt) (r, tt) tt t) (fact 𝓤 (Said r.sheet.now r.number t))
+  cell_said r t = ex_e 𝓤 _ (λ ws. snd∗ 𝓤 (sem 𝓛 (lasts cell.ended (κ, tt) (r, tt) ws)) (fact 𝓤 (Said r.sheet.now r.number t)))
 
   exits : (t : Cell) (u : Val) → Said s.now n t → ent 𝓤 (⋆ 𝓛 (‵ ((S.the_row).own_val t (u ∷ [])) ∷ (‵ (flft κ q) ⊛ ‵ ftrue) ∷ ‵ Own ∷ [])) (Post u)
   exits t u e =
       qed 𝓛 (‵ ((S.the_row).own_val t (u ∷ [])) ∷ (‵ (flft κ q) ⊛ ‵ ftrue) ∷ ‵ Own ∷ []) ∵
-      suffices ! _ (ends_at 𝓛 cell-of.ended stayed (cell-of.clauses 𝓛 mem run) (((κ, tt), (q, tt), tt, (s, (n, tt)), vals), tt) u t (tt, (tt, tt)) (tt, (tt, tt))) $ says ! e $
+      suffices ! _ (ends_at 𝓛 cell_of.ended stayed (cell_of.clauses 𝓛 mem run) (((κ, tt), (q, tt), tt, (s, (n, tt)), vals), tt) u t (tt, (tt, tt)) (tt, (tt, tt))) $ says ! e $
       move ! (1 ∷ []) $ frame ! $ nothing ! $ owned ! usize (Is usize) (uint_Makes 𝓛 w64) n _ (refl, ok) $ fjoin ! $ move ! (2 ∷ 0 ∷ []) $ fjoin ! $ frame ! $ done !
 
   module _ (C : Calls 𝓤 H) (Λ : Loops 𝓤 H) (fm : FmC 𝓤 H 𝓛.laws C) (known-view : Triple 𝓤 (C #view) (View 𝓛 mem run)) (known-cell : Triple 𝓤 (C #cell) (Read 𝓛 mem run)) where
-    walk : Asked s.now n → Is (ShrSlice (named 0) κ u8) s (v ∷ []) → ent 𝓤 (on_entry 𝓛 cell-of.signature (κ, tt) (q, tt) (s, (n, tt)) vals) (WpFn 𝓤 H C Λ code.function (v ∷ vint w64 n ∷ []) Post)
+    walk : Asked s.now n → Is (ShrSlice (named 0) κ u8) s (v ∷ []) → ent 𝓤 (on_entry 𝓛 cell_of.signature (κ, tt) (q, tt) (s, (n, tt)) vals) (WpFn 𝓤 H C Λ code.function (v ∷ vint w64 n ∷ []) Post)
     walk h p =
-        qed 𝓛 (raw (on_entry 𝓛 cell-of.signature (κ, tt) (q, tt) (s, (n, tt)) vals) ∷ []) ∵ enter ! C Λ code.function (v ∷ vint w64 n ∷ []) _ $
+        qed 𝓛 (raw (on_entry 𝓛 cell_of.signature (κ, tt) (q, tt) (s, (n, tt)) vals) ∷ []) ∵ enter ! C Λ code.function (v ∷ vint w64 n ∷ []) _ $
         alloc1 ! (λ l₀. alloc1 ! (λ l₁. alloc1 ! (λ l₂. alloc1 ! (λ l₃. alloc0 ! $ params1 ! $
         pass1 ! (init ! 4 refl ((shr_slice_Lawful 𝓛 (named 0) κ u8).typed s (v ∷ []) p).0) $ pass1 ! (init ! 2 refl (tt, record { fits = ok })) $ pass0 ! $
         -- [room for _3; …; _2; …; _1; …; room for _0; …]
-        move ! (8 ∷ []) $ use1 𝓛 (raw ((View 𝓛 mem run).pre to-view) ⊛ ‵ Own) goes-view $ split ! $
-        calls_at ! fm (View 𝓛 mem run) known-view to-view (and_then ! (load ! (from ! (stop !)) (look ! 6 refl)) (and_then ! (load ! (from ! (stop !)) (look ! 4 refl)) (no_more !))) (λ u.
+        move ! (8 ∷ []) $ use1 𝓛 (raw ((View 𝓛 mem run).pre to_view) ⊛ ‵ Own) goes_view $ split ! $
+        calls_at ! fm (View 𝓛 mem run) known-view to_view (and_then ! (load ! (from ! (stop !)) (look ! 6 refl)) (and_then ! (load ! (from ! (stop !)) (look ! 4 refl)) (no_more !))) (λ u.
         use1 𝓛 (later (some (λ (r : CellView). ((‵ (flft κ q) ⊛ ‵ ftrue) ⊛ ‵ ((B (κ, tt)).own r (u ∷ []))) ⊛ raw (ensured 𝓛 view.ended (view.clauses 𝓛 mem run) (κ, tt) (s, (n, tt)) tt r)))) (id⊢ 𝓤 _) $ await ! tt $ pick ! (λ r.
-        split ! $ move ! (1 ∷ []) $ use1 𝓛 (raw (fact 𝓤 (Of r s n))) (view-said r) $ heard ! (Of r s n) (λ e. split ! $ move ! (1 ∷ []) $
+        split ! $ move ! (1 ∷ []) $ use1 𝓛 (raw (fact 𝓤 (Of r s n))) (view_said r) $ heard ! (Of r s n) (λ e. split ! $ move ! (1 ∷ []) $
         -- [what the view owns; the token; what s owns; room for _3; …; _2; …; _1; …; room for _0; …]
         peeks ! (B (κ, tt)) (Is (B (κ, tt))) (shows 𝓛 (B (κ, tt))) r (u ∷ []) (λ is.
         land ! (from ! (stop !)) (init ! 3 refl ((LL.lawful (T.the_type αᵉ) (T'.the_laws αᵉ) 𝓛).typed r _ is).0) $
-        use2 𝓛 (raw ((Read 𝓛 mem run).pre (to_cell r u))) (goes-cell r u (may_read r s n e h)) $
+        use2 𝓛 (raw ((Read 𝓛 mem run).pre (to_cell r u))) (goes_cell r u (may_read r s n e h)) $
         calls_at ! fm (Read 𝓛 mem run) known-cell (to_cell r u) (and_then ! (load ! (from ! (stop !)) (look ! 2 refl)) (no_more !)) (λ u'.
         use1 𝓛 (later (some (λ (t : Cell). ((‵ (flft κ q) ⊛ ‵ ftrue) ⊛ ‵ ((S.the_row).own_val t (u' ∷ []))) ⊛ raw (ensured 𝓛 cell.ended (cell.clauses 𝓛 mem run) (κ, tt) (r, tt) tt t)))) (id⊢ 𝓤 _) $ await ! tt $ pick ! (λ t.
-        split ! $ move ! (1 ∷ []) $ use1 𝓛 (raw (fact 𝓤 (Said r.sheet.now r.number t))) (cell-said r t) $ heard ! (Said r.sheet.now r.number t) (λ e'. split ! $ move ! (1 ∷ []) $
+        split ! $ move ! (1 ∷ []) $ use1 𝓛 (raw (fact 𝓤 (Said r.sheet.now r.number t))) (cell_said r t) $ heard ! (Said r.sheet.now r.number t) (λ e'. split ! $ move ! (1 ∷ []) $
         -- [the result; the token; what s owns; _3; …; _2; …; _1; …; room for _0; …]
         peeks ! S.the_row (Is S.the_row) (shows 𝓛 S.the_row) t (u' ∷ []) (λ is'.
         land ! (from ! (stop !)) (init ! 9 refl ((LL.lawful S.the_type S'.the_laws 𝓛).typed t _ is').0) $
@@ -167,22 +167,22 @@ module _ {M : Type 1} {𝓤 : Ura M} (𝓛 : Logic 𝓤) (mem : Memory → SProp
 module _ {M : Type 1} {𝓤 : Ura M} (𝓛 : Logic 𝓤) (mem : Memory → SProp 𝓤) (run : Routine → Fun 𝓤) where
   open 𝓛 use {H}
 
-  cell-of-walks : (C : Calls 𝓤 H) (Λ : Loops 𝓤 H) → FmC 𝓤 H 𝓛.laws C → Triple 𝓤 (C #view) (View 𝓛 mem run) → Triple 𝓤 (C #cell) (Read 𝓛 mem run)
-      → Walks 𝓛 cell-of.ended stayed (WpFn 𝓤 H C Λ code.function) (cell-of.clauses 𝓛 mem run)
-  cell-of-walks C Λ fm known-view known-cell = walked 𝓛 cell-of.ended stayed (cell-of.clauses 𝓛 mem run) (WpFn 𝓤 H C Λ code.function) (λ κs. (shr_slice_vals, (uint_vals w64, tt))) (λ κs. (shr_slice_Tells (named 0) κs.0 u8, (uint_Tells w64, tt)))
+  cell_of_walks : (C : Calls 𝓤 H) (Λ : Loops 𝓤 H) → FmC 𝓤 H 𝓛.laws C → Triple 𝓤 (C #view) (View 𝓛 mem run) → Triple 𝓤 (C #cell) (Read 𝓛 mem run)
+      → Walks 𝓛 cell_of.ended stayed (WpFn 𝓤 H C Λ code.function) (cell_of.clauses 𝓛 mem run)
+  cell_of_walks C Λ fm known-view known-cell = walked 𝓛 cell_of.ended stayed (cell_of.clauses 𝓛 mem run) (WpFn 𝓤 H C Λ code.function) (λ κs. (shr_slice_vals, (uint_vals w64, tt))) (λ κs. (shr_slice_Tells (named 0) κs.0 u8, (uint_Tells w64, tt)))
       (λ κs qs bounds a g are. needs 𝓤 (Asked a.0.now a.1.0) _ (λ h. walk 𝓛 mem run κs.0 qs.0 a.0 a.1.0 are.1.0.1 C Λ fm known-view known-cell h are.0))
 
-cell-of-meets : {M : Type 1} {𝓤 : Ura M} (𝓛 : Logic 𝓤) (mem : Memory → SProp 𝓤) (run : Routine → Fun 𝓤) (𝓣 : Tables 𝓤 𝓛.H)
+cell_of_meets : {M : Type 1} {𝓤 : Ura M} (𝓛 : Logic 𝓤) (mem : Memory → SProp 𝓤) (run : Routine → Fun 𝓤) (𝓣 : Tables 𝓤 𝓛.H)
     → Triple 𝓤 (𝓣.C #view) (View 𝓛 mem run) → Triple 𝓤 (𝓣.C #cell) (Read 𝓛 mem run)
-    → Meets 𝓛 cell-of.signature (WpFn 𝓤 𝓛.H 𝓣.C 𝓣.Λ code.function) (cell-of.spec 𝓛 mem run)
-cell-of-meets {𝓤 = 𝓤} 𝓛 mem run 𝓣 known-view known-cell = walk_Meets 𝓛 cell-of.ended stayed (Goes-none_slice 𝓛 1 (0 ∷ []) tt (plain (λ _. u8)) yes, (Goes-none 𝓛 1 (λ _. usize) yes (λ κs x f. refl), tt)) (cell-of.clauses 𝓛 mem run) (WpFn 𝓤 𝓛.H 𝓣.C 𝓣.Λ code.function) (WpFn-mono 𝓤 𝓛.H 𝓛.laws 𝓣 code.function)
-    (cell-of-walks 𝓛 mem run 𝓣.C 𝓣.Λ (fm_of 𝓤 𝓛.H 𝓛.laws 𝓣) known-view known-cell)
+    → Meets 𝓛 cell_of.signature (WpFn 𝓤 𝓛.H 𝓣.C 𝓣.Λ code.function) (cell_of.spec 𝓛 mem run)
+cell_of_meets {𝓤 = 𝓤} 𝓛 mem run 𝓣 known-view known-cell = walk_Meets 𝓛 cell_of.ended stayed (Goes-none_slice 𝓛 1 (0 ∷ []) tt (plain (λ _. u8)) yes, (Goes-none 𝓛 1 (λ _. usize) yes (λ κs x f. refl), tt)) (cell_of.clauses 𝓛 mem run) (WpFn 𝓤 𝓛.H 𝓣.C 𝓣.Λ code.function) (WpFn-mono 𝓤 𝓛.H 𝓛.laws 𝓣 code.function)
+    (cell_of_walks 𝓛 mem run 𝓣.C 𝓣.Λ (fm_of 𝓤 𝓛.H 𝓛.laws 𝓣) known-view known-cell)
 
 pub cell-of-spec : {M : Type 1} → stated.statement M
 unfolding code.routine tables_of
 cell-of-spec 𝓤 𝓛 𝓜 𝓡 =
-    entered 𝓤 𝓛.H (triple_of 𝓛 cell-of.signature (cell-of.spec 𝓛 𝓜.mem 𝓡.run))
+    entered 𝓤 𝓛.H (triple_of 𝓛 cell_of.signature (cell_of.spec 𝓛 𝓜.mem 𝓡.run))
     (tables 𝓤 𝓛.H 𝓜 𝓡 code.env).C (tables 𝓤 𝓛.H 𝓜 𝓡 code.env).Λ #cell-of code.function (code.unfolded 𝓤 𝓛.H 𝓜 𝓡)
-    (cell-of-meets 𝓛 𝓜.mem 𝓡.run (tables_of 𝓤 𝓛.H 𝓜 (tables 𝓤 𝓛.H 𝓜 𝓡 code.env))
+    (cell_of_meets 𝓛 𝓜.mem 𝓡.run (tables_of 𝓤 𝓛.H 𝓜 (tables 𝓤 𝓛.H 𝓜 𝓡 code.env))
     (cited 𝓤 𝓛.H (View 𝓛 𝓜.mem 𝓡.run) 𝓜 𝓡 code.env #view view-def.routine code.calls-cell-view::view (view-thm.met 𝓤 𝓛 𝓜 𝓡))
     (cited 𝓤 𝓛.H (Read 𝓛 𝓜.mem 𝓡.run) 𝓜 𝓡 code.env #cell cell-def.routine code.calls-cell-view::cell (cell-thm.met 𝓤 𝓛 𝓜 𝓡)))

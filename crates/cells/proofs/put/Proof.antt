@@ -1,5 +1,5 @@
 use Prim.Native.Nat.{◌+◌, ◌-◌}
-use Rattle.cells.proofs.Laws.{put7, seals-not, seals}
+use Rattle.cells.proofs.Laws.{put7, seals_not, seals}
 use mathlib.Core.Logic.{inl, inr}
 use mathlib.Core.Path.{refl}
 use lib.ListN.{length-set}
@@ -9,19 +9,19 @@ use Rattle.cells.proofs.put.Statement.{statement}
 use Rattle.cells.proofs.put.Tie as tie
 
 returns : tie.Need-returns
-returns c = (seals-not c.before.args.k (inl (omega arith)) (omega arith), λ _. omega arith)
+returns c = (seals_not c.before.args.k (inl (omega arith)) (omega arith), λ _. omega arith)
 
-returns-2 : tie.Need-returns-2
-returns-2 c = (seals-not c.before.before.args.k (inr (inl (omega arith))) (omega arith), λ _. omega arith)
+returns_2 : tie.Need-returns-2
+returns_2 c = (seals_not c.before.before.args.k (inr (inl (omega arith))) (omega arith), λ _. omega arith)
 
 sub-if3 : tie.Need-overflow-sub-if3
 sub-if3 c = search rules
 
-returns-3 : tie.Need-returns-3
-returns-3 c = (seals-not c.before.before.before.args.k (inr (inl (omega arith))) (omega arith), λ _. omega arith)
+returns_3 : tie.Need-returns-3
+returns_3 c = (seals_not c.before.before.before.args.k (inr (inl (omega arith))) (omega arith), λ _. omega arith)
 
-returns-4 : tie.Need-returns-4
-returns-4 c = (seals-not c.before.before.before.before.args.k (inr (inr (omega arith))) (omega arith), λ _. omega arith)
+returns_4 : tie.Need-returns-4
+returns_4 c = (seals_not c.before.before.before.before.args.k (inr (inr (omega arith))) (omega arith), λ _. omega arith)
 
 mul-d : tie.Need-overflow-mul-d
 mul-d c = search rules
@@ -103,10 +103,10 @@ put_spec =
     tie.close
     (tie.spec
     returns
-    returns-2
+    returns_2
     sub-if3
-    returns-3
-    returns-4
+    returns_3
+    returns_4
     mul-d
     slice-write-d
     add-d

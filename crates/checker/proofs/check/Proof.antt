@@ -2,7 +2,7 @@ use borrow.Author.Tests.{not-true}
 use borrow.Author.Tests.{not-false}
 use Rattle.layout.specs.declared.Found.{Found}
 use Rattle.layout.specs.Layout.{found}
-use Rattle.checker.proofs.Steps.{at_length, at-edition, at-parts, at-record, at_cells}
+use Rattle.checker.proofs.Steps.{at_length, at_edition, at_parts, at_record, at_cells}
 use Prim.Native.Nat.{ℕ, ◌+◌, ◌-◌, ◌*◌, ◌≤◌, ◌<◌}
 use native.Mathlib.Omega.{arith}
 use mathlib.Core.Path.{◌≡◌, refl, sym, ap, ◌∙◌, subst}
@@ -35,8 +35,8 @@ edition-ok-requires c κs = sym c.before.length-ok.ensures ∙ not-false _ c.if1
 refusal-requires-2 : tie.Need-refusal-requires-2
 refusal-requires-2 c κs = search rules
 
-returns-2 : tie.Need-returns-2
-returns-2 c = c.refusal2.ensures ∙ at-edition c.before.before.before.before.before.before.args.s.now (sym c.before.before.before.before.length-ok.ensures ∙ not-false _ c.before.before.before.if1.false) (sym c.before.before.edition-ok.ensures ∙ not-true _ c.before.if2.true)
+returns_2 : tie.Need-returns-2
+returns_2 c = c.refusal2.ensures ∙ at_edition c.before.before.before.before.before.before.args.s.now (sym c.before.before.before.before.length-ok.ensures ∙ not-false _ c.before.before.before.if1.false) (sym c.before.before.edition-ok.ensures ∙ not-true _ c.before.if2.true)
 
 parts-ok-requires : tie.Need-parts-ok-requires
 parts-ok-requires c κs = sym c.before.before.before.length-ok.ensures ∙ not-false _ c.before.before.if1.false
@@ -44,11 +44,11 @@ parts-ok-requires c κs = sym c.before.before.before.length-ok.ensures ∙ not-f
 refusal-requires-3 : tie.Need-refusal-requires-3
 refusal-requires-3 c κs = search rules
 
-returns-3 : tie.Need-returns-3
-returns-3 c = c.refusal3.ensures ∙ at-parts c.before.before.before.before.before.before.before.before.args.s.now (sym c.before.before.before.before.before.before.length-ok.ensures ∙ not-false _ c.before.before.before.before.before.if1.false) (sym c.before.before.before.before.edition-ok.ensures ∙ not-false _ c.before.before.before.if2.false) (sym c.before.before.parts-ok.ensures ∙ not-true _ c.before.if3.true)
+returns_3 : tie.Need-returns-3
+returns_3 c = c.refusal3.ensures ∙ at_parts c.before.before.before.before.before.before.before.before.args.s.now (sym c.before.before.before.before.before.before.length-ok.ensures ∙ not-false _ c.before.before.before.before.before.if1.false) (sym c.before.before.before.before.edition-ok.ensures ∙ not-false _ c.before.before.before.if2.false) (sym c.before.before.parts-ok.ensures ∙ not-true _ c.before.if3.true)
 
 bad-record-requires : tie.Need-bad-record-requires
-bad-record-requires c κs = record { length-is = sym c.before.before.before.before.before.length-ok.ensures ∙ not-false _ c.before.before.before.before.if1.false; parts_are = sym c.before.parts-ok.ensures ∙ not-false _ c.if3.false }
+bad-record-requires c κs = record { length_is = sym c.before.before.before.before.before.length-ok.ensures ∙ not-false _ c.before.before.before.before.if1.false; parts_are = sym c.before.parts-ok.ensures ∙ not-false _ c.if3.false }
 
 enum-known-i : tie.Need-enum-known-i
 enum-known-i c = search rules
@@ -56,14 +56,14 @@ enum-known-i c = search rules
 refusal-requires-4 : tie.Need-refusal-requires-4
 refusal-requires-4 c κs = search rules
 
-returns-4 : tie.Need-returns-4
-returns-4 c = c.refusal4.ensures ∙ at-record c.before.before.before.before.before.before.before.before.before.before.before.before.args.s.now (sym c.before.before.before.before.before.before.before.before.before.before.length-ok.ensures ∙ not-false _ c.before.before.before.before.before.before.before.before.before.if1.false) (sym c.before.before.before.before.before.before.before.before.edition-ok.ensures ∙ not-false _ c.before.before.before.before.before.before.before.if2.false) (sym c.before.before.before.before.before.before.parts-ok.ensures ∙ not-false _ c.before.before.before.before.before.if3.false) (sym c.before.before.before.before.bad-record.ensures ∙ ap found c.before.before.i.given.1)
+returns_4 : tie.Need-returns-4
+returns_4 c = c.refusal4.ensures ∙ at_record c.before.before.before.before.before.before.before.before.before.before.before.before.args.s.now (sym c.before.before.before.before.before.before.before.before.before.before.length-ok.ensures ∙ not-false _ c.before.before.before.before.before.before.before.before.before.if1.false) (sym c.before.before.before.before.before.before.before.before.edition-ok.ensures ∙ not-false _ c.before.before.before.before.before.before.before.if2.false) (sym c.before.before.before.before.before.before.parts-ok.ensures ∙ not-false _ c.before.before.before.before.before.if3.false) (sym c.before.before.before.before.bad-record.ensures ∙ ap found c.before.before.i.given.1)
 
 enum_told : tie.Need-enum-told
 enum_told c = search rules
 
 check-cells-requires : tie.Need-check-cells-requires
-check-cells-requires c κs = record { length-is = sym c.before.before.before.before.before.before.before.before.length-ok.ensures ∙ not-false _ c.before.before.before.before.before.before.before.if1.false; parts_are = sym c.before.before.before.before.parts-ok.ensures ∙ not-false _ c.before.before.before.if3.false }
+check-cells-requires c κs = record { length_is = sym c.before.before.before.before.before.before.before.before.length-ok.ensures ∙ not-false _ c.before.before.before.before.before.before.before.if1.false; parts_are = sym c.before.before.before.before.parts-ok.ensures ∙ not-false _ c.before.before.before.if3.false }
 
 returns-5 : tie.Need-returns-5
 returns-5 c = c.check-cells.ensures ∙ at_cells c.before.before.before.before.before.before.before.before.before.before.before.args.s.now (sym c.before.before.before.before.before.before.before.before.before.length-ok.ensures ∙ not-false _ c.before.before.before.before.before.before.before.before.if1.false) (sym c.before.before.before.before.before.before.before.edition-ok.ensures ∙ not-false _ c.before.before.before.before.before.before.if2.false) (sym c.before.before.before.before.before.parts-ok.ensures ∙ not-false _ c.before.before.before.before.if3.false) (sym c.before.before.before.bad-record.ensures ∙ ap found c.before.enum_told.given.1)
@@ -77,14 +77,14 @@ check-spec =
     returns
     edition-ok-requires
     refusal-requires-2
-    returns-2
+    returns_2
     parts-ok-requires
     refusal-requires-3
-    returns-3
+    returns_3
     bad-record-requires
     enum-known-i
     refusal-requires-4
-    returns-4
+    returns_4
     enum_told
     check-cells-requires
     returns-5)

@@ -1,6 +1,6 @@
 use Rattle.layout.specs.declared.Found.{Found}
 use Rattle.layout.specs.Layout.{found}
-use Rattle.checker.proofs.Steps.{at-lacking, one-plan-at, at-outside, at-within}
+use Rattle.checker.proofs.Steps.{at_lacking, one_plan_at, at_outside, at_within}
 use Prim.Native.Nat.{ℕ, ◌+◌, ◌-◌, ◌*◌, ◌≤◌, ◌<◌}
 use native.Mathlib.Omega.{arith}
 use mathlib.Core.Path.{◌≡◌, refl, sym, ap, ◌∙◌, subst}
@@ -26,13 +26,13 @@ refusal-requires : tie.Need-refusal-requires
 refusal-requires c κs = search rules
 
 returns : tie.Need-returns
-returns c = c.refusal.ensures ∙ at-lacking c.before.before.before.before.before.before.args.s.now (sym (ap found c.before.before.i.given.1) ∙ c.before.before.before.before.lacking.ensures)
+returns c = c.refusal.ensures ∙ at_lacking c.before.before.before.before.before.before.args.s.now (sym (ap found c.before.before.i.given.1) ∙ c.before.before.before.before.lacking.ensures)
 
 enum_told : tie.Need-enum-told
 enum_told c = search rules
 
 outside-requires : tie.Need-outside-requires
-outside-requires c κs = (c.before.before.before.before.requires.0, one-plan-at c.before.before.before.before.args.s.now c.before.before.before.before.requires.1 (sym (ap found c.enum_told.given.1) ∙ c.before.before.lacking.ensures))
+outside-requires c κs = (c.before.before.before.before.requires.0, one_plan_at c.before.before.before.before.args.s.now c.before.before.before.before.requires.1 (sym (ap found c.enum_told.given.1) ∙ c.before.before.lacking.ensures))
 
 enum-known-i-2 : tie.Need-enum-known-i-2
 enum-known-i-2 c = search rules
@@ -44,13 +44,13 @@ enum-known-n : tie.Need-enum-known-n
 enum-known-n c = search rules
 
 check-targets-requires : tie.Need-check-targets-requires
-check-targets-requires c κs = (c.before.before.before.before.before.before.before.before.requires.0, one-plan-at c.before.before.before.before.before.before.before.before.args.s.now c.before.before.before.before.before.before.before.before.requires.1 (sym (ap found c.before.before.before.before.enum_told.given.1) ∙ c.before.before.before.before.before.before.lacking.ensures))
+check-targets-requires c κs = (c.before.before.before.before.before.before.before.before.requires.0, one_plan_at c.before.before.before.before.before.before.before.before.args.s.now c.before.before.before.before.before.before.before.before.requires.1 (sym (ap found c.before.before.before.before.enum_told.given.1) ∙ c.before.before.before.before.before.before.lacking.ensures))
 
-returns-2 : tie.Need-returns-2
-returns-2 c = c.refusal2.ensures ∙ at-outside c.before.before.before.before.before.before.before.before.before.args.s.now c.before.before.before.before.before.before.before.before.before.requires.1 (sym (ap found c.before.before.before.before.before.enum_told.given.1) ∙ c.before.before.before.before.before.before.before.lacking.ensures) c.before.before.before.before.outside.ensures c.before.before.i2.given.1
+returns_2 : tie.Need-returns-2
+returns_2 c = c.refusal2.ensures ∙ at_outside c.before.before.before.before.before.before.before.before.before.args.s.now c.before.before.before.before.before.before.before.before.before.requires.1 (sym (ap found c.before.before.before.before.before.enum_told.given.1) ∙ c.before.before.before.before.before.before.before.lacking.ensures) c.before.before.before.before.outside.ensures c.before.before.i2.given.1
 
-returns-3 : tie.Need-returns-3
-returns-3 c = at-within c.before.before.before.before.before.before.before.before.before.args.s.now c.before.before.before.before.before.before.before.before.before.requires.1 (sym (ap found c.before.before.before.before.before.enum_told.given.1) ∙ c.before.before.before.before.before.before.before.lacking.ensures) c.before.before.before.before.outside.ensures c.before.before.n.given.1 c.check-targets.ensures
+returns_3 : tie.Need-returns-3
+returns_3 c = at_within c.before.before.before.before.before.before.before.before.before.args.s.now c.before.before.before.before.before.before.before.before.before.requires.1 (sym (ap found c.before.before.before.before.before.enum_told.given.1) ∙ c.before.before.before.before.before.before.before.lacking.ensures) c.before.before.before.before.outside.ensures c.before.before.n.given.1 c.check-targets.ensures
 
 pub check-plan-spec : {M : Type 1} → statement M
 check-plan-spec =
@@ -66,5 +66,5 @@ check-plan-spec =
     refusal-requires-2
     enum-known-n
     check-targets-requires
-    returns-2
-    returns-3)
+    returns_2
+    returns_3)

@@ -3,7 +3,7 @@ use Rattle.layout.specs.declared.Parts.{Parts}
 use Rattle.sheet.specs.Check.{refusal}
 use Rattle.layout.specs.declared.Found.{Found}
 use Rattle.layout.specs.Layout.{found}
-use Rattle.checker.proofs.Steps.{at-repeated, at-success}
+use Rattle.checker.proofs.Steps.{at_repeated, at_success}
 use Prim.Native.Nat.{ℕ, ◌+◌, ◌-◌, ◌*◌, ◌≤◌, ◌<◌}
 use native.Mathlib.Omega.{arith}
 use mathlib.Core.Path.{◌≡◌, refl, sym, ap, ap₂, ◌∙◌, subst}
@@ -28,7 +28,7 @@ refusal-requires : tie.Need-refusal-requires
 refusal-requires c κs = search rules
 
 returns : tie.Need-returns
-returns c = λ node p o k. c.refusal.ensures ∙ at-repeated c.before.before.before.before.before.before.args.s.now c.before.before.before.before.before.before.requires.1.cells-ok c.before.before.before.before.target-repeated.result c.before.before.before.before.target-repeated.ensures (ap found c.before.before.i.given.1) node p o
+returns c = λ node p o k. c.refusal.ensures ∙ at_repeated c.before.before.before.before.before.before.args.s.now c.before.before.before.before.before.before.requires.1.cells-ok c.before.before.before.before.target-repeated.result c.before.before.before.before.target-repeated.ensures (ap found c.before.before.i.given.1) node p o
 
 enum_told : tie.Need-enum-told
 enum_told c = search rules
@@ -36,8 +36,8 @@ enum_told c = search rules
 parts-of-requires : tie.Need-parts-of-requires
 parts-of-requires c κs = search rules
 
-returns-2 : tie.Need-returns-2
-returns-2 c = λ node p o k. ap₂ (λ (a : ℕ) (b : ℕ). record { number = 0; place = 0; length = 0; cells = a; columns = b }) (ap (λ (x : Parts). x.cells.count) c.parts-of.ensures.is) (sym k) ∙ at-success c.before.before.before.before.before.args.s.now c.before.before.before.before.before.requires.1.cells-ok c.before.before.before.target-repeated.result c.before.before.before.target-repeated.ensures (ap found c.before.enum_told.given.1) node p o
+returns_2 : tie.Need-returns-2
+returns_2 c = λ node p o k. ap₂ (λ (a : ℕ) (b : ℕ). record { number = 0; place = 0; length = 0; cells = a; columns = b }) (ap (λ (x : Parts). x.cells.count) c.parts-of.ensures.is) (sym k) ∙ at_success c.before.before.before.before.before.args.s.now c.before.before.before.before.before.requires.1.cells-ok c.before.before.before.target-repeated.result c.before.before.before.target-repeated.ensures (ap found c.before.enum_told.given.1) node p o
 
 pub check-targets-spec : {M : Type 1} → statement M
 check-targets-spec =
@@ -49,4 +49,4 @@ check-targets-spec =
     returns
     enum_told
     parts-of-requires
-    returns-2)
+    returns_2)

@@ -1,5 +1,5 @@
 use Rattle.nnf.proofs.Tags.{copied}
-use Rattle.cnf.proofs.Steps.{distribute-other}
+use Rattle.cnf.proofs.Steps.{distribute_other}
 use Rattle.sql.specs.Expression.{distribute}
 use Rattle.words.proofs.Expressions.{at_in}
 use native.Mathlib.Omega.{arith}
@@ -25,8 +25,8 @@ copy-requires c κs = let (h, k) = at_in c.before.before.before.before.before.re
 same-length-2 : tie.Need-same-length-2
 same-length-2 c = search rules
 
-returns-2 : tie.Need-returns-2
-returns-2 c = copied distribute 11 distribute-other c.before.before.before.before.before.contains-tag.ensures c.before.before.before.before.if1.false c.before.before.copy.ensures
+returns_2 : tie.Need-returns-2
+returns_2 c = copied distribute 11 distribute_other c.before.before.before.before.before.contains-tag.ensures c.before.before.before.before.if1.false c.before.before.copy.ensures
 
 pub distribute-spec : {M : Type 1} → statement M
 distribute-spec =
@@ -38,4 +38,4 @@ distribute-spec =
     returns
     copy-requires
     same-length-2
-    returns-2)
+    returns_2)

@@ -1,4 +1,4 @@
-use Rattle.column_lookup.proofs.Values.{value_written, no-value-written}
+use Rattle.column_lookup.proofs.Values.{value_written, no_value_written}
 use borrow.Author.Rules.{rules}
 use Rattle.column_lookup.proofs.equal_value.Statement.{statement}
 use Rattle.column_lookup.proofs.equal_value.Tie as tie
@@ -15,9 +15,9 @@ same_length c = search rules
 returns : tie.Need-returns
 returns c = value_written c.before.before.before.before.before.is-defined.ensures c.before.before.before.before.if1.true c.before.before.put.ensures.0
 
-returns-2 : tie.Need-returns-2
-returns-2 c = no-value-written c.before.before.before.args.k c.before.is-defined.ensures c.if1.false
+returns_2 : tie.Need-returns-2
+returns_2 c = no_value_written c.before.before.before.args.k c.before.is-defined.ensures c.if1.false
 
 pub equal-value-spec : {M : Type 1} → statement M
 equal-value-spec =
-    tie.close (tie.spec is-defined-requires put-requires same_length returns returns-2)
+    tie.close (tie.spec is-defined-requires put-requires same_length returns returns_2)

@@ -1,4 +1,4 @@
-use Rattle.column_lookup.proofs.Looking.{sets-equal, sets-none}
+use Rattle.column_lookup.proofs.Looking.{sets_equal, sets_none}
 use Rattle.words.proofs.Expressions.{at_in, at_last, at_left, at_right}
 use native.Mathlib.Omega.{arith}
 use mathlib.Core.Path.{sym, ◌∙◌}
@@ -31,10 +31,10 @@ ordered-requires : tie.Need-ordered-requires
 ordered-requires c κs = search rules
 
 returns : tie.Need-returns
-returns c = sets-equal c.before.before.before.before.before.start.ensures (sym c.before.before.before.before.before.before.before.tag_at.ensures ∙ c.before.before.before.before.before.before.if1.true) c.before.before.before.before.cell_at.ensures c.before.before.cell-at2.ensures c.before.before.before.is-column.ensures c.before.is-column2.ensures c.ordered.result c.ordered.ensures
+returns c = sets_equal c.before.before.before.before.before.start.ensures (sym c.before.before.before.before.before.before.before.tag_at.ensures ∙ c.before.before.before.before.before.before.if1.true) c.before.before.before.before.cell_at.ensures c.before.before.cell-at2.ensures c.before.before.before.is-column.ensures c.before.is-column2.ensures c.ordered.result c.ordered.ensures
 
-returns-2 : tie.Need-returns-2
-returns-2 c = sets-none (λ z. c.if1.false (c.before.tag_at.ensures ∙ z))
+returns_2 : tie.Need-returns-2
+returns_2 c = sets_none (λ z. c.if1.false (c.before.tag_at.ensures ∙ z))
 
 pub equijoin-spec : {M : Type 1} → statement M
 equijoin-spec =
@@ -49,4 +49,4 @@ equijoin-spec =
     is-column-requires-2
     ordered-requires
     returns
-    returns-2)
+    returns_2)

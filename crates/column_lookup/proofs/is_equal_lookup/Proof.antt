@@ -9,15 +9,15 @@ is-column-requires c κs = search rules
 returns : tie.Need-returns
 returns c = simp (lt-ltb _ _ c.before.if1.true) c.is-column.ensures
 
-returns-2 : tie.Need-returns-2
-returns-2 c = simp (le-ltb _ _ c.before.before.before.before.if1.false, eq-eqb _ _ c.before.before.if2.true, lt-ltb _ _ c.if3.true)
+returns_2 : tie.Need-returns-2
+returns_2 c = simp (le-ltb _ _ c.before.before.before.before.if1.false, eq-eqb _ _ c.before.before.if2.true, lt-ltb _ _ c.if3.true)
 
-returns-3 : tie.Need-returns-3
-returns-3 c = simp (le-ltb _ _ c.before.before.before.before.if1.false, eq-eqb _ _ c.before.before.if2.true, le-ltb _ _ c.if3.false)
+returns_3 : tie.Need-returns-3
+returns_3 c = simp (le-ltb _ _ c.before.before.before.before.if1.false, eq-eqb _ _ c.before.before.if2.true, le-ltb _ _ c.if3.false)
 
-returns-4 : tie.Need-returns-4
-returns-4 c = simp (le-ltb _ _ c.before.before.if1.false, ne_eqb _ _ c.if2.false)
+returns_4 : tie.Need-returns-4
+returns_4 c = simp (le-ltb _ _ c.before.before.if1.false, ne_eqb _ _ c.if2.false)
 
 pub is-equal-lookup-spec : {M : Type 1} → statement M
 is-equal-lookup-spec =
-    tie.close (tie.spec is-column-requires returns returns-2 returns-3 returns-4)
+    tie.close (tie.spec is-column-requires returns returns_2 returns_3 returns_4)

@@ -18,14 +18,14 @@ enum-known-r c = search rules
 enum-told-2 : tie.Need-enum-told-2
 enum-told-2 c = search rules
 
-returns-2 : tie.Need-returns-2
-returns-2 c = rw (c.before.before.before.l.given.1, c.enum-told2.given.1)
+returns_2 : tie.Need-returns-2
+returns_2 c = rw (c.before.before.before.l.given.1, c.enum-told2.given.1)
 
-returns-3 : tie.Need-returns-3
-returns-3 c = rw (c.before.before.before.before.before.l.given.1, c.before.before.r.given.1) (simp (lt-ltb _ _ c.if1.true))
+returns_3 : tie.Need-returns-3
+returns_3 c = rw (c.before.before.before.before.before.l.given.1, c.before.before.r.given.1) (simp (lt-ltb _ _ c.if1.true))
 
-returns-4 : tie.Need-returns-4
-returns-4 c = rw (c.before.before.before.before.before.l.given.1, c.before.before.r.given.1) (simp (le-ltb _ _ c.if1.false))
+returns_4 : tie.Need-returns-4
+returns_4 c = rw (c.before.before.before.before.before.l.given.1, c.before.before.r.given.1) (simp (le-ltb _ _ c.if1.false))
 
 pub ordered-spec : {M : Type 1} → statement M
 ordered-spec =
@@ -36,6 +36,6 @@ ordered-spec =
     returns
     enum-known-r
     enum-told-2
-    returns-2
-    returns-3
-    returns-4)
+    returns_2
+    returns_3
+    returns_4)

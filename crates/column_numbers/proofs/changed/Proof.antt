@@ -15,8 +15,8 @@ right-requires c κs = search rules
 enum-known-k-2 : tie.Need-enum-known-k-2
 enum-known-k-2 c = search rules
 
-joined-requires : tie.Need-joined-requires
-joined-requires c κs = subst (λ (x : Change). Room x c.before.before.before.args.c) c.before.k2.given.1 c.before.before.before.requires
+joined_requires : tie.Need-joined-requires
+joined_requires c κs = subst (λ (x : Change). Room x c.before.before.before.args.c) c.before.k2.given.1 c.before.before.before.requires
 
 enum-known-k-3 : tie.Need-enum-known-k-3
 enum-known-k-3 c = search rules
@@ -24,14 +24,14 @@ enum-known-k-3 c = search rules
 returns : tie.Need-returns
 returns c = rw c.before.before.k3.given.1 (simp (eq-eqb _ _ c.if1.true))
 
-returns-2 : tie.Need-returns-2
-returns-2 c = rw c.before.before.k.given.1 c.right.ensures
+returns_2 : tie.Need-returns-2
+returns_2 c = rw c.before.before.k.given.1 c.right.ensures
 
-returns-3 : tie.Need-returns-3
-returns-3 c = rw c.before.before.k2.given.1 c.joined.ensures
+returns_3 : tie.Need-returns-3
+returns_3 c = rw c.before.before.k2.given.1 c.joined.ensures
 
-returns-4 : tie.Need-returns-4
-returns-4 c = rw c.before.before.k3.given.1 (simp (ne_eqb _ _ c.if1.false))
+returns_4 : tie.Need-returns-4
+returns_4 c = rw c.before.before.k3.given.1 (simp (ne_eqb _ _ c.if1.false))
 
 pub changed-spec : {M : Type 1} → statement M
 changed-spec =
@@ -40,9 +40,9 @@ changed-spec =
     enum-known-k
     right-requires
     enum-known-k-2
-    joined-requires
+    joined_requires
     enum-known-k-3
     returns
-    returns-2
-    returns-3
-    returns-4)
+    returns_2
+    returns_3
+    returns_4)

@@ -5,8 +5,8 @@ use Rattle.column_numbers.proofs.column_refers.Tie as tie
 returns : tie.Need-returns
 returns c = simp (lt-ltb _ _ c.if1.true)
 
-returns-2 : tie.Need-returns-2
-returns-2 c = simp (le-ltb _ _ c.if1.false)
+returns_2 : tie.Need-returns-2
+returns_2 c = simp (le-ltb _ _ c.if1.false)
 
 pub column-refers-spec : {M : Type 1} → statement M
-column-refers-spec = tie.close (tie.spec returns returns-2)
+column-refers-spec = tie.close (tie.spec returns returns_2)

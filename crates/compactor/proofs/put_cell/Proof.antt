@@ -4,14 +4,14 @@ use borrow.Author.Rules.{rules}
 use mathlib.Core.Path.{◌≡◌, refl, sym, ap, ap₂, ◌∙◌, subst}
 use mathlib.Core.List.{List, [], ◌∷◌, ◌++◌, map}
 use lib.ListN.{length, take, drop, get_or, set, length-set}
-use Rattle.compactor.proofs.Laws.{cell-put, field-few}
+use Rattle.compactor.proofs.Laws.{cell_put, field_few}
 use mathlib.Core.Bool.{Bool, true, false}
 use Rattle.encode.specs.Encode.{written}
 use Rattle.gather.specs.Gather.{stretch, held}
 use Rattle.compact.specs.Strings.{joined}
-use Rattle.compact.specs.Slots.{Slot, record-slots, cell-slots, in-each, references, slot-bytes}
+use Rattle.compact.specs.Slots.{Slot, record_slots, cell_slots, in_each, references, slot_bytes}
 use Rattle.compactor.specs.Compactor.{fill}
-use Rattle.text_references.specs.Asks.{if-refers}
+use Rattle.text_references.specs.Asks.{if_refers}
 use Rattle.compactor.proofs.put_cell.Statement.{statement}
 use Rattle.compactor.proofs.put_cell.Tie as tie
 use Rattle.compactor.proofs.put_cell.Reads as reads
@@ -22,8 +22,8 @@ use Rattle.layout.proofs.cell_from.Reads as cell-from-reads
 use Rattle.text_references.proofs.a_refers.Reads as a-refers-reads
 use Rattle.text_references.proofs.b_refers.Reads as b-refers-reads
 
-cell-from-requires : tie.Need-cell-from-requires
-cell-from-requires c κs = search rules
+cell_from_requires : tie.Need-cell-from-requires
+cell_from_requires c κs = search rules
 
 a-refers-requires : tie.Need-a-refers-requires
 a-refers-requires c κs = search rules
@@ -41,7 +41,7 @@ add-put-field : tie.Need-overflow-add-put-field
 add-put-field c = omega (arith, c.before.before.before.before.before.before.before.before.before.before.before.before.before.before.before.requires.1.1, c.before.before.before.before.before.before.before.copy.ensures.0, c.before.before.before.before.before.before.before.before.before.before.before.before.before.before.before.well-formed)
 
 put-field-requires-2 : tie.Need-put-field-requires-2
-put-field-requires-2 c κs = (omega (arith, c.before.before.before.before.before.before.before.before.before.before.before.before.before.before.before.requires.1.0, c.before.before.before.put-field.ensures.0, field-few c.before.before.before.before.before.before.before.before.before.before.a-refers.result c.before.before.before.before.before.before.before.before.before.before.before.cell-from.result.a), omega (arith, c.before.before.before.before.before.before.before.before.before.before.before.before.before.before.before.requires.1.1, c.before.before.before.before.before.before.before.copy.ensures.0, c.before.before.before.before.before.before.before.copy.auto.1.1.1.0, c.before.before.before.put-field.auto.1.1.1.1.0))
+put-field-requires-2 c κs = (omega (arith, c.before.before.before.before.before.before.before.before.before.before.before.before.before.before.before.requires.1.0, c.before.before.before.put-field.ensures.0, field_few c.before.before.before.before.before.before.before.before.before.before.a-refers.result c.before.before.before.before.before.before.before.before.before.before.before.cell-from.result.a), omega (arith, c.before.before.before.before.before.before.before.before.before.before.before.before.before.before.before.requires.1.1, c.before.before.before.before.before.before.before.copy.ensures.0, c.before.before.before.before.before.before.before.copy.auto.1.1.1.0, c.before.before.before.put-field.auto.1.1.1.1.0))
 
 add-copy : tie.Need-overflow-add-copy
 add-copy c = omega (arith, c.before.before.before.before.before.before.before.before.before.before.before.before.before.before.before.before.before.before.requires.0, c.before.before.before.before.before.before.before.before.before.before.before.before.before.before.before.before.before.before.well-formed)
@@ -56,13 +56,13 @@ same_length : tie.Need-same-length
 same_length c = search rules
 
 returns : tie.Need-returns
-returns c = cell-put c.before.before.before.before.before.before.before.before.before.before.before.before.before.before.before.before.before.before.before.before.before.before.args.s.now (λ i. omega (arith, c.before.before.before.before.before.before.before.before.before.before.before.before.before.before.before.before.before.before.before.before.before.shared-slice-known.given i)) c.before.before.before.before.before.before.before.before.before.before.before.before.before.before.before.before.before.before.before.before.before.before.args.p c.before.before.before.before.before.before.before.before.before.before.before.before.before.before.before.before.before.before.cell-from.result c.before.before.before.before.before.before.before.before.before.before.before.before.before.before.before.before.before.before.before.before.before.before.args.fresh.now c.before.before.before.before.before.before.before.before.before.before.before.before.before.before.before.before.before.before.before.before.before.before.args.out.now _ _ _ _ c.before.before.before.before.before.before.before.before.before.before.before.before.before.before.before.before.before.before.before.before.before.before.args.j c.before.before.before.before.before.before.before.before.before.before.before.before.before.before.before.before.before.before.before.before.before.before.args.at c.before.before.before.before.before.before.before.before.before.before.before.before.before.before.before.before.before.before.cell-from.ensures c.before.before.before.before.before.before.before.before.before.before.before.before.before.before.before.before.before.a-refers.ensures c.before.before.before.before.before.before.before.before.before.before.before.before.before.before.before.before.b-refers.ensures c.before.before.before.before.before.before.before.before.before.before.before.before.before.before.before.before.before.before.before.before.before.before.requires.0 c.before.before.before.before.before.before.before.before.before.before.before.before.before.before.before.before.before.before.before.before.before.before.requires.1.1 c.before.before.before.before.before.before.before.before.before.before.before.before.before.before.copy.ensures c.before.before.before.before.before.before.before.before.before.before.put-field.ensures c.before.before.before.before.before.before.put-field2.ensures c.before.before.copy2.ensures
+returns c = cell_put c.before.before.before.before.before.before.before.before.before.before.before.before.before.before.before.before.before.before.before.before.before.before.args.s.now (λ i. omega (arith, c.before.before.before.before.before.before.before.before.before.before.before.before.before.before.before.before.before.before.before.before.before.shared-slice-known.given i)) c.before.before.before.before.before.before.before.before.before.before.before.before.before.before.before.before.before.before.before.before.before.before.args.p c.before.before.before.before.before.before.before.before.before.before.before.before.before.before.before.before.before.before.cell-from.result c.before.before.before.before.before.before.before.before.before.before.before.before.before.before.before.before.before.before.before.before.before.before.args.fresh.now c.before.before.before.before.before.before.before.before.before.before.before.before.before.before.before.before.before.before.before.before.before.before.args.out.now _ _ _ _ c.before.before.before.before.before.before.before.before.before.before.before.before.before.before.before.before.before.before.before.before.before.before.args.j c.before.before.before.before.before.before.before.before.before.before.before.before.before.before.before.before.before.before.before.before.before.before.args.at c.before.before.before.before.before.before.before.before.before.before.before.before.before.before.before.before.before.before.cell-from.ensures c.before.before.before.before.before.before.before.before.before.before.before.before.before.before.before.before.before.a-refers.ensures c.before.before.before.before.before.before.before.before.before.before.before.before.before.before.before.before.b-refers.ensures c.before.before.before.before.before.before.before.before.before.before.before.before.before.before.before.before.before.before.before.before.before.before.requires.0 c.before.before.before.before.before.before.before.before.before.before.before.before.before.before.before.before.before.before.before.before.before.before.requires.1.1 c.before.before.before.before.before.before.before.before.before.before.before.before.before.before.copy.ensures c.before.before.before.before.before.before.before.before.before.before.put-field.ensures c.before.before.before.before.before.before.put-field2.ensures c.before.before.copy2.ensures
 
 pub put-cell-spec : {M : Type 1} → statement M
 put-cell-spec =
     tie.close
     (tie.spec
-    cell-from-requires
+    cell_from_requires
     a-refers-requires
     b-refers-requires
     copy-requires

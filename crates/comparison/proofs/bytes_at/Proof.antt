@@ -35,8 +35,8 @@ part-result-start-2 c = search rules
 part-result-end-2 : tie.Need-slice-bounds-result-end-2
 part-result-end-2 c = search rules
 
-returns-2 : tie.Need-returns-2
-returns-2 c = past c.before.before.before.args.text.now (c.before.before.before.args.reference % 65536) (c.before.before.before.args.reference / 65536) c.before.if2.true
+returns_2 : tie.Need-returns-2
+returns_2 c = past c.before.before.before.args.text.now (c.before.before.before.args.reference % 65536) (c.before.before.before.args.reference / 65536) c.before.if2.true
 
 add-end : tie.Need-overflow-add-end
 add-end c = search rules
@@ -50,8 +50,8 @@ part-result-start-3 c = search rules
 part-result-end-3 : tie.Need-slice-bounds-result-end-3
 part-result-end-3 c = search rules
 
-returns-3 : tie.Need-returns-3
-returns-3 c = inside c.before.before.before.args.text.now (c.before.before.before.args.reference % 65536) (c.before.before.before.args.reference / 65536)
+returns_3 : tie.Need-returns-3
+returns_3 c = inside c.before.before.before.args.text.now (c.before.before.before.args.reference % 65536) (c.before.before.before.args.reference / 65536)
 
 pub bytes-at-spec : {M : Type 1} → statement M
 bytes-at-spec =
@@ -67,9 +67,9 @@ bytes-at-spec =
     sub-result-2
     part-result-start-2
     part-result-end-2
-    returns-2
+    returns_2
     add-end
     sub-result-3
     part-result-start-3
     part-result-end-3
-    returns-3)
+    returns_3)

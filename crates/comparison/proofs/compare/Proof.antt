@@ -38,17 +38,17 @@ compare-string-requires c κs = search rules
 returns : tie.Need-returns
 returns c = rw c.enum_told.given.1
 
-returns-2 : tie.Need-returns-2
-returns-2 c = rw c.before.before.lhs.given.1 (c.compare-boolean.ensures c.before.before.before.before.before.args.text.now)
+returns_2 : tie.Need-returns-2
+returns_2 c = rw c.before.before.lhs.given.1 (c.compare-boolean.ensures c.before.before.before.before.before.args.text.now)
 
-returns-3 : tie.Need-returns-3
-returns-3 c =
+returns_3 : tie.Need-returns-3
+returns_3 c =
     rw c.before.before.lhs2.given.1
     (c.compare-integer.ensures c.before.before.before.before.before.args.text.now
     ∙ ap (λ i. compare (datum (integer i)) (meaning c.before.before.before.before.before.args.text.now c.before.before.before.before.before.args.rhs)) (read_back c.before.before.lhs2.given.0.0 c.before.known-told2.given.0.1))
 
-returns-4 : tie.Need-returns-4
-returns-4 c = rw c.before.before.lhs3.given.1 (c.compare-float.ensures c.before.before.before.before.before.args.text.now)
+returns_4 : tie.Need-returns-4
+returns_4 c = rw c.before.before.lhs3.given.1 (c.compare-float.ensures c.before.before.before.before.before.args.text.now)
 
 returns-5 : tie.Need-returns-5
 returns-5 c = rw c.before.before.lhs4.given.1 c.compare-string.ensures
@@ -67,7 +67,7 @@ compare-spec =
     enum-known-lhs-4
     compare-string-requires
     returns
-    returns-2
-    returns-3
-    returns-4
+    returns_2
+    returns_3
+    returns_4
     returns-5)

@@ -26,11 +26,11 @@ less false false h t = absurd (false≢true (sym h))
 returns : tie.Need-returns
 returns c = equals c.before.args.a c.before.args.b c.if1.true
 
-returns-2 : tie.Need-returns-2
-returns-2 c = greater c.before.before.args.a c.before.before.args.b c.before.if1.false c.if2.true
+returns_2 : tie.Need-returns-2
+returns_2 c = greater c.before.before.args.a c.before.before.args.b c.before.if1.false c.if2.true
 
-returns-3 : tie.Need-returns-3
-returns-3 c = less c.before.before.args.a c.before.before.args.b c.before.if1.false c.if2.false
+returns_3 : tie.Need-returns-3
+returns_3 c = less c.before.before.args.a c.before.before.args.b c.before.if1.false c.if2.false
 
 pub compare-booleans-spec : {M : Type 1} → statement M
-compare-booleans-spec = tie.close (tie.spec returns returns-2 returns-3)
+compare-booleans-spec = tie.close (tie.spec returns returns_2 returns_3)

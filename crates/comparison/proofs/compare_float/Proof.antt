@@ -4,9 +4,9 @@ use lib.Ieee as Ieee
 use lib.Ieee.{binary64}
 use borrow.Author.Rules.{rules}
 use Rattle.value.proofs.Laws.{kept, read_back}
-use Rattle.comparison.proofs.Laws.{datum-boolean}
+use Rattle.comparison.proofs.Laws.{datum_boolean}
 use Rattle.value.specs.Value.{float}
-use Rattle.value.specs.Comparison.{Found, compare-floats}
+use Rattle.value.specs.Comparison.{Found, compare_floats}
 use Rattle.comparison.proofs.compare_float.Statement.{statement}
 use Rattle.comparison.proofs.compare_float.Tie as tie
 
@@ -37,22 +37,22 @@ enum-told-3 c = search rules
 returns : tie.Need-returns
 returns c text = rw c.enum_told.given.1
 
-returns-2 : tie.Need-returns-2
-returns-2 c text =
+returns_2 : tie.Need-returns-2
+returns_2 c text =
     rw c.before.before.before.rhs.given.1
     (ap Found
     (c.compare-floats.ensures
-    ∙ ap₂ compare-floats (sym (kept c.before.before.before.before.before.args.x c.before.before.before.before.before.well-formed.0.1)) (rw (read_back c.before.before.before.rhs.given.0.0 c.before.before.known-told.given.0.1) at c.before.nearest-f64.ensures.of-int)))
+    ∙ ap₂ compare_floats (sym (kept c.before.before.before.before.before.args.x c.before.before.before.before.before.well-formed.0.1)) (rw (read_back c.before.before.before.rhs.given.0.0 c.before.before.known-told.given.0.1) at c.before.nearest-f64.ensures.of-int)))
 
-returns-3 : tie.Need-returns-3
-returns-3 c text =
+returns_3 : tie.Need-returns-3
+returns_3 c text =
     rw c.before.before.rhs2.given.1
     (ap Found
     (c.compare-floats2.ensures
-    ∙ ap₂ compare-floats (sym (kept c.before.before.before.before.args.x c.before.before.before.before.well-formed.0.1)) (sym (kept c.before.before.rhs2.given.0.0 c.before.known-told2.given.0.1))))
+    ∙ ap₂ compare_floats (sym (kept c.before.before.before.before.args.x c.before.before.before.before.well-formed.0.1)) (sym (kept c.before.before.rhs2.given.0.0 c.before.known-told2.given.0.1))))
 
-returns-4 : tie.Need-returns-4
-returns-4 c text = rw c.enum-told2.given.1 (datum-boolean (float (Ieee.to_bits binary64 c.before.before.args.x)) c.enum-told2.given.0.0)
+returns_4 : tie.Need-returns-4
+returns_4 c text = rw c.enum-told2.given.1 (datum_boolean (float (Ieee.to_bits binary64 c.before.before.args.x)) c.enum-told2.given.0.0)
 
 returns-5 : tie.Need-returns-5
 returns-5 c text = rw c.enum-told3.given.1
@@ -70,7 +70,7 @@ compare-float-spec =
     enum-told-2
     enum-told-3
     returns
-    returns-2
-    returns-3
-    returns-4
+    returns_2
+    returns_3
+    returns_4
     returns-5)

@@ -4,9 +4,9 @@ use mir.ValLaws.{to_z-of_z}
 use mir.Syntax.{w64}
 use borrow.Author.Rules.{rules}
 use Rattle.value.proofs.Laws.{kept, read_back}
-use Rattle.comparison.proofs.Laws.{datum-boolean}
+use Rattle.comparison.proofs.Laws.{datum_boolean}
 use Rattle.value.specs.Value.{integer}
-use Rattle.value.specs.Comparison.{Found, compare-integers, compare-floats}
+use Rattle.value.specs.Comparison.{Found, compare_integers, compare_floats}
 use Rattle.comparison.proofs.compare_integer.Statement.{statement}
 use Rattle.comparison.proofs.compare_integer.Tie as tie
 
@@ -37,20 +37,20 @@ enum-told-3 c = search rules
 returns : tie.Need-returns
 returns c text = rw c.enum_told.given.1
 
-returns-2 : tie.Need-returns-2
-returns-2 c text =
+returns_2 : tie.Need-returns-2
+returns_2 c text =
     rw c.before.before.rhs.given.1
-    (ap Found (c.compare-integers.ensures ∙ ap₂ compare-integers (to_z-of_z w64 c.before.before.before.before.args.a c.before.before.before.before.ranges.a) (read_back c.before.before.rhs.given.0.0 c.before.known-told.given.0.1)))
+    (ap Found (c.compare-integers.ensures ∙ ap₂ compare_integers (to_z-of_z w64 c.before.before.before.before.args.a c.before.before.before.before.ranges.a) (read_back c.before.before.rhs.given.0.0 c.before.known-told.given.0.1)))
 
-returns-3 : tie.Need-returns-3
-returns-3 c text =
+returns_3 : tie.Need-returns-3
+returns_3 c text =
     rw c.before.before.before.rhs2.given.1
     (ap Found
     (c.compare-floats.ensures
-    ∙ ap₂ compare-floats (rw (to_z-of_z w64 c.before.before.before.before.before.args.a c.before.before.before.before.before.ranges.a) at c.before.nearest-f64.ensures.of-int) (sym (kept c.before.before.before.rhs2.given.0.0 c.before.before.known-told2.given.0.1))))
+    ∙ ap₂ compare_floats (rw (to_z-of_z w64 c.before.before.before.before.before.args.a c.before.before.before.before.before.ranges.a) at c.before.nearest-f64.ensures.of-int) (sym (kept c.before.before.before.rhs2.given.0.0 c.before.before.known-told2.given.0.1))))
 
-returns-4 : tie.Need-returns-4
-returns-4 c text = rw c.enum-told2.given.1 (datum-boolean (integer c.before.before.args.a) c.enum-told2.given.0.0)
+returns_4 : tie.Need-returns-4
+returns_4 c text = rw c.enum-told2.given.1 (datum_boolean (integer c.before.before.args.a) c.enum-told2.given.0.0)
 
 returns-5 : tie.Need-returns-5
 returns-5 c text = rw c.enum-told3.given.1
@@ -68,7 +68,7 @@ compare-integer-spec =
     enum-told-2
     enum-told-3
     returns
-    returns-2
-    returns-3
-    returns-4
+    returns_2
+    returns_3
+    returns_4
     returns-5)

@@ -1,10 +1,10 @@
 -- `comparison::compare_string` meets its contract.
 use mathlib.Core.Path.{ap, ap₂, ◌∙◌}
 use borrow.Author.Rules.{rules}
-use Rattle.comparison.proofs.Laws.{datum-boolean}
+use Rattle.comparison.proofs.Laws.{datum_boolean}
 use Rattle.value.specs.Value.{string}
-use Rattle.value.specs.Meaning.{bytes-at}
-use Rattle.value.specs.Comparison.{Found, compare-bytes}
+use Rattle.value.specs.Meaning.{bytes_at}
+use Rattle.value.specs.Comparison.{Found, compare_bytes}
 use Rattle.comparison.proofs.compare_string.Statement.{statement}
 use Rattle.comparison.proofs.compare_string.Tie as tie
 
@@ -35,16 +35,16 @@ enum-told-4 c = search rules
 returns : tie.Need-returns
 returns c = rw c.enum_told.given.1
 
-returns-2 : tie.Need-returns-2
-returns-2 c =
+returns_2 : tie.Need-returns-2
+returns_2 c =
     rw c.before.before.before.before.rhs.given.1
-    (ap Found (c.compare-bytes.ensures ∙ ap₂ compare-bytes c.before.before.bytes-at.ensures c.before.bytes-at2.ensures))
+    (ap Found (c.compare-bytes.ensures ∙ ap₂ compare_bytes c.before.before.bytes-at.ensures c.before.bytes-at2.ensures))
 
-returns-3 : tie.Need-returns-3
-returns-3 c = rw c.enum-told2.given.1 (datum-boolean (string c.before.before.before.args.a (bytes-at c.before.before.before.args.text.now c.before.before.before.args.a)) c.enum-told2.given.0.0)
+returns_3 : tie.Need-returns-3
+returns_3 c = rw c.enum-told2.given.1 (datum_boolean (string c.before.before.before.args.a (bytes_at c.before.before.before.args.text.now c.before.before.before.args.a)) c.enum-told2.given.0.0)
 
-returns-4 : tie.Need-returns-4
-returns-4 c = rw c.enum-told3.given.1
+returns_4 : tie.Need-returns-4
+returns_4 c = rw c.enum-told3.given.1
 
 returns-5 : tie.Need-returns-5
 returns-5 c = rw c.enum-told4.given.1
@@ -62,7 +62,7 @@ compare-string-spec =
     enum-told-3
     enum-told-4
     returns
-    returns-2
-    returns-3
-    returns-4
+    returns_2
+    returns_3
+    returns_4
     returns-5)

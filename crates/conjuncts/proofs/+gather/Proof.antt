@@ -1,5 +1,5 @@
-use Rattle.conjuncts.proofs.Walking.{walk-and, walk-one, chosen-here, not_chosen}
-use Rattle.conjuncts.proofs.Appending.{gathered-each}
+use Rattle.conjuncts.proofs.Walking.{walk_and, walk_one, chosen_here, not_chosen}
+use Rattle.conjuncts.proofs.Appending.{gathered_each}
 use Rattle.conjuncts.specs.Conjuncts.{chosen}
 use Rattle.sql.specs.Expression.{ands}
 use Rattle.sql.specs.Optimizer.{flat_map}
@@ -25,66 +25,66 @@ use Rattle.conjuncts.proofs.+gather.Tie.{close}
 abbrev μ-gather : Measures 2 gather-kinds.ps ℕ
 μ-gather κs a = a.1.1.0 - a.1.0
 
-abbrev gather-at : ℕ → In 2 gather-kinds.ps
-gather-at t = and 2 gather-kinds.ps (is 2 gather-kinds.ps μ-gather t) gather.Pre
+abbrev gather_at : ℕ → In 2 gather-kinds.ps
+gather_at t = and 2 gather-kinds.ps (is 2 gather-kinds.ps μ-gather t) gather.Pre
 
-abbrev gather-below : ℕ → In 2 gather-kinds.ps
-gather-below t = and 2 gather-kinds.ps (falls 2 gather-kinds.ps ◌<◌ μ-gather t) gather.Pre
+abbrev gather_below : ℕ → In 2 gather-kinds.ps
+gather_below t = and 2 gather-kinds.ps (falls 2 gather-kinds.ps ◌<◌ μ-gather t) gather.Pre
 
-abbrev gather-claims : ℕ → gather-lts.Claims
-gather-claims t = (tag-at-reads.Asked, tag-at-reads.Learnt, start-reads.Asked, start-reads.Learnt, gather-below t, gather.Post, refers-reads.Asked, refers-reads.Learnt, goes-reads.Asked, goes-reads.Learnt, append-reads.Asked, append-reads.Learnt)
+abbrev gather_claims : ℕ → gather-lts.Claims
+gather_claims t = (tag-at-reads.Asked, tag-at-reads.Learnt, start-reads.Asked, start-reads.Learnt, gather_below t, gather.Post, refers-reads.Asked, refers-reads.Learnt, goes-reads.Asked, goes-reads.Learnt, append-reads.Asked, append-reads.Learnt)
 
-gather-tag-at-requires : (t : ℕ) → gather-lts.Need-tag-at-requires (gather-claims t) (gather-at t) gather.Post
-gather-tag-at-requires t c κs = let (h, k) = at_in c.before.before.requires.1.0 in (omega arith, k)
+gather_tag_at_requires : (t : ℕ) → gather-lts.Need-tag-at-requires (gather_claims t) (gather_at t) gather.Post
+gather_tag_at_requires t c κs = let (h, k) = at_in c.before.before.requires.1.0 in (omega arith, k)
 
-gather-sub-end : (t : ℕ) → gather-lts.Need-overflow-sub-end (gather-claims t) (gather-at t) gather.Post
-gather-sub-end t c = let (h, k) = at_in c.before.before.before.before.requires.1.0 in omega arith
+gather_sub_end : (t : ℕ) → gather-lts.Need-overflow-sub-end (gather_claims t) (gather_at t) gather.Post
+gather_sub_end t c = let (h, k) = at_in c.before.before.before.before.requires.1.0 in omega arith
 
-gather-start-requires : (t : ℕ) → gather-lts.Need-start-requires (gather-claims t) (gather-at t) gather.Post
-gather-start-requires t c κs = at_last (omega (arith, c.before.tag_at.ensures, c.if1.true)) (omega (arith, c.before.tag_at.ensures, c.if1.true)) c.before.before.before.before.requires.1.0
+gather_start_requires : (t : ℕ) → gather-lts.Need-start-requires (gather_claims t) (gather_at t) gather.Post
+gather_start_requires t c κs = at_last (omega (arith, c.before.tag_at.ensures, c.if1.true)) (omega (arith, c.before.tag_at.ensures, c.if1.true)) c.before.before.before.before.requires.1.0
 
-gather-gather-requires : (t : ℕ) → gather-lts.Need-gather-requires (gather-claims t) (gather-at t) gather.Post
-gather-gather-requires t c κs = let e = c.before.before.before.tag_at.ensures in let g : 10 ≤ tag_at c.before.before.before.before.before.before.args.s.now c.before.before.before.before.before.before.args.hi = omega (arith, e, c.before.before.if1.true) in let f : tag_at c.before.before.before.before.before.before.args.s.now c.before.before.before.before.before.before.args.hi < 30 = omega (arith, e, c.before.before.if1.true) in let l = at_left g f c.before.start.ensures c.before.before.before.before.before.before.requires.1.0 in let r = at_right g f c.before.start.ensures c.before.before.before.before.before.before.requires.1.0 in let (h, k) = at_in r in let (h', k') = at_in l in (omega (arith, c.before.before.before.before.before.before.requires.0), (l, c.before.before.before.before.before.before.requires.1.1))
+gather_gather_requires : (t : ℕ) → gather-lts.Need-gather-requires (gather_claims t) (gather_at t) gather.Post
+gather_gather_requires t c κs = let e = c.before.before.before.tag_at.ensures in let g : 10 ≤ tag_at c.before.before.before.before.before.before.args.s.now c.before.before.before.before.before.before.args.hi = omega (arith, e, c.before.before.if1.true) in let f : tag_at c.before.before.before.before.before.before.args.s.now c.before.before.before.before.before.before.args.hi < 30 = omega (arith, e, c.before.before.if1.true) in let l = at_left g f c.before.start.ensures c.before.before.before.before.before.before.requires.1.0 in let r = at_right g f c.before.start.ensures c.before.before.before.before.before.before.requires.1.0 in let (h, k) = at_in r in let (h', k') = at_in l in (omega (arith, c.before.before.before.before.before.before.requires.0), (l, c.before.before.before.before.before.before.requires.1.1))
 
-gather-gather-requires-2 : (t : ℕ) → gather-lts.Need-gather-requires-2 (gather-claims t) (gather-at t) gather.Post
-gather-gather-requires-2 t c κs = let e = c.before.before.before.before.before.before.before.tag_at.ensures in let g : 10 ≤ tag_at c.before.before.before.before.before.before.before.before.before.before.args.s.now c.before.before.before.before.before.before.before.before.before.before.args.hi = omega (arith, e, c.before.before.before.before.before.before.if1.true) in let f : tag_at c.before.before.before.before.before.before.before.before.before.before.args.s.now c.before.before.before.before.before.before.before.before.before.before.args.hi < 30 = omega (arith, e, c.before.before.before.before.before.before.if1.true) in let l = at_left g f c.before.before.before.before.before.start.ensures c.before.before.before.before.before.before.before.before.before.before.requires.1.0 in let r = at_right g f c.before.before.before.before.before.start.ensures c.before.before.before.before.before.before.before.before.before.before.requires.1.0 in let (h, k) = at_in r in let (h', k') = at_in l in (omega (arith, c.before.before.before.before.before.before.before.before.before.before.requires.0), (r, gathered-each c.before.before.before.before.before.before.before.before.before.before.requires.1.1 c.before.before.before.gather.auto.1.1.1.0 l c.before.before.before.before.before.before.before.before.before.before.args.origin (λ e. flat_map (chosen c.before.before.before.before.before.before.before.before.before.before.args.to c.before.before.before.before.before.before.before.before.before.before.args.n c.before.before.before.before.before.before.before.before.before.before.args.shift) (ands e)) c.before.before.before.gather.ensures))
+gather_gather_requires_2 : (t : ℕ) → gather-lts.Need-gather-requires-2 (gather_claims t) (gather_at t) gather.Post
+gather_gather_requires_2 t c κs = let e = c.before.before.before.before.before.before.before.tag_at.ensures in let g : 10 ≤ tag_at c.before.before.before.before.before.before.before.before.before.before.args.s.now c.before.before.before.before.before.before.before.before.before.before.args.hi = omega (arith, e, c.before.before.before.before.before.before.if1.true) in let f : tag_at c.before.before.before.before.before.before.before.before.before.before.args.s.now c.before.before.before.before.before.before.before.before.before.before.args.hi < 30 = omega (arith, e, c.before.before.before.before.before.before.if1.true) in let l = at_left g f c.before.before.before.before.before.start.ensures c.before.before.before.before.before.before.before.before.before.before.requires.1.0 in let r = at_right g f c.before.before.before.before.before.start.ensures c.before.before.before.before.before.before.before.before.before.before.requires.1.0 in let (h, k) = at_in r in let (h', k') = at_in l in (omega (arith, c.before.before.before.before.before.before.before.before.before.before.requires.0), (r, gathered_each c.before.before.before.before.before.before.before.before.before.before.requires.1.1 c.before.before.before.gather.auto.1.1.1.0 l c.before.before.before.before.before.before.before.before.before.before.args.origin (λ e. flat_map (chosen c.before.before.before.before.before.before.before.before.before.before.args.to c.before.before.before.before.before.before.before.before.before.before.args.n c.before.before.before.before.before.before.before.before.before.before.args.shift) (ands e)) c.before.before.before.gather.ensures))
 
-gather-same-length : (t : ℕ) → gather-lts.Need-same-length (gather-claims t) (gather-at t) gather.Post
-gather-same-length t c = search rules
+gather_same_length : (t : ℕ) → gather-lts.Need-same-length (gather_claims t) (gather_at t) gather.Post
+gather_same_length t c = search rules
 
-gather-returns : (t : ℕ) → gather-lts.Need-returns (gather-claims t) (gather-at t) gather.Post
-gather-returns t c = walk-and c.before.before.before.before.before.before.before.before.before.before.before.before.before.args.origin (chosen c.before.before.before.before.before.before.before.before.before.before.before.before.before.args.to c.before.before.before.before.before.before.before.before.before.before.before.before.before.args.n c.before.before.before.before.before.before.before.before.before.before.before.before.before.args.shift) c.before.before.before.before.before.before.gather.auto.1.1.1.0 c.before.before.before.before.before.before.before.before.start.ensures (sym c.before.before.before.before.before.before.before.before.before.before.tag_at.ensures ∙ c.before.before.before.before.before.before.before.before.before.if1.true) c.before.before.before.before.before.before.gather.ensures c.before.before.gather2.ensures
+gather_returns : (t : ℕ) → gather-lts.Need-returns (gather_claims t) (gather_at t) gather.Post
+gather_returns t c = walk_and c.before.before.before.before.before.before.before.before.before.before.before.before.before.args.origin (chosen c.before.before.before.before.before.before.before.before.before.before.before.before.before.args.to c.before.before.before.before.before.before.before.before.before.before.before.before.before.args.n c.before.before.before.before.before.before.before.before.before.before.before.before.before.args.shift) c.before.before.before.before.before.before.gather.auto.1.1.1.0 c.before.before.before.before.before.before.before.before.start.ensures (sym c.before.before.before.before.before.before.before.before.before.before.tag_at.ensures ∙ c.before.before.before.before.before.before.before.before.before.if1.true) c.before.before.before.before.before.before.gather.ensures c.before.before.gather2.ensures
 
-gather-refers-requires : (t : ℕ) → gather-lts.Need-refers-requires (gather-claims t) (gather-at t) gather.Post
-gather-refers-requires t c κs = c.before.before.before.before.requires.1.0
+gather_refers_requires : (t : ℕ) → gather-lts.Need-refers-requires (gather_claims t) (gather_at t) gather.Post
+gather_refers_requires t c κs = c.before.before.before.before.requires.1.0
 
-gather-goes-requires : (t : ℕ) → gather-lts.Need-goes-requires (gather-claims t) (gather-at t) gather.Post
-gather-goes-requires t c κs = search rules
+gather_goes_requires : (t : ℕ) → gather-lts.Need-goes-requires (gather_claims t) (gather_at t) gather.Post
+gather_goes_requires t c κs = search rules
 
-gather-append-requires : (t : ℕ) → gather-lts.Need-append-requires (gather-claims t) (gather-at t) gather.Post
-gather-append-requires t c κs = c.before.before.before.before.before.before.before.before.requires.1
+gather_append_requires : (t : ℕ) → gather-lts.Need-append-requires (gather_claims t) (gather_at t) gather.Post
+gather_append_requires t c κs = c.before.before.before.before.before.before.before.before.requires.1
 
-gather-same-length-2 : (t : ℕ) → gather-lts.Need-same-length-2 (gather-claims t) (gather-at t) gather.Post
-gather-same-length-2 t c = search rules
+gather_same_length_2 : (t : ℕ) → gather-lts.Need-same-length-2 (gather_claims t) (gather_at t) gather.Post
+gather_same_length_2 t c = search rules
 
-gather-returns-2 : (t : ℕ) → gather-lts.Need-returns-2 (gather-claims t) (gather-at t) gather.Post
-gather-returns-2 t c = walk-one c.before.before.before.before.before.before.before.before.before.before.before.args.origin (chosen c.before.before.before.before.before.before.before.before.before.before.before.args.to c.before.before.before.before.before.before.before.before.before.before.before.args.n c.before.before.before.before.before.before.before.before.before.before.before.args.shift) (λ z. c.before.before.before.before.before.before.before.if1.false (c.before.before.before.before.before.before.before.before.tag_at.ensures ∙ z)) (chosen-here c.before.before.before.before.before.before.before.before.before.before.before.args.to c.before.before.before.before.before.before.before.before.before.before.before.args.n c.before.before.before.before.before.before.before.before.before.before.before.args.shift c.before.before.before.before.before.goes.ensures c.before.before.before.before.before.before.refers.ensures c.before.before.before.before.before.before.before.before.before.before.before.args.origin c.before.before.before.before.if2.true c.before.before.append.ensures)
+gather_returns_2 : (t : ℕ) → gather-lts.Need-returns-2 (gather_claims t) (gather_at t) gather.Post
+gather_returns_2 t c = walk_one c.before.before.before.before.before.before.before.before.before.before.before.args.origin (chosen c.before.before.before.before.before.before.before.before.before.before.before.args.to c.before.before.before.before.before.before.before.before.before.before.before.args.n c.before.before.before.before.before.before.before.before.before.before.before.args.shift) (λ z. c.before.before.before.before.before.before.before.if1.false (c.before.before.before.before.before.before.before.before.tag_at.ensures ∙ z)) (chosen_here c.before.before.before.before.before.before.before.before.before.before.before.args.to c.before.before.before.before.before.before.before.before.before.before.before.args.n c.before.before.before.before.before.before.before.before.before.before.before.args.shift c.before.before.before.before.before.goes.ensures c.before.before.before.before.before.before.refers.ensures c.before.before.before.before.before.before.before.before.before.before.before.args.origin c.before.before.before.before.if2.true c.before.before.append.ensures)
 
-gather-returns-3 : (t : ℕ) → gather-lts.Need-returns-3 (gather-claims t) (gather-at t) gather.Post
-gather-returns-3 t c = walk-one c.before.before.before.before.before.before.before.args.origin (chosen c.before.before.before.before.before.before.before.args.to c.before.before.before.before.before.before.before.args.n c.before.before.before.before.before.before.before.args.shift) (λ z. c.before.before.before.if1.false (c.before.before.before.before.tag_at.ensures ∙ z)) (not_chosen c.before.before.before.before.before.before.before.args.to c.before.before.before.before.before.before.before.args.n c.before.before.before.before.before.before.before.args.shift c.before.goes.ensures c.before.before.refers.ensures c.before.before.before.before.before.before.before.args.origin c.if2.false)
+gather_returns_3 : (t : ℕ) → gather-lts.Need-returns-3 (gather_claims t) (gather_at t) gather.Post
+gather_returns_3 t c = walk_one c.before.before.before.before.before.before.before.args.origin (chosen c.before.before.before.before.before.before.before.args.to c.before.before.before.before.before.before.before.args.n c.before.before.before.before.before.before.before.args.shift) (λ z. c.before.before.before.if1.false (c.before.before.before.before.tag_at.ensures ∙ z)) (not_chosen c.before.before.before.before.before.before.before.args.to c.before.before.before.before.before.before.before.args.n c.before.before.before.before.before.before.before.args.shift c.before.goes.ensures c.before.before.refers.ensures c.before.before.before.before.before.before.before.args.origin c.if2.false)
 
 pub +gather-spec : {M : Type 1} → statement M
-+gather-spec = close μ-gather λ t. gather-lts.spec (gather-claims t) (gather-at t) gather.Post
-    (gather-tag-at-requires t)
-    (gather-sub-end t)
-    (gather-start-requires t)
-    (gather-gather-requires t)
-    (gather-gather-requires-2 t)
-    (gather-same-length t)
-    (gather-returns t)
-    (gather-refers-requires t)
-    (gather-goes-requires t)
-    (gather-append-requires t)
-    (gather-same-length-2 t)
-    (gather-returns-2 t)
-    (gather-returns-3 t)
++gather-spec = close μ-gather λ t. gather-lts.spec (gather_claims t) (gather_at t) gather.Post
+    (gather_tag_at_requires t)
+    (gather_sub_end t)
+    (gather_start_requires t)
+    (gather_gather_requires t)
+    (gather_gather_requires_2 t)
+    (gather_same_length t)
+    (gather_returns t)
+    (gather_refers_requires t)
+    (gather_goes_requires t)
+    (gather_append_requires t)
+    (gather_same_length_2 t)
+    (gather_returns_2 t)
+    (gather_returns_3 t)

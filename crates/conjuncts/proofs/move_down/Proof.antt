@@ -1,4 +1,4 @@
-use Rattle.conjuncts.proofs.Appending.{copied-down}
+use Rattle.conjuncts.proofs.Appending.{copied_down}
 use Rattle.words.proofs.Expressions.{at_in}
 use native.Mathlib.Omega.{arith}
 use borrow.Author.Rules.{rules}
@@ -12,7 +12,7 @@ same_length : tie.Need-same-length
 same_length c = search rules
 
 returns : tie.Need-returns
-returns c = copied-down c.before.before.before.before.before.before.before.args.shift c.before.before.before.before.if1.true c.before.before.copy.ensures
+returns c = copied_down c.before.before.before.before.before.before.before.args.shift c.before.before.before.before.if1.true c.before.before.copy.ensures
 
 shift-column-down-requires : tie.Need-shift-column-down-requires
 shift-column-down-requires c κs = search rules
@@ -20,10 +20,10 @@ shift-column-down-requires c κs = search rules
 same-length-2 : tie.Need-same-length-2
 same-length-2 c = search rules
 
-returns-2 : tie.Need-returns-2
-returns-2 c = c.before.before.shift-column-down.ensures
+returns_2 : tie.Need-returns-2
+returns_2 c = c.before.before.shift-column-down.ensures
 
 pub move_down_spec : {M : Type 1} → statement M
 move_down_spec =
     tie.close
-    (tie.spec copy-requires same_length returns shift-column-down-requires same-length-2 returns-2)
+    (tie.spec copy-requires same_length returns shift-column-down-requires same-length-2 returns_2)

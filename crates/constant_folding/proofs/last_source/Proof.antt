@@ -1,4 +1,4 @@
-use Rattle.constant_folding.proofs.Nodes.{last_none, last-sized, last_some}
+use Rattle.constant_folding.proofs.Nodes.{last_none, last_sized, last_some}
 use Prim.Native.Nat.{ℕ, ◌+◌, ◌-◌, ◌*◌, ◌≤◌, ◌<◌}
 use native.Mathlib.Omega.{arith}
 use mathlib.Core.Path.{◌≡◌, refl, sym, ap, ◌∙◌, subst}
@@ -15,10 +15,10 @@ returns : tie.Need-returns
 returns c = last_none c.if1.true
 
 start-requires : tie.Need-start-requires
-start-requires c κs = last-sized (omega (arith, c.if1.false)) c.before.before.requires
+start-requires c κs = last_sized (omega (arith, c.if1.false)) c.before.before.requires
 
-returns-2 : tie.Need-returns-2
-returns-2 c = last_some (omega (arith, c.before.if1.false)) c.start.ensures
+returns_2 : tie.Need-returns-2
+returns_2 c = last_some (omega (arith, c.before.if1.false)) c.start.ensures
 
 pub last-source-spec : {M : Type 1} → statement M
-last-source-spec = tie.close (tie.spec returns start-requires returns-2)
+last-source-spec = tie.close (tie.spec returns start-requires returns_2)

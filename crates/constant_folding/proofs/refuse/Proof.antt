@@ -1,4 +1,4 @@
-use Rattle.constant_folding.proofs.Nodes.{refuses-then, refuses-first}
+use Rattle.constant_folding.proofs.Nodes.{refuses_then, refuses_first}
 use borrow.Author.Rules.{rules}
 use Rattle.constant_folding.proofs.refuse.Statement.{statement}
 use Rattle.constant_folding.proofs.refuse.Tie as tie
@@ -17,13 +17,13 @@ same_length : tie.Need-same-length
 same_length c = search rules
 
 returns : tie.Need-returns
-returns c = refuses-then c.before.before.before.before.before.fold-own.ensures c.before.n.given.1
+returns c = refuses_then c.before.before.before.before.before.fold-own.ensures c.before.n.given.1
 
 same-length-2 : tie.Need-same-length-2
 same-length-2 c = search rules
 
-returns-2 : tie.Need-returns-2
-returns-2 c = refuses-first c.before.before.before.before.before.fold-own.ensures c.before.first.given.1
+returns_2 : tie.Need-returns-2
+returns_2 c = refuses_first c.before.before.before.before.before.fold-own.ensures c.before.first.given.1
 
 pub refuse-spec : {M : Type 1} → statement M
 refuse-spec =
@@ -35,4 +35,4 @@ refuse-spec =
     same_length
     returns
     same-length-2
-    returns-2)
+    returns_2)

@@ -1,5 +1,5 @@
-use Rattle.convert.proofs.Laws.{target_small, carry-done}
-use Rattle.layout.proofs.Laws.{cells-start, cells_are}
+use Rattle.convert.proofs.Laws.{target_small, carry_done}
+use Rattle.layout.proofs.Laws.{cells_start, cells_are}
 use lib.ListN.{length-set}
 use native.Mathlib.Omega.{arith}
 use borrow.Author.Rules.{rules}
@@ -29,7 +29,7 @@ same_length : tie.Need-same-length
 same_length c = simp length-set (c.before.before.put-origins.auto.1.1.0 ∙ c.before.before.before.before.before.before.copy.auto.1.0)
 
 returns : tie.Need-returns
-returns c = carry-done c.before.before.before.before.before.before.before.before.before.before.before.before.args.s.now c.before.before.before.before.before.before.before.before.before.before.before.before.args.target c.before.before.before.before.before.before.before.before.before.before.before.before.args.out.now (λ i. omega (arith, c.before.before.before.before.before.before.before.before.before.before.before.shared-slice-known.given i)) c.before.before.before.before.before.before.before.before.before.before.before.before.requires _ _ _ _ (cells-start c.before.before.before.before.before.before.before.before.before.parts-of.ensures) (cells_are c.before.before.before.before.before.before.before.before.before.parts-of.ensures) c.before.before.before.before.before.before.copy.ensures.1 c.before.before.put-origins.ensures
+returns c = carry_done c.before.before.before.before.before.before.before.before.before.before.before.before.args.s.now c.before.before.before.before.before.before.before.before.before.before.before.before.args.target c.before.before.before.before.before.before.before.before.before.before.before.before.args.out.now (λ i. omega (arith, c.before.before.before.before.before.before.before.before.before.before.before.shared-slice-known.given i)) c.before.before.before.before.before.before.before.before.before.before.before.before.requires _ _ _ _ (cells_start c.before.before.before.before.before.before.before.before.before.parts-of.ensures) (cells_are c.before.before.before.before.before.before.before.before.before.parts-of.ensures) c.before.before.before.before.before.before.copy.ensures.1 c.before.before.put-origins.ensures
 
 pub carry-spec : {M : Type 1} → statement M
 carry-spec =

@@ -1,4 +1,4 @@
-use Rattle.convert.proofs.Laws.{at-check, whole_is, carryable, at_target, at-short, at-success}
+use Rattle.convert.proofs.Laws.{at_check, whole_is, carryable, at_target, at_short, at_success}
 use native.Mathlib.Omega.{arith}
 use mathlib.Core.Path.{◌∙◌, sym}
 use borrow.Author.Tests.{not-true, not-false}
@@ -10,7 +10,7 @@ check-requires : tie.Need-check-requires
 check-requires c κs = search rules
 
 returns : tie.Need-returns
-returns c = at-check c.before.before.before.before.before.args.s.now c.before.before.before.before.before.args.target c.before.before.before.before.before.args.out.now _ c.before.before.check.ensures (omega arith)
+returns c = at_check c.before.before.before.before.before.args.s.now c.before.before.before.before.before.args.target c.before.before.before.before.before.args.out.now _ c.before.before.check.ensures (omega arith)
 
 is-other-requires : tie.Need-is-other-requires
 is-other-requires c κs = (whole_is c.before.before.before.before.before.args.s.now c.before.before.before.before.before.args.target c.before.before.before.before.before.args.out.now _ c.before.before.check.ensures (omega arith)).long
@@ -18,14 +18,14 @@ is-other-requires c κs = (whole_is c.before.before.before.before.before.args.s.
 refusal-requires : tie.Need-refusal-requires
 refusal-requires c κs = search rules
 
-returns-2 : tie.Need-returns-2
-returns-2 c = at_target c.before.before.before.before.before.before.before.before.args.s.now c.before.before.before.before.before.before.before.before.args.target c.before.before.before.before.before.before.before.before.args.out.now _ c.before.before.before.before.before.check.ensures (omega arith) _ (sym c.before.before.is-other.ensures ∙ not-true _ c.before.if2.true) c.refusal.ensures
+returns_2 : tie.Need-returns-2
+returns_2 c = at_target c.before.before.before.before.before.before.before.before.args.s.now c.before.before.before.before.before.before.before.before.args.target c.before.before.before.before.before.before.before.before.args.out.now _ c.before.before.before.before.before.check.ensures (omega arith) _ (sym c.before.before.is-other.ensures ∙ not-true _ c.before.if2.true) c.refusal.ensures
 
 refusal-requires-2 : tie.Need-refusal-requires-2
 refusal-requires-2 c κs = search rules
 
-returns-3 : tie.Need-returns-3
-returns-3 c = at-short c.before.before.before.before.before.before.before.before.before.args.s.now c.before.before.before.before.before.before.before.before.before.args.target c.before.before.before.before.before.before.before.before.before.args.out.now _ c.before.before.before.before.before.before.check.ensures (omega arith) _ (sym c.before.before.before.is-other.ensures ∙ not-false _ c.before.before.if2.false) (omega arith) c.refusal2.ensures
+returns_3 : tie.Need-returns-3
+returns_3 c = at_short c.before.before.before.before.before.before.before.before.before.args.s.now c.before.before.before.before.before.before.before.before.before.args.target c.before.before.before.before.before.before.before.before.before.args.out.now _ c.before.before.before.before.before.before.check.ensures (omega arith) _ (sym c.before.before.before.is-other.ensures ∙ not-false _ c.before.before.if2.false) (omega arith) c.refusal2.ensures
 
 carry-requires : tie.Need-carry-requires
 carry-requires c κs = carryable c.before.before.before.before.before.before.before.before.before.args.s.now c.before.before.before.before.before.before.before.before.before.args.target c.before.before.before.before.before.before.before.before.before.args.out.now _ c.before.before.before.before.before.before.check.ensures (omega arith) (sym c.before.before.before.is-other.ensures ∙ not-false _ c.before.before.if2.false) (omega arith)
@@ -33,8 +33,8 @@ carry-requires c κs = carryable c.before.before.before.before.before.before.bef
 same_length : tie.Need-same-length
 same_length c = search rules
 
-returns-4 : tie.Need-returns-4
-returns-4 c = at-success c.before.before.before.before.before.before.before.before.before.before.before.before.args.s.now c.before.before.before.before.before.before.before.before.before.before.before.before.args.target c.before.before.before.before.before.before.before.before.before.before.before.before.args.out.now _ c.before.before.before.before.before.before.before.before.before.check.ensures (omega arith) _ (sym c.before.before.before.before.before.before.is-other.ensures ∙ not-false _ c.before.before.before.before.before.if2.false) (omega arith) c.before.before.carry.ensures
+returns_4 : tie.Need-returns-4
+returns_4 c = at_success c.before.before.before.before.before.before.before.before.before.before.before.before.args.s.now c.before.before.before.before.before.before.before.before.before.before.before.before.args.target c.before.before.before.before.before.before.before.before.before.before.before.before.args.out.now _ c.before.before.before.before.before.before.before.before.before.check.ensures (omega arith) _ (sym c.before.before.before.before.before.before.is-other.ensures ∙ not-false _ c.before.before.before.before.before.if2.false) (omega arith) c.before.before.carry.ensures
 
 pub convert-spec : {M : Type 1} → statement M
 convert-spec =
@@ -44,9 +44,9 @@ convert-spec =
     returns
     is-other-requires
     refusal-requires
-    returns-2
+    returns_2
     refusal-requires-2
-    returns-3
+    returns_3
     carry-requires
     same_length
-    returns-4)
+    returns_4)

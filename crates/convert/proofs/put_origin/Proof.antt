@@ -1,4 +1,4 @@
-use Rattle.convert.proofs.Laws.{two-set}
+use Rattle.convert.proofs.Laws.{two_set}
 use lib.ListN.{length-set}
 use native.Mathlib.Omega.{arith}
 use borrow.Author.Rules.{rules}
@@ -27,7 +27,7 @@ same_length : tie.Need-same-length
 same_length c = search rules
 
 returns : tie.Need-returns
-returns c = two-set c.args.out.now c.args.at c.args.origin
+returns c = two_set c.args.out.now c.args.at c.args.origin
 
 pub put-origin-spec : {M : Type 1} → statement M
 put-origin-spec =

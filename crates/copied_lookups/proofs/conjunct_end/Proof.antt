@@ -1,4 +1,4 @@
-use Rattle.copied_lookups.proofs.Last.{last_none, end-one}
+use Rattle.copied_lookups.proofs.Last.{last_none, end_one}
 use Rattle.words.proofs.Expressions.{at_in}
 use native.Mathlib.Omega.{arith}
 use mathlib.Core.Path.{◌∙◌}
@@ -18,13 +18,13 @@ returns c = search rules
 is-lookup-of-requires : tie.Need-is-lookup-of-requires
 is-lookup-of-requires c κs = search rules
 
-returns-2 : tie.Need-returns-2
-returns-2 c = end-one c.before.before.before.before.before.args.c (λ z. c.before.before.if1.false (c.before.before.before.tag_at.ensures ∙ z)) c.before.is-lookup-of.ensures c.if2.true c.before.before.before.before.before.requires
+returns_2 : tie.Need-returns-2
+returns_2 c = end_one c.before.before.before.before.before.args.c (λ z. c.before.before.if1.false (c.before.before.before.tag_at.ensures ∙ z)) c.before.is-lookup-of.ensures c.if2.true c.before.before.before.before.before.requires
 
-returns-3 : tie.Need-returns-3
-returns-3 c = last_none c.before.before.before.before.before.args.c (λ z. c.before.before.if1.false (c.before.before.before.tag_at.ensures ∙ z)) c.before.is-lookup-of.ensures c.if2.false
+returns_3 : tie.Need-returns-3
+returns_3 c = last_none c.before.before.before.before.before.args.c (λ z. c.before.before.if1.false (c.before.before.before.tag_at.ensures ∙ z)) c.before.is-lookup-of.ensures c.if2.false
 
 pub conjunct-end-spec : {M : Type 1} → statement M
 conjunct-end-spec =
     tie.close
-    (tie.spec tag-at-requires last-end-requires returns is-lookup-of-requires returns-2 returns-3)
+    (tie.spec tag-at-requires last-end-requires returns is-lookup-of-requires returns_2 returns_3)

@@ -1,4 +1,4 @@
-use Rattle.copied_lookups.proofs.Copying.{no-pair, pair-copied}
+use Rattle.copied_lookups.proofs.Copying.{no_pair, pair_copied}
 use borrow.Author.Rules.{rules}
 use Rattle.copied_lookups.proofs.copy_conjunct.Statement.{statement}
 use Rattle.copied_lookups.proofs.copy_conjunct.Tie as tie
@@ -13,7 +13,7 @@ enum_told : tie.Need-enum-told
 enum_told c = search rules
 
 returns : tie.Need-returns
-returns c = no-pair c.before.before.before.before.before.before.args.origin c.before.before.before.before.before.before.args.into c.before.before.before.before.before.before.args.n c.before.before.before.before.before.before.args.shift c.before.before.equijoin.ensures c.enum_told.given.1
+returns c = no_pair c.before.before.before.before.before.before.args.origin c.before.before.before.before.before.before.args.into c.before.before.before.before.before.before.args.n c.before.before.before.before.before.before.args.shift c.before.before.equijoin.ensures c.enum_told.given.1
 
 copy-pair-requires : tie.Need-copy-pair-requires
 copy-pair-requires c κs = c.before.before.before.before.before.before.before.before.requires.1
@@ -21,8 +21,8 @@ copy-pair-requires c κs = c.before.before.before.before.before.before.before.be
 same_length : tie.Need-same-length
 same_length c = search rules
 
-returns-2 : tie.Need-returns-2
-returns-2 c = pair-copied c.before.before.before.before.before.before.before.before.before.before.before.args.origin c.before.before.before.before.before.before.before.before.before.before.before.args.into c.before.before.before.before.before.before.before.before.before.before.before.args.n c.before.before.before.before.before.before.before.before.before.before.before.args.shift c.before.before.before.before.before.before.before.equijoin.ensures c.before.before.before.before.before.pair.given.1 c.before.before.copy-pair.ensures
+returns_2 : tie.Need-returns-2
+returns_2 c = pair_copied c.before.before.before.before.before.before.before.before.before.before.before.args.origin c.before.before.before.before.before.before.before.before.before.before.before.args.into c.before.before.before.before.before.before.before.before.before.before.before.args.n c.before.before.before.before.before.before.before.before.before.before.before.args.shift c.before.before.before.before.before.before.before.equijoin.ensures c.before.before.before.before.before.pair.given.1 c.before.before.copy-pair.ensures
 
 pub copy-conjunct-spec : {M : Type 1} → statement M
 copy-conjunct-spec =
@@ -34,4 +34,4 @@ copy-conjunct-spec =
     returns
     copy-pair-requires
     same_length
-    returns-2)
+    returns_2)

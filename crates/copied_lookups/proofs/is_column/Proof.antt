@@ -6,8 +6,8 @@ use Rattle.copied_lookups.proofs.is_column.Tie as tie
 returns : tie.Need-returns
 returns c = simp (eq-eqb _ _ c.before.if1.true)
 
-returns-2 : tie.Need-returns-2
-returns-2 c = simp (ne_eqb _ _ c.if1.false)
+returns_2 : tie.Need-returns-2
+returns_2 c = simp (ne_eqb _ _ c.if1.false)
 
 pub is-column-spec : {M : Type 1} → statement M
-is-column-spec = tie.close (tie.spec returns returns-2)
+is-column-spec = tie.close (tie.spec returns returns_2)

@@ -1,7 +1,7 @@
 use mathlib.Core.Path.{sym, ◌∙◌}
 use native.Mathlib.Omega.{arith}
-use Rattle.words.proofs.Expressions.{at_in, at_last, at_left, at_right, at-operand}
-use Rattle.copied_lookups.proofs.Last.{of-equal, of_is, of_none, of_other}
+use Rattle.words.proofs.Expressions.{at_in, at_last, at_left, at_right, at_operand}
+use Rattle.copied_lookups.proofs.Last.{of_equal, of_is, of_none, of_other}
 use borrow.Author.Rules.{rules}
 use Rattle.copied_lookups.proofs.is_lookup_of.Statement.{statement}
 use Rattle.copied_lookups.proofs.is_lookup_of.Tie as tie
@@ -30,17 +30,17 @@ cell-at-requires-2 c κs = let (h, k) = at_in (at_right (omega (arith, c.before.
 is-equal-lookup-requires : tie.Need-is-equal-lookup-requires
 is-equal-lookup-requires c κs = search rules
 
-returns-2 : tie.Need-returns-2
-returns-2 c = of-equal c.before.before.before.before.before.before.before.before.args.c c.before.before.before.start.ensures (sym c.before.before.before.before.before.before.tag_at.ensures ∙ c.before.before.before.before.if2.true) c.before.before.cell_at.ensures c.before.cell-at2.ensures c.is-equal-lookup.ensures
+returns_2 : tie.Need-returns-2
+returns_2 c = of_equal c.before.before.before.before.before.before.before.before.args.c c.before.before.before.start.ensures (sym c.before.before.before.before.before.before.tag_at.ensures ∙ c.before.before.before.before.if2.true) c.before.before.cell_at.ensures c.before.cell-at2.ensures c.is-equal-lookup.ensures
 
-returns-3 : tie.Need-returns-3
-returns-3 c = of_none c.before.before.before.before.before.args.c (λ z. c.before.before.if1.false (c.before.before.before.tag_at.ensures ∙ z)) (λ z. c.before.if2.false (c.before.before.before.tag_at.ensures ∙ z)) (omega (arith, c.before.before.before.tag_at.ensures, c.if3.true))
+returns_3 : tie.Need-returns-3
+returns_3 c = of_none c.before.before.before.before.before.args.c (λ z. c.before.before.if1.false (c.before.before.before.tag_at.ensures ∙ z)) (λ z. c.before.if2.false (c.before.before.before.tag_at.ensures ∙ z)) (omega (arith, c.before.before.before.tag_at.ensures, c.if3.true))
 
-returns-4 : tie.Need-returns-4
-returns-4 c = of_other c.before.before.before.before.before.before.args.c (omega (arith, c.before.before.before.before.tag_at.ensures, c.if4.true))
+returns_4 : tie.Need-returns-4
+returns_4 c = of_other c.before.before.before.before.before.before.args.c (omega (arith, c.before.before.before.before.tag_at.ensures, c.if4.true))
 
 cell-at-requires-3 : tie.Need-cell-at-requires-3
-cell-at-requires-3 c κs = let (h, k) = at_in (at-operand (omega (arith, c.before.before.before.before.tag_at.ensures, c.before.if3.false)) c.before.before.before.before.before.before.requires) in (omega arith, k)
+cell-at-requires-3 c κs = let (h, k) = at_in (at_operand (omega (arith, c.before.before.before.before.tag_at.ensures, c.before.if3.false)) c.before.before.before.before.before.before.requires) in (omega arith, k)
 
 is-column-requires : tie.Need-is-column-requires
 is-column-requires c κs = search rules
@@ -60,9 +60,9 @@ is-lookup-of-spec =
     cell-at-requires
     cell-at-requires-2
     is-equal-lookup-requires
-    returns-2
-    returns-3
-    returns-4
+    returns_2
+    returns_3
+    returns_4
     cell-at-requires-3
     is-column-requires
     returns-5)

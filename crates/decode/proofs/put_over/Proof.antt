@@ -1,5 +1,5 @@
 -- `decode::put_over` meets its contract. Assumes nothing.
-use Rattle.decode.proofs.Laws.{put-said}
+use Rattle.decode.proofs.Laws.{put_said}
 use borrow.Author.Rules.{rules}
 use Rattle.decode.proofs.put_over.Statement.{statement}
 use Rattle.decode.proofs.put_over.Tie as tie
@@ -30,7 +30,7 @@ same_length c = search rules
 
 returns : tie.Need-returns
 returns c =
-    put-said c.before.before.before.before.before.before.before.before.before.before.before.before.args.k c.before.before.before.before.before.before.before.before.before.start_of_lem.ensures c.before.before.put.ensures.0
+    put_said c.before.before.before.before.before.before.before.before.before.before.before.before.args.k c.before.before.before.before.before.before.before.before.before.start_of_lem.ensures c.before.before.put.ensures.0
 
 pub put-over-spec : {M : Type 1} → statement M
 put-over-spec = tie.close (tie.spec

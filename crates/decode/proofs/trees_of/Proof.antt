@@ -1,5 +1,5 @@
-use Rattle.layout.specs.Layout.{as-cell}
-use Rattle.decode.proofs.Trees.{leaf-trees, two-trees, one-tree, parts_said, no-trees, nodes-said, past-trees}
+use Rattle.layout.specs.Layout.{as_cell}
+use Rattle.decode.proofs.Trees.{leaf_trees, two_trees, one_tree, parts_said, no_trees, nodes_said, past_trees}
 use Prim.Native.Nat.{ℕ, ◌+◌, ◌-◌, ◌*◌, ◌≤◌, ◌<◌}
 use native.Mathlib.Omega.{arith}
 use mathlib.Core.Path.{◌≡◌, refl, sym, ap, ◌∙◌, subst}
@@ -15,47 +15,47 @@ use Rattle.decode.proofs.trees_of_part.Reads as trees-of-part-reads
 use Rattle.decode.proofs.trees_to_56.Reads as trees-to-56-reads
 
 returns : tie.Need-returns
-returns c = leaf-trees (as-cell c.before.before.args.k) c.if1.true
+returns c = leaf_trees (as_cell c.before.before.args.k) c.if1.true
 
-returns-2 : tie.Need-returns-2
-returns-2 c = two-trees (as-cell c.before.before.before.before.args.k) c.before.before.if1.false c.if2.true
+returns_2 : tie.Need-returns-2
+returns_2 c = two_trees (as_cell c.before.before.before.before.args.k) c.before.before.if1.false c.if2.true
 
-returns-3 : tie.Need-returns-3
-returns-3 c = one-tree (as-cell c.before.before.before.before.before.before.args.k) c.before.before.before.before.if1.false c.before.before.if2.false c.if3.true
+returns_3 : tie.Need-returns-3
+returns_3 c = one_tree (as_cell c.before.before.before.before.before.before.args.k) c.before.before.before.before.if1.false c.before.before.if2.false c.if3.true
 
 trees-of-part-requires : tie.Need-trees-of-part-requires
 trees-of-part-requires c κs = search rules
 
-returns-4 : tie.Need-returns-4
-returns-4 c = parts_said (as-cell c.before.before.before.before.before.before.before.before.before.args.k) c.before.before.before.before.before.before.before.if1.false c.before.before.before.before.before.if2.false c.before.before.before.if3.false c.before.if4.true c.trees-of-part.ensures
+returns_4 : tie.Need-returns-4
+returns_4 c = parts_said (as_cell c.before.before.before.before.before.before.before.before.before.args.k) c.before.before.before.before.before.before.before.if1.false c.before.before.before.before.before.if2.false c.before.before.before.if3.false c.before.if4.true c.trees-of-part.ensures
 
 returns-5 : tie.Need-returns-5
-returns-5 c = no-trees (as-cell c.before.before.before.before.before.before.before.before.before.before.args.k) c.before.before.before.before.before.before.before.before.if1.false c.before.before.before.before.before.before.if2.false c.before.before.before.before.if3.false c.before.before.if4.false c.if5.true
+returns-5 c = no_trees (as_cell c.before.before.before.before.before.before.before.before.before.before.args.k) c.before.before.before.before.before.before.before.before.if1.false c.before.before.before.before.before.before.if2.false c.before.before.before.before.if3.false c.before.before.if4.false c.if5.true
 
 trees-to-56-requires : tie.Need-trees-to-56-requires
 trees-to-56-requires c κs = search rules
 
 returns-6 : tie.Need-returns-6
-returns-6 c = nodes-said (as-cell c.before.before.before.before.before.before.before.before.before.before.before.before.before.args.k) c.before.before.before.before.before.before.before.before.before.before.before.if1.false c.before.before.before.before.before.before.before.before.before.if2.false c.before.before.before.before.before.before.before.if3.false c.before.before.before.before.before.if4.false c.before.before.before.if5.false c.trees-to-56.ensures
+returns-6 c = nodes_said (as_cell c.before.before.before.before.before.before.before.before.before.before.before.before.before.args.k) c.before.before.before.before.before.before.before.before.before.before.before.if1.false c.before.before.before.before.before.before.before.before.before.if2.false c.before.before.before.before.before.before.before.if3.false c.before.before.before.before.before.if4.false c.before.before.before.if5.false c.trees-to-56.ensures
 
 trees-from-57-requires : tie.Need-trees-from-57-requires
 trees-from-57-requires c κs = search rules
 
 returns-7 : tie.Need-returns-7
-returns-7 c = nodes-said (as-cell c.before.before.before.before.before.before.before.before.before.before.before.before.before.before.before.args.k) c.before.before.before.before.before.before.before.before.before.before.before.before.before.if1.false c.before.before.before.before.before.before.before.before.before.before.before.if2.false c.before.before.before.before.before.before.before.before.before.if3.false c.before.before.before.before.before.before.before.if4.false c.before.before.before.before.before.if5.false c.trees-from-57.ensures
+returns-7 c = nodes_said (as_cell c.before.before.before.before.before.before.before.before.before.before.before.before.before.before.before.args.k) c.before.before.before.before.before.before.before.before.before.before.before.before.before.if1.false c.before.before.before.before.before.before.before.before.before.before.before.if2.false c.before.before.before.before.before.before.before.before.before.if3.false c.before.before.before.before.before.before.before.if4.false c.before.before.before.before.before.if5.false c.trees-from-57.ensures
 
 returns-8 : tie.Need-returns-8
-returns-8 c = past-trees (as-cell c.before.before.before.before.before.before.before.before.before.before.before.before.before.before.args.k) c.before.before.before.before.before.before.before.before.before.before.before.before.if1.false c.before.before.before.before.before.before.before.before.before.before.if2.false c.before.before.before.before.before.before.before.before.if3.false c.before.before.before.before.before.before.if4.false c.if7.false
+returns-8 c = past_trees (as_cell c.before.before.before.before.before.before.before.before.before.before.before.before.before.before.args.k) c.before.before.before.before.before.before.before.before.before.before.before.before.if1.false c.before.before.before.before.before.before.before.before.before.before.if2.false c.before.before.before.before.before.before.before.before.if3.false c.before.before.before.before.before.before.if4.false c.if7.false
 
 pub trees-of-spec : {M : Type 1} → statement M
 trees-of-spec =
     tie.close
     (tie.spec
     returns
-    returns-2
-    returns-3
+    returns_2
+    returns_3
     trees-of-part-requires
-    returns-4
+    returns_4
     returns-5
     trees-to-56-requires
     returns-6

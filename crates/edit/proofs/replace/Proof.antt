@@ -1,5 +1,5 @@
 use lib.Seq.{length-take-le}
-use Rattle.edit.proofs.Edits.{replace-long, replace-full, replace-same, replace-moved}
+use Rattle.edit.proofs.Edits.{replace_long, replace_full, replace_same, replace_moved}
 use native.Mathlib.Omega.{arith}
 use mathlib.Core.Path.{refl, sym}
 use borrow.Author.Rules.{rules}
@@ -7,7 +7,7 @@ use Rattle.edit.proofs.replace.Statement.{statement}
 use Rattle.edit.proofs.replace.Tie as tie
 
 returns : tie.Need-returns
-returns c = replace-long _ c.before.before.before.requires.1 c.if1.true
+returns c = replace_long _ c.before.before.before.requires.1 c.if1.true
 
 sub-end : tie.Need-overflow-sub-end
 sub-end c = search rules
@@ -42,8 +42,8 @@ same_length c = search rules
 same-length-2 : tie.Need-same-length-2
 same-length-2 c = search rules
 
-returns-2 : tie.Need-returns-2
-returns-2 c = replace-same _ c.before.before.before.before.before.before.before.before.before.requires.1 (omega arith) c.before.before.before.before.before.if2.true refl c.before.before.copy-all.ensures c.before.before.copy-all.auto.1.0
+returns_2 : tie.Need-returns-2
+returns_2 c = replace_same _ c.before.before.before.before.before.before.before.before.before.requires.1 (omega arith) c.before.before.before.before.before.if2.true refl c.before.before.copy-all.ensures c.before.before.copy-all.auto.1.0
 
 sub-if3 : tie.Need-overflow-sub-if3
 sub-if3 c = search rules
@@ -51,8 +51,8 @@ sub-if3 c = search rules
 sub-if3-2 : tie.Need-overflow-sub-if3-2
 sub-if3-2 c = search rules
 
-returns-3 : tie.Need-returns-3
-returns-3 c = replace-full _ c.before.before.before.before.before.requires.1 c.before.before.before.before.before.requires.0 c.before.before.if1.false c.if3.true (omega arith)
+returns_3 : tie.Need-returns-3
+returns_3 c = replace_full _ c.before.before.before.before.before.requires.1 c.before.before.before.before.before.requires.0 c.before.before.if1.false c.if3.true (omega arith)
 
 add-to : tie.Need-overflow-add-to
 add-to c = search rules
@@ -90,8 +90,8 @@ same-length-3 c = search rules
 same-length-4 : tie.Need-same-length-4
 same-length-4 c = search rules
 
-returns-4 : tie.Need-returns-4
-returns-4 c = replace-moved _ c.before.before.before.before.before.before.before.before.before.before.before.before.before.before.requires.1 c.before.before.before.before.before.before.before.before.before.before.before.before.before.before.requires.0 c.before.before.before.before.before.before.before.before.before.before.before.if1.false c.before.before.before.before.before.before.before.before.before.if3.false c.before.before.before.before.before.before.before.move-words.ensures c.before.before.copy-all2.ensures c.before.before.copy-all2.auto.1.0
+returns_4 : tie.Need-returns-4
+returns_4 c = replace_moved _ c.before.before.before.before.before.before.before.before.before.before.before.before.before.before.requires.1 c.before.before.before.before.before.before.before.before.before.before.before.before.before.before.requires.0 c.before.before.before.before.before.before.before.before.before.before.before.if1.false c.before.before.before.before.before.before.before.before.before.if3.false c.before.before.before.before.before.before.before.move-words.ensures c.before.before.copy-all2.ensures c.before.before.copy-all2.auto.1.0
 
 pub replace_spec : {M : Type 1} → statement M
 replace_spec =
@@ -109,10 +109,10 @@ replace_spec =
     copy-all-requires
     same_length
     same-length-2
-    returns-2
+    returns_2
     sub-if3
     sub-if3-2
-    returns-3
+    returns_3
     add-to
     move-words-requires
     slice-reshare-prefix-copy-all-2
@@ -125,4 +125,4 @@ replace_spec =
     add-result
     same-length-3
     same-length-4
-    returns-4)
+    returns_4)

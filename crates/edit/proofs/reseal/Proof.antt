@@ -1,4 +1,4 @@
-use Rattle.edit.proofs.Edits.{resealed, not-resealed}
+use Rattle.edit.proofs.Edits.{resealed, not_resealed}
 use native.Mathlib.Omega.{arith}
 use borrow.Author.Rules.{rules}
 use Rattle.edit.proofs.reseal.Statement.{statement}
@@ -11,7 +11,7 @@ sub-if1 : tie.Need-overflow-sub-if1
 sub-if1 c = search rules
 
 returns : tie.Need-returns
-returns c = not-resealed c.before.args.x.now c.before.args.t c.before.args.lo c.before.args.tail (omega arith) (omega arith) (omega arith)
+returns c = not_resealed c.before.args.x.now c.before.args.t c.before.args.lo c.before.args.tail (omega arith) (omega arith) (omega arith)
 
 sub-x : tie.Need-overflow-sub-x
 sub-x c = search rules
@@ -31,8 +31,8 @@ slice-write-x c = search rules
 same_length : tie.Need-same-length
 same_length c = search rules
 
-returns-2 : tie.Need-returns-2
-returns-2 c = resealed c.before.args.x.now c.before.args.t c.before.args.lo c.before.args.tail c.before.requires.0 c.before.requires.1
+returns_2 : tie.Need-returns-2
+returns_2 c = resealed c.before.args.x.now c.before.args.t c.before.args.lo c.before.args.tail c.before.requires.0 c.before.requires.1
 
 pub reseal-spec : {M : Type 1} → statement M
 reseal-spec = tie.close (tie.spec
@@ -45,4 +45,4 @@ reseal-spec = tie.close (tie.spec
     mul-x
     slice-write-x
     same_length
-    returns-2)
+    returns_2)

@@ -1,4 +1,4 @@
-use Rattle.encode.proofs.Laws.{room-start, room-cells, room-trailer, encodes}
+use Rattle.encode.proofs.Laws.{room_start, room_cells, room_trailer, encodes}
 use Prim.Native.Nat.{ℕ, ◌+◌, ◌-◌, ◌*◌, ◌≤◌, ◌<◌}
 use native.Mathlib.Omega.{arith}
 use mathlib.Core.Path.{◌≡◌, refl, sym, ap, ◌∙◌, subst}
@@ -18,10 +18,10 @@ parts-of-requires : tie.Need-parts-of-requires
 parts-of-requires c κs = c.before.before.before.requires.whole
 
 put-start-requires : tie.Need-put-start-requires
-put-start-requires c κs = room-start c.before.before.before.before.before.args.s.now c.before.parts-of.ensures c.before.before.before.before.before.requires
+put-start-requires c κs = room_start c.before.before.before.before.before.args.s.now c.before.parts-of.ensures c.before.before.before.before.before.requires
 
 put-cells-requires : tie.Need-put-cells-requires
-put-cells-requires c κs = room-cells c.before.before.before.before.before.before.before.before.before.args.s.now c.before.before.before.before.before.parts-of.ensures c.before.before.before.before.before.before.before.before.before.requires c.before.before.before.put-start.auto.1.1.0 c.before.before.before.put-start.ensures.0
+put-cells-requires c κs = room_cells c.before.before.before.before.before.before.before.before.before.args.s.now c.before.before.before.before.before.parts-of.ensures c.before.before.before.before.before.before.before.before.before.requires c.before.before.before.put-start.auto.1.1.0 c.before.before.before.put-start.ensures.0
 
 sub-word-at : tie.Need-overflow-sub-word-at
 sub-word-at c = search rules
@@ -30,7 +30,7 @@ word-at-requires : tie.Need-word-at-requires
 word-at-requires c κs = search rules
 
 put-trailer-requires : tie.Need-put-trailer-requires
-put-trailer-requires c κs = room-trailer c.before.before.before.before.before.before.before.before.before.before.before.before.before.before.args.s.now c.before.before.before.before.before.before.before.before.before.before.parts-of.ensures c.before.before.before.before.before.before.before.before.before.before.before.before.before.before.requires c.before.before.before.before.put-cells.new.1.1.0 (c.before.before.before.before.put-cells.auto.1.1.0 ∙ c.before.before.before.before.before.before.before.before.put-start.auto.1.1.0) c.before.before.before.before.before.before.before.before.put-start.ensures.0 c.before.before.before.before.put-cells.ensures.0
+put-trailer-requires c κs = room_trailer c.before.before.before.before.before.before.before.before.before.before.before.before.before.before.args.s.now c.before.before.before.before.before.before.before.before.before.before.parts-of.ensures c.before.before.before.before.before.before.before.before.before.before.before.before.before.before.requires c.before.before.before.before.put-cells.new.1.1.0 (c.before.before.before.before.put-cells.auto.1.1.0 ∙ c.before.before.before.before.before.before.before.before.put-start.auto.1.1.0) c.before.before.before.before.before.before.before.before.put-start.ensures.0 c.before.before.before.before.put-cells.ensures.0
 
 same_length : tie.Need-same-length
 same_length c = search rules

@@ -1,4 +1,4 @@
-use Rattle.encode.proofs.Written.{put-bytes}
+use Rattle.encode.proofs.Written.{put_bytes}
 use lib.ListN.{length-set}
 use Prim.Native.Nat.{ℕ, ◌+◌, ◌-◌, ◌*◌, ◌≤◌, ◌<◌}
 use native.Mathlib.Omega.{arith}
@@ -51,7 +51,7 @@ same_length : tie.Need-same-length
 same_length c = search rules
 
 returns : tie.Need-returns
-returns c = (refl, put-bytes c.args.out.now c.args.at c.args.w (omega arith))
+returns c = (refl, put_bytes c.args.out.now c.args.at c.args.w (omega arith))
 
 pub put-word-spec : {M : Type 1} → statement M
 put-word-spec =

@@ -1,11 +1,11 @@
 -- `evaluate::cell_of` meets its contract.
-use Rattle.evaluate.specs.Evaluate.{of-halves}
+use Rattle.evaluate.specs.Evaluate.{of_halves}
 use Rattle.words.specs.Words.{cell}
 use Rattle.sheet.specs.Content.{constant_cell}
-use Rattle.value.specs.Meaning.{bytes-at}
+use Rattle.value.specs.Meaning.{bytes_at}
 use Rattle.value.specs.Value.{datum, integer}
 use lib.IntN.{ℤ}
-use Rattle.evaluate.proofs.Laws.{null-cell, true-cell, false-cell, integer-cell, float-cell, string-cell}
+use Rattle.evaluate.proofs.Laws.{null_cell, true_cell, false_cell, integer_cell, float_cell, string_cell}
 use Rattle.value.proofs.Laws.{read_back}
 use mathlib.Core.Path.{ap, ◌∙◌}
 use borrow.Author.Rules.{rules}
@@ -25,7 +25,7 @@ constant-requires-2 : tie.Need-constant-requires-2
 constant-requires-2 c κs = search rules
 
 returns : tie.Need-returns
-returns c = λ text. rw (c.before.before.before.v.given.1, c.before.if1.true) (c.constant2.ensures ∙ true-cell _)
+returns c = λ text. rw (c.before.before.before.v.given.1, c.before.if1.true) (c.constant2.ensures ∙ true_cell _)
 
 constant-requires-3 : tie.Need-constant-requires-3
 constant-requires-3 c κs = search rules
@@ -57,20 +57,20 @@ cast-constant c = search rules
 constant-requires-6 : tie.Need-constant-requires-6
 constant-requires-6 c κs = search rules
 
-returns-2 : tie.Need-returns-2
-returns-2 c = λ text. rw c.before.enum_told.given.1 (c.constant.ensures ∙ null-cell _)
+returns_2 : tie.Need-returns-2
+returns_2 c = λ text. rw c.before.enum_told.given.1 (c.constant.ensures ∙ null_cell _)
 
-returns-3 : tie.Need-returns-3
-returns-3 c = λ text. rw (c.before.before.before.v.given.1, c.before.if1.false) (c.constant3.ensures ∙ false-cell _)
+returns_3 : tie.Need-returns-3
+returns_3 c = λ text. rw (c.before.before.before.v.given.1, c.before.if1.false) (c.constant3.ensures ∙ false_cell _)
 
-returns-4 : tie.Need-returns-4
-returns-4 c = λ text. rw c.before.before.before.v2.given.1 (c.constant4.ensures ∙ (ap (of-halves _ 3) c.before.integer-bits.ensures ∙ (integer-cell _ _ ∙ ap (λ (i : ℤ). cell c.before.before.before.before.before.args.origin (constant_cell (datum (integer i)))) (read_back c.before.before.before.v2.given.0.0 c.before.before.known-told2.given.0.1))))
+returns_4 : tie.Need-returns-4
+returns_4 c = λ text. rw c.before.before.before.v2.given.1 (c.constant4.ensures ∙ (ap (of_halves _ 3) c.before.integer-bits.ensures ∙ (integer_cell _ _ ∙ ap (λ (i : ℤ). cell c.before.before.before.before.before.args.origin (constant_cell (datum (integer i)))) (read_back c.before.before.before.v2.given.0.0 c.before.before.known-told2.given.0.1))))
 
 returns-5 : tie.Need-returns-5
-returns-5 c = λ text. rw c.before.before.before.v3.given.1 (c.constant5.ensures ∙ (ap (of-halves _ 4) c.before.float-bits.ensures ∙ float-cell _ _))
+returns-5 c = λ text. rw c.before.before.before.v3.given.1 (c.constant5.ensures ∙ (ap (of_halves _ 4) c.before.float-bits.ensures ∙ float_cell _ _))
 
 returns-6 : tie.Need-returns-6
-returns-6 c = λ text. rw c.before.before.v4.given.1 (c.constant6.ensures ∙ string-cell _ c.before.before.v4.given.0.0 (bytes-at text c.before.before.v4.given.0.0) c.before.known-told4.given.0.1)
+returns-6 c = λ text. rw c.before.before.v4.given.1 (c.constant6.ensures ∙ string_cell _ c.before.before.v4.given.0.0 (bytes_at text c.before.before.v4.given.0.0) c.before.known-told4.given.0.1)
 
 pub cell-of-spec : {M : Type 1} → statement M
 cell-of-spec =
@@ -91,8 +91,8 @@ cell-of-spec =
     enum-known-v-4
     cast-constant
     constant-requires-6
-    returns-2
-    returns-3
-    returns-4
+    returns_2
+    returns_3
+    returns_4
     returns-5
     returns-6)

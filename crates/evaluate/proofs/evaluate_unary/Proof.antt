@@ -1,5 +1,5 @@
 -- `evaluate::evaluate_unary` meets its contract.
-use Rattle.evaluate.proofs.Laws.{unary-at, unary-else}
+use Rattle.evaluate.proofs.Laws.{unary_at, unary_else}
 use Rattle.value.specs.Meaning.{meaning}
 use mathlib.Core.Path.{◌∙◌}
 use borrow.Author.Rules.{rules}
@@ -25,22 +25,22 @@ negate-requires : tie.Need-negate-requires
 negate-requires c κs = search rules
 
 returns : tie.Need-returns
-returns c = λ text p e. c.not.ensures text ∙ unary-at p e 30 c.before.match.keys1 (meaning text c.before.before.args.v)
+returns c = λ text p e. c.not.ensures text ∙ unary_at p e 30 c.before.match.keys1 (meaning text c.before.before.args.v)
 
-returns-2 : tie.Need-returns-2
-returns-2 c = λ text p e. c.is-null.ensures text ∙ unary-at p e 31 c.before.match.keys2 (meaning text c.before.before.args.v)
+returns_2 : tie.Need-returns-2
+returns_2 c = λ text p e. c.is-null.ensures text ∙ unary_at p e 31 c.before.match.keys2 (meaning text c.before.before.args.v)
 
-returns-3 : tie.Need-returns-3
-returns-3 c = λ text p e. c.is-nan.ensures text ∙ unary-at p e 32 c.before.match.keys3 (meaning text c.before.before.args.v)
+returns_3 : tie.Need-returns-3
+returns_3 c = λ text p e. c.is-nan.ensures text ∙ unary_at p e 32 c.before.match.keys3 (meaning text c.before.before.args.v)
 
-returns-4 : tie.Need-returns-4
-returns-4 c = λ text p e. c.identity.ensures text ∙ unary-at p e 33 c.before.match.keys4 (meaning text c.before.before.args.v)
+returns_4 : tie.Need-returns-4
+returns_4 c = λ text p e. c.identity.ensures text ∙ unary_at p e 33 c.before.match.keys4 (meaning text c.before.before.args.v)
 
 returns-5 : tie.Need-returns-5
-returns-5 c = λ text p e. c.square-root.ensures text ∙ unary-at p e 36 c.before.match.keys5 (meaning text c.before.before.args.v)
+returns-5 c = λ text p e. c.square-root.ensures text ∙ unary_at p e 36 c.before.match.keys5 (meaning text c.before.before.args.v)
 
 returns-6 : tie.Need-returns-6
-returns-6 c = λ text p e. c.negate.ensures text ∙ unary-else p e c.before.match.rest.0.0.0.0.1 c.before.match.rest.0.0.0.1 c.before.match.rest.0.0.1 c.before.match.rest.0.1 c.before.match.rest.1 (meaning text c.before.before.args.v)
+returns-6 c = λ text p e. c.negate.ensures text ∙ unary_else p e c.before.match.rest.0.0.0.0.1 c.before.match.rest.0.0.0.1 c.before.match.rest.0.0.1 c.before.match.rest.0.1 c.before.match.rest.1 (meaning text c.before.before.args.v)
 
 pub evaluate-unary-spec : {M : Type 1} → statement M
 evaluate-unary-spec =
@@ -53,8 +53,8 @@ evaluate-unary-spec =
     square-root-requires
     negate-requires
     returns
-    returns-2
-    returns-3
-    returns-4
+    returns_2
+    returns_3
+    returns_4
     returns-5
     returns-6)

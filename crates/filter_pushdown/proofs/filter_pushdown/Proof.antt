@@ -1,5 +1,5 @@
 use borrow.Author.Rules.{rules}
-use Rattle.filter_pushdown.proofs.From.{whole-plan}
+use Rattle.filter_pushdown.proofs.From.{whole_plan}
 use Rattle.filter_pushdown.proofs.filter_pushdown.Statement.{statement}
 use Rattle.filter_pushdown.proofs.filter_pushdown.Tie as tie
 
@@ -19,7 +19,7 @@ same-length-4 : tie.Need-same-length-4
 same-length-4 c = search rules
 
 returns : tie.Need-returns
-returns c = whole-plan c.before.before.before.before.before.before.before.before.push-filters-from.ensures
+returns c = whole_plan c.before.before.before.before.before.before.before.before.push-filters-from.ensures
 
 pub filter-pushdown-spec : {M : Type 1} → statement M
 filter-pushdown-spec =

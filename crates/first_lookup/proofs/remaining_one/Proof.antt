@@ -1,5 +1,5 @@
-use Rattle.first_lookup.proofs.Leaving.{met-before, met-here, not-met}
-use Rattle.first_lookup.specs.First.{marks-in}
+use Rattle.first_lookup.proofs.Leaving.{met_before, met_here, not_met}
+use Rattle.first_lookup.specs.First.{marks_in}
 use borrow.Author.Rules.{rules}
 use Rattle.first_lookup.proofs.remaining_one.Statement.{statement}
 use Rattle.first_lookup.proofs.remaining_one.Tie as tie
@@ -11,7 +11,7 @@ same_length : tie.Need-same-length
 same_length c = search rules
 
 returns : tie.Need-returns
-returns c = met-before c.before.before.before.before.before.before.before.before.args.origin (marks-in c.before.before.before.before.before.before.before.before.args.key c.before.before.before.before.before.before.before.before.args.columns.now) c.before.before.before.before.before.before.before.before.args.met c.before.before.before.before.if1.true c.before.before.append.ensures
+returns c = met_before c.before.before.before.before.before.before.before.before.args.origin (marks_in c.before.before.before.before.before.before.before.before.args.key c.before.before.before.before.before.before.before.before.args.columns.now) c.before.before.before.before.before.before.before.before.args.met c.before.before.before.before.if1.true c.before.before.append.ensures
 
 find-one-requires : tie.Need-find-one-requires
 find-one-requires c κs = c.before.before.before.before.requires.0
@@ -22,8 +22,8 @@ enum_told c = search rules
 enum-told-2 : tie.Need-enum-told-2
 enum-told-2 c = search rules
 
-returns-2 : tie.Need-returns-2
-returns-2 c = met-here c.before.before.before.before.before.before.before.args.origin (marks-in c.before.before.before.before.before.before.before.args.key c.before.before.before.before.before.before.before.args.columns.now) c.before.before.before.before.before.before.before.args.met c.before.before.before.if1.false c.before.before.find-one.ensures c.enum-told2.given.1
+returns_2 : tie.Need-returns-2
+returns_2 c = met_here c.before.before.before.before.before.before.before.args.origin (marks_in c.before.before.before.before.before.before.before.args.key c.before.before.before.before.before.before.before.args.columns.now) c.before.before.before.before.before.before.before.args.met c.before.before.before.if1.false c.before.before.find-one.ensures c.enum-told2.given.1
 
 append-requires-2 : tie.Need-append-requires-2
 append-requires-2 c κs = c.before.before.before.before.before.before.before.before.requires
@@ -31,8 +31,8 @@ append-requires-2 c κs = c.before.before.before.before.before.before.before.bef
 same-length-2 : tie.Need-same-length-2
 same-length-2 c = search rules
 
-returns-3 : tie.Need-returns-3
-returns-3 c = not-met c.before.before.before.before.before.before.before.before.before.before.before.args.origin (marks-in c.before.before.before.before.before.before.before.before.before.before.before.args.key c.before.before.before.before.before.before.before.before.before.before.before.args.columns.now) c.before.before.before.before.before.before.before.before.before.before.before.args.met c.before.before.before.before.before.before.before.if1.false c.before.before.before.before.before.before.find-one.ensures c.before.before.before.before.enum_told.given.1 c.before.before.append2.ensures
+returns_3 : tie.Need-returns-3
+returns_3 c = not_met c.before.before.before.before.before.before.before.before.before.before.before.args.origin (marks_in c.before.before.before.before.before.before.before.before.before.before.before.args.key c.before.before.before.before.before.before.before.before.before.before.before.args.columns.now) c.before.before.before.before.before.before.before.before.before.before.before.args.met c.before.before.before.before.before.before.before.if1.false c.before.before.before.before.before.before.find-one.ensures c.before.before.before.before.enum_told.given.1 c.before.before.append2.ensures
 
 pub remaining-one-spec : {M : Type 1} → statement M
 remaining-one-spec =
@@ -44,7 +44,7 @@ remaining-one-spec =
     find-one-requires
     enum_told
     enum-told-2
-    returns-2
+    returns_2
     append-requires-2
     same-length-2
-    returns-3)
+    returns_3)

@@ -1,4 +1,4 @@
-use Rattle.fold_parts.proofs.Own.{own-node, own_in, own-folded, own-copied, own-parts-at}
+use Rattle.fold_parts.proofs.Own.{own_node, own_in, own_folded, own_copied, own_parts_at}
 use Prim.Native.Nat.{ℕ, ◌+◌, ◌-◌, ◌*◌, ◌≤◌, ◌<◌}
 use native.Mathlib.Omega.{arith}
 use mathlib.Core.Path.{◌≡◌, refl, sym, ap, ◌∙◌, subst}
@@ -14,19 +14,19 @@ use Rattle.fold_parts.proofs.fold_parts.Reads as fold-parts-reads
 use Rattle.fold_parts.proofs.is_visited.Reads as is-visited-reads
 
 is-visited-requires : tie.Need-is-visited-requires
-is-visited-requires c κs = own-node c.before.before.before.requires.0
+is-visited-requires c κs = own_node c.before.before.before.requires.0
 
 sub-fold-parts : tie.Need-overflow-sub-fold-parts
 sub-fold-parts c = let (i, (j, k)) = own_in c.before.before.before.before.before.requires.0 in omega arith
 
 fold-parts-requires : tie.Need-fold-parts-requires
-fold-parts-requires c κs = let (i, (j, k)) = own_in c.before.before.before.before.before.before.requires.0 in (own-parts-at c.before.before.is-visited.ensures c.before.if1.true c.before.before.before.before.before.before.requires.0, (omega (arith, c.before.before.before.before.before.before.requires.1.0), c.before.before.before.before.before.before.requires.1.1))
+fold-parts-requires c κs = let (i, (j, k)) = own_in c.before.before.before.before.before.before.requires.0 in (own_parts_at c.before.before.is-visited.ensures c.before.if1.true c.before.before.before.before.before.before.requires.0, (omega (arith, c.before.before.before.before.before.before.requires.1.0), c.before.before.before.before.before.before.requires.1.1))
 
 same_length : tie.Need-same-length
 same_length c = search rules
 
 returns : tie.Need-returns
-returns c = own-folded c.before.before.before.before.before.before.before.before.before.requires.0.own c.before.before.before.before.before.is-visited.ensures c.before.before.before.before.if1.true c.before.before.fold-parts.ensures
+returns c = own_folded c.before.before.before.before.before.before.before.before.before.requires.0.own c.before.before.before.before.before.is-visited.ensures c.before.before.before.before.if1.true c.before.before.fold-parts.ensures
 
 sub-copy : tie.Need-overflow-sub-copy
 sub-copy c = let (i, (j, k)) = own_in c.before.before.before.before.before.requires.0 in omega arith
@@ -37,8 +37,8 @@ copy-requires c κs = let (i, (j, k)) = own_in c.before.before.before.before.bef
 same-length-2 : tie.Need-same-length-2
 same-length-2 c = search rules
 
-returns-2 : tie.Need-returns-2
-returns-2 c = own-copied c.before.before.before.before.before.before.before.before.before.requires.0.own c.before.before.before.before.before.is-visited.ensures c.before.before.before.before.if1.false c.before.before.before.before.before.before.before.before.before.requires.0 c.before.before.before.before.before.before.before.before.before.requires.1 c.before.before.copy.ensures
+returns_2 : tie.Need-returns-2
+returns_2 c = own_copied c.before.before.before.before.before.before.before.before.before.requires.0.own c.before.before.before.before.before.is-visited.ensures c.before.before.before.before.if1.false c.before.before.before.before.before.before.before.before.before.requires.0 c.before.before.before.before.before.before.before.before.before.requires.1 c.before.before.copy.ensures
 
 pub fold-own-spec : {M : Type 1} → statement M
 fold-own-spec =
@@ -52,4 +52,4 @@ fold-own-spec =
     sub-copy
     copy-requires
     same-length-2
-    returns-2)
+    returns_2)

@@ -4,7 +4,7 @@ use borrow.Author.Rules.{rules}
 use mathlib.Core.Path.{◌≡◌, refl, sym, ap, ap₂, ◌∙◌, subst}
 use mathlib.Core.List.{List, [], ◌∷◌, ◌++◌, map}
 use lib.ListN.{length, take, drop, get_or, set, length-set}
-use Rattle.gather.proofs.Laws.{word-is}
+use Rattle.gather.proofs.Laws.{word_is}
 use Rattle.gather.proofs.four.Statement.{statement}
 use Rattle.gather.proofs.four.Tie as tie
 use Rattle.gather.proofs.four.Reads as reads
@@ -51,7 +51,7 @@ add-result-3 : tie.Need-overflow-add-result-3
 add-result-3 c = search rules
 
 returns : tie.Need-returns
-returns c = (word-is _ _ c.before.before.before.nth.ensures.0 c.before.before.nth2.ensures.0 c.before.nth3.ensures.0 c.nth4.ensures.0, omega arith)
+returns c = (word_is _ _ c.before.before.before.nth.ensures.0 c.before.before.nth2.ensures.0 c.before.nth3.ensures.0 c.nth4.ensures.0, omega arith)
 
 pub four-spec : {M : Type 1} → statement M
 four-spec =

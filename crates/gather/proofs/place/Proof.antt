@@ -4,7 +4,7 @@ use borrow.Author.Rules.{rules}
 use mathlib.Core.Path.{◌≡◌, refl, sym, ap, ap₂, ◌∙◌, subst}
 use mathlib.Core.List.{List, [], ◌∷◌, ◌++◌, map}
 use lib.ListN.{length, take, drop, get_or, set, length-set}
-use Rattle.gather.proofs.Strings.{place-empty, place-held, place-over, place-new, start-short}
+use Rattle.gather.proofs.Strings.{place_empty, place_held, place_over, place_new, start_short}
 use Rattle.gather.specs.Gather.{held, stretch}
 use Rattle.gather.proofs.place.Statement.{statement}
 use Rattle.gather.proofs.place.Tie as tie
@@ -14,7 +14,7 @@ use Rattle.gather.proofs.find.Reads as find-reads
 use Rattle.gather.proofs.mark.Reads as mark-reads
 
 returns : tie.Need-returns
-returns c = place-empty c.before.before.before.before.before.args.s.now c.before.before.before.before.before.args.olds.now c.before.before.before.before.before.args.marks.now c.before.before.before.before.before.args.news.now c.before.before.before.before.before.args.count c.before.before.before.before.before.args.r c.before.before.before.before.before.requires.0 c.before.before.before.before.before.requires.1.0.1 c.before.before.before.before.before.args.bytes c.before.before.before.before.before.requires.1.1.0 c.if1.true
+returns c = place_empty c.before.before.before.before.before.args.s.now c.before.before.before.before.before.args.olds.now c.before.before.before.before.before.args.marks.now c.before.before.before.before.before.args.news.now c.before.before.before.before.before.args.count c.before.before.before.before.before.args.r c.before.before.before.before.before.requires.0 c.before.before.before.before.before.requires.1.0.1 c.before.before.before.before.before.args.bytes c.before.before.before.before.before.requires.1.1.0 c.if1.true
 
 mark-requires : tie.Need-mark-requires
 mark-requires c κs = c.before.before.before.before.before.requires.1.0.1.within
@@ -32,7 +32,7 @@ mul-t20 : tie.Need-overflow-mul-t20
 mul-t20 c = search rules
 
 add-t21 : tie.Need-overflow-add-t21
-add-t21 c = let b = start-short c.before.before.before.before.before.before.before.before.before.before.before.args.s.now c.before.before.before.before.before.before.before.before.before.before.before.args.olds.now c.before.before.before.before.before.before.before.before.before.before.before.args.marks.now c.before.before.before.before.before.before.before.before.before.before.before.args.news.now c.before.before.before.before.before.before.before.before.before.before.before.args.count c.before.before.find.result c.before.before.before.before.before.before.before.before.before.before.before.requires.0 c.before.if2.true in let k = c.before.before.before.before.before.before.before.before.before.before.before.requires.1.0.1.small in let z = c.before.before.before.before.before.before.before.before.before.before.before.requires.1.1 in omega arith
+add-t21 c = let b = start_short c.before.before.before.before.before.before.before.before.before.before.before.args.s.now c.before.before.before.before.before.before.before.before.before.before.before.args.olds.now c.before.before.before.before.before.before.before.before.before.before.before.args.marks.now c.before.before.before.before.before.before.before.before.before.before.before.args.news.now c.before.before.before.before.before.before.before.before.before.before.before.args.count c.before.before.find.result c.before.before.before.before.before.before.before.before.before.before.before.requires.0 c.before.if2.true in let k = c.before.before.before.before.before.before.before.before.before.before.before.requires.1.0.1.small in let z = c.before.before.before.before.before.before.before.before.before.before.before.requires.1.1 in omega arith
 
 same_length : tie.Need-same-length
 same_length c = search rules
@@ -40,8 +40,8 @@ same_length c = search rules
 same-length-2 : tie.Need-same-length-2
 same-length-2 c = search rules
 
-returns-2 : tie.Need-returns-2
-returns-2 c = place-held c.before.before.before.before.before.before.before.before.before.before.before.args.s.now c.before.before.before.before.before.before.before.before.before.before.before.args.olds.now c.before.before.before.before.before.before.before.before.before.before.before.args.marks.now c.before.before.before.before.before.before.before.before.before.before.before.args.news.now c.before.before.before.before.before.before.before.before.before.before.before.args.count c.before.before.before.before.before.before.before.before.before.before.before.args.r c.before.before.before.before.before.before.before.before.before.before.before.requires.0 c.before.before.before.before.before.before.before.before.before.before.before.requires.1.0.1 c.before.before.before.before.before.before.before.before.before.before.before.args.bytes c.before.before.find.result c.before.before.before.before.before.before.before.before.before.before.before.requires.1.1.0 c.before.before.before.before.before.before.if1.false c.before.before.find.ensures c.before.if2.true
+returns_2 : tie.Need-returns-2
+returns_2 c = place_held c.before.before.before.before.before.before.before.before.before.before.before.args.s.now c.before.before.before.before.before.before.before.before.before.before.before.args.olds.now c.before.before.before.before.before.before.before.before.before.before.before.args.marks.now c.before.before.before.before.before.before.before.before.before.before.before.args.news.now c.before.before.before.before.before.before.before.before.before.before.before.args.count c.before.before.before.before.before.before.before.before.before.before.before.args.r c.before.before.before.before.before.before.before.before.before.before.before.requires.0 c.before.before.before.before.before.before.before.before.before.before.before.requires.1.0.1 c.before.before.before.before.before.before.before.before.before.before.before.args.bytes c.before.before.find.result c.before.before.before.before.before.before.before.before.before.before.before.requires.1.1.0 c.before.before.before.before.before.before.if1.false c.before.before.find.ensures c.before.if2.true
 
 add-if3 : tie.Need-overflow-add-if3
 add-if3 c = search rules
@@ -55,8 +55,8 @@ same-length-3 c = search rules
 same-length-4 : tie.Need-same-length-4
 same-length-4 c = search rules
 
-returns-3 : tie.Need-returns-3
-returns-3 c = place-over c.before.before.before.before.before.before.before.before.before.before.before.args.s.now c.before.before.before.before.before.before.before.before.before.before.before.args.olds.now c.before.before.before.before.before.before.before.before.before.before.before.args.marks.now c.before.before.before.before.before.before.before.before.before.before.before.args.news.now c.before.before.before.before.before.before.before.before.before.before.before.args.count c.before.before.before.before.before.before.before.before.before.before.before.args.r c.before.before.before.before.before.before.before.before.before.before.before.requires.0 c.before.before.before.before.before.before.before.before.before.before.before.requires.1.0.1 c.before.before.before.before.before.before.if1.false c.before.before.find.result c.before.before.find.ensures (omega arith) c.before.before.before.before.before.before.before.before.before.before.before.args.bytes 0 c.before.before.before.before.before.before.before.before.before.before.before.requires.1.1.0 c.if3.true
+returns_3 : tie.Need-returns-3
+returns_3 c = place_over c.before.before.before.before.before.before.before.before.before.before.before.args.s.now c.before.before.before.before.before.before.before.before.before.before.before.args.olds.now c.before.before.before.before.before.before.before.before.before.before.before.args.marks.now c.before.before.before.before.before.before.before.before.before.before.before.args.news.now c.before.before.before.before.before.before.before.before.before.before.before.args.count c.before.before.before.before.before.before.before.before.before.before.before.args.r c.before.before.before.before.before.before.before.before.before.before.before.requires.0 c.before.before.before.before.before.before.before.before.before.before.before.requires.1.0.1 c.before.before.before.before.before.before.if1.false c.before.before.find.result c.before.before.find.ensures (omega arith) c.before.before.before.before.before.before.before.before.before.before.before.args.bytes 0 c.before.before.before.before.before.before.before.before.before.before.before.requires.1.1.0 c.if3.true
 
 mul-olds : tie.Need-overflow-mul-olds
 mul-olds c = search rules
@@ -97,8 +97,8 @@ same-length-6 c = search rules
 same-length-7 : tie.Need-same-length-7
 same-length-7 c = search rules
 
-returns-4 : tie.Need-returns-4
-returns-4 c = place-new c.before.before.before.before.before.before.before.before.before.before.before.args.s.now c.before.before.before.before.before.before.before.before.before.before.before.args.olds.now c.before.before.before.before.before.before.before.before.before.before.before.args.marks.now c.before.before.before.before.before.before.before.before.before.before.before.args.news.now c.before.before.before.before.before.before.before.before.before.before.before.args.count c.before.before.before.before.before.before.before.before.before.before.before.args.r c.before.before.before.before.before.before.before.before.before.before.before.requires.0 c.before.before.before.before.before.before.before.before.before.before.before.requires.1.0.1 c.before.before.before.before.before.before.if1.false c.before.before.find.result c.before.before.find.ensures (omega arith) c.before.before.before.before.before.before.before.before.before.before.before.args.bytes c.before.before.before.before.before.mark.result c.before.before.before.before.before.before.before.before.before.before.before.requires.1.1.0 c.before.before.before.before.before.before.before.before.before.before.before.requires.1.0.0 c.before.before.before.before.before.mark.ensures
+returns_4 : tie.Need-returns-4
+returns_4 c = place_new c.before.before.before.before.before.before.before.before.before.before.before.args.s.now c.before.before.before.before.before.before.before.before.before.before.before.args.olds.now c.before.before.before.before.before.before.before.before.before.before.before.args.marks.now c.before.before.before.before.before.before.before.before.before.before.before.args.news.now c.before.before.before.before.before.before.before.before.before.before.before.args.count c.before.before.before.before.before.before.before.before.before.before.before.args.r c.before.before.before.before.before.before.before.before.before.before.before.requires.0 c.before.before.before.before.before.before.before.before.before.before.before.requires.1.0.1 c.before.before.before.before.before.before.if1.false c.before.before.find.result c.before.before.find.ensures (omega arith) c.before.before.before.before.before.before.before.before.before.before.before.args.bytes c.before.before.before.before.before.mark.result c.before.before.before.before.before.before.before.before.before.before.before.requires.1.1.0 c.before.before.before.before.before.before.before.before.before.before.before.requires.1.0.0 c.before.before.before.before.before.mark.ensures
 
 pub place-spec : {M : Type 1} → statement M
 place-spec =
@@ -113,12 +113,12 @@ place-spec =
     add-t21
     same_length
     same-length-2
-    returns-2
+    returns_2
     add-if3
     add-t23
     same-length-3
     same-length-4
-    returns-3
+    returns_3
     mul-olds
     slice-write-olds
     mul-marks
@@ -132,4 +132,4 @@ place-spec =
     same-length-5
     same-length-6
     same-length-7
-    returns-4)
+    returns_4)

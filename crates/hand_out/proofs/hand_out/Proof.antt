@@ -1,5 +1,5 @@
 use Rattle.hand_out.specs.HandOut.{AnsweredAt}
-use Rattle.hand_out.proofs.Handing.{left-written, hands-done-as, hands-refused-as}
+use Rattle.hand_out.proofs.Handing.{left_written, hands_done_as, hands_refused_as}
 use Prim.Native.Nat.{ℕ, ◌+◌, ◌-◌, ◌*◌, ◌≤◌, ◌<◌}
 use native.Mathlib.Omega.{arith}
 use mathlib.Core.Path.{◌≡◌, refl, sym, ap, ◌∙◌, subst}
@@ -17,7 +17,7 @@ enum-known-r : tie.Need-enum-known-r
 enum-known-r c = search rules
 
 write-requires : tie.Need-write-requires
-write-requires c κs = left-written (subst (AnsweredAt c.before.before.before.before.before.before.before.args.s.now c.before.before.before.before.before.before.before.args.x.now) c.before.before.r.given.1 c.before.before.before.before.before.before.before.requires.0)
+write-requires c κs = left_written (subst (AnsweredAt c.before.before.before.before.before.before.before.args.s.now c.before.before.before.before.before.before.before.args.x.now) c.before.before.r.given.1 c.before.before.before.before.before.before.before.requires.0)
 
 enum-known-r-2 : tie.Need-enum-known-r-2
 enum-known-r-2 c = search rules
@@ -32,10 +32,10 @@ same_length : tie.Need-same-length
 same_length c = search rules
 
 returns : tie.Need-returns
-returns c = hands-done-as c.before.before.before.before.before.before.before.before.before.before.args.s.now c.before.before.before.before.before.before.before.before.before.before.args.x.now _ c.before.before.before.before.before.before.before.before.before.before.args.columns c.before.before.before.before.before.before.before.before.before.before.args.out.now _ _ c.before.before.before.before.before.before.before.before.before.before.args.r c.before.before.before.before.before.r.given.1 c.before.before.write.ensures
+returns c = hands_done_as c.before.before.before.before.before.before.before.before.before.before.args.s.now c.before.before.before.before.before.before.before.before.before.before.args.x.now _ c.before.before.before.before.before.before.before.before.before.before.args.columns c.before.before.before.before.before.before.before.before.before.before.args.out.now _ _ c.before.before.before.before.before.before.before.before.before.before.args.r c.before.before.before.before.before.r.given.1 c.before.before.write.ensures
 
-returns-2 : tie.Need-returns-2
-returns-2 c = hands-refused-as c.before.before.before.before.before.before.before.args.s.now c.before.before.before.before.before.before.before.args.x.now _ _ c.before.before.before.before.before.before.before.args.columns c.before.before.before.before.before.before.before.args.out.now _ c.before.before.before.before.before.before.before.args.r c.before.before.r2.given.1 c.refusal.ensures
+returns_2 : tie.Need-returns-2
+returns_2 c = hands_refused_as c.before.before.before.before.before.before.before.args.s.now c.before.before.before.before.before.before.before.args.x.now _ _ c.before.before.before.before.before.before.before.args.columns c.before.before.before.before.before.before.before.args.out.now _ c.before.before.before.before.before.before.before.args.r c.before.before.r2.given.1 c.refusal.ensures
 
 pub hand-out-spec : {M : Type 1} → statement M
 hand-out-spec =
@@ -48,4 +48,4 @@ hand-out-spec =
     refusal-requires
     same_length
     returns
-    returns-2)
+    returns_2)

@@ -1,4 +1,4 @@
-use Rattle.hand_out.proofs.Handing.{asked-length, encodable, too_short, long-enough}
+use Rattle.hand_out.proofs.Handing.{asked_length, encodable, too_short, long_enough}
 use Prim.Native.Nat.{ℕ, ◌+◌, ◌-◌, ◌*◌, ◌≤◌, ◌<◌}
 use native.Mathlib.Omega.{arith}
 use mathlib.Core.Path.{◌≡◌, refl, sym, ap, ◌∙◌, subst}
@@ -14,7 +14,7 @@ use Rattle.encode.proofs.encode.Reads as encode-reads
 use Rattle.encode.proofs.encoded_length.Reads as encoded-length-reads
 
 encoded-length-requires : tie.Need-encoded-length-requires
-encoded-length-requires c κs = asked-length c.before.before.before.requires
+encoded-length-requires c κs = asked_length c.before.before.before.requires
 
 refusal-requires : tie.Need-refusal-requires
 refusal-requires c κs = search rules
@@ -28,8 +28,8 @@ encode-requires c κs = encodable c.before.before.before.before.before.before.re
 same_length : tie.Need-same-length
 same_length c = search rules
 
-returns-2 : tie.Need-returns-2
-returns-2 c = long-enough c.before.before.before.before.before.before.before.before.before.args.s.now c.before.before.before.before.before.before.before.before.before.args.x.now c.before.before.before.before.before.before.before.before.before.args.n c.before.before.before.before.before.before.before.before.before.args.columns _ _ c.before.before.before.before.before.before.before.before.before.args.out.now _ c.before.before.before.before.before.encoded-length.ensures (omega arith) c.before.before.encode.ensures
+returns_2 : tie.Need-returns-2
+returns_2 c = long_enough c.before.before.before.before.before.before.before.before.before.args.s.now c.before.before.before.before.before.before.before.before.before.args.x.now c.before.before.before.before.before.before.before.before.before.args.n c.before.before.before.before.before.before.before.before.before.args.columns _ _ c.before.before.before.before.before.before.before.before.before.args.out.now _ c.before.before.before.before.before.encoded-length.ensures (omega arith) c.before.before.encode.ensures
 
 pub write_spec : {M : Type 1} → statement M
 write_spec =
@@ -40,4 +40,4 @@ write_spec =
     returns
     encode-requires
     same_length
-    returns-2)
+    returns_2)

@@ -1,4 +1,4 @@
-use Rattle.hash_join.proofs.Joining.{lower-right, higher-left, each-side}
+use Rattle.hash_join.proofs.Joining.{lower_right, higher_left, each_side}
 use Prim.Native.Nat.{ℕ, ◌+◌, ◌-◌, ◌*◌, ◌≤◌, ◌<◌}
 use native.Mathlib.Omega.{arith}
 use mathlib.Core.Path.{◌≡◌, refl, sym, ap, ◌∙◌, subst}
@@ -29,8 +29,8 @@ enum-known-left c = search rules
 enum-told-2 : tie.Need-enum-told-2
 enum-told-2 c = search rules
 
-returns-2 : tie.Need-returns-2
-returns-2 c = lower-right c.before.before.before.before.before.before.args.n c.before.before.before.before.columns.given.1 c.before.before.source.ensures c.enum-told2.given.1
+returns_2 : tie.Need-returns-2
+returns_2 c = lower_right c.before.before.before.before.before.before.args.n c.before.before.before.before.columns.given.1 c.before.before.source.ensures c.enum-told2.given.1
 
 source-requires-2 : tie.Need-source-requires-2
 source-requires-2 c κs = search rules
@@ -41,11 +41,11 @@ enum-known-right c = search rules
 enum-told-3 : tie.Need-enum-told-3
 enum-told-3 c = search rules
 
-returns-3 : tie.Need-returns-3
-returns-3 c = higher-left c.before.before.before.before.before.before.before.before.before.before.args.n c.before.before.before.before.before.before.before.before.columns.given.1 c.before.before.before.before.before.before.source.ensures c.before.before.before.before.left.given.1 c.before.before.source2.ensures c.enum-told3.given.1
+returns_3 : tie.Need-returns-3
+returns_3 c = higher_left c.before.before.before.before.before.before.before.before.before.before.args.n c.before.before.before.before.before.before.before.before.columns.given.1 c.before.before.before.before.before.before.source.ensures c.before.before.before.before.left.given.1 c.before.before.source2.ensures c.enum-told3.given.1
 
-returns-4 : tie.Need-returns-4
-returns-4 c = each-side c.before.before.before.before.before.before.before.before.before.before.before.args.n c.before.before.before.before.before.before.before.before.before.columns.given.1 c.before.before.before.before.before.before.before.source.ensures c.before.before.before.before.before.left.given.1 c.before.before.before.source2.ensures c.before.right.given.1
+returns_4 : tie.Need-returns-4
+returns_4 c = each_side c.before.before.before.before.before.before.before.before.before.before.before.args.n c.before.before.before.before.before.before.before.before.before.columns.given.1 c.before.before.before.before.before.before.before.source.ensures c.before.before.before.before.before.left.given.1 c.before.before.before.source2.ensures c.before.right.given.1
 
 pub one-on-each-side-spec : {M : Type 1} → statement M
 one-on-each-side-spec =
@@ -57,9 +57,9 @@ one-on-each-side-spec =
     source-requires
     enum-known-left
     enum-told-2
-    returns-2
+    returns_2
     source-requires-2
     enum-known-right
     enum-told-3
-    returns-3
-    returns-4)
+    returns_3
+    returns_4)

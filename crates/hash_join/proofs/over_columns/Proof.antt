@@ -1,5 +1,5 @@
 use Rattle.words.proofs.Nodes.{node_in}
-use Rattle.hash_join.proofs.Joining.{columns-through}
+use Rattle.hash_join.proofs.Joining.{columns_through}
 use Prim.Native.Nat.{ℕ, ◌+◌, ◌-◌, ◌*◌, ◌≤◌, ◌<◌}
 use native.Mathlib.Omega.{arith}
 use mathlib.Core.Path.{◌≡◌, refl, sym, ap, ◌∙◌, subst}
@@ -25,13 +25,13 @@ returns c = c.columns.ensures
 columns-requires-2 : tie.Need-columns-requires-2
 columns-requires-2 c κs = c.before.before.before.before.before.requires.0
 
-returns-2 : tie.Need-returns-2
-returns-2 c = c.columns2.ensures
+returns_2 : tie.Need-returns-2
+returns_2 c = c.columns2.ensures
 
-returns-3 : tie.Need-returns-3
-returns-3 c = columns-through c.before.before.before.before.before.requires.1.0 c.before.before.before.before.before.requires.1.1.0 refl c.before.before.before.before.before.requires.1.1.1 c.before.before.tag_at.ensures c.before.if1.false c.if2.false
+returns_3 : tie.Need-returns-3
+returns_3 c = columns_through c.before.before.before.before.before.requires.1.0 c.before.before.before.before.before.requires.1.1.0 refl c.before.before.before.before.before.requires.1.1.1 c.before.before.tag_at.ensures c.before.if1.false c.if2.false
 
 pub over-columns-spec : {M : Type 1} → statement M
 over-columns-spec =
     tie.close
-    (tie.spec tag-at-requires columns-requires returns columns-requires-2 returns-2 returns-3)
+    (tie.spec tag-at-requires columns-requires returns columns-requires-2 returns_2 returns_3)

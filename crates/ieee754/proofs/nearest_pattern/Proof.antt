@@ -1,7 +1,7 @@
 -- `ieee754::nearest_pattern` meets its contract: each answer is the nearest pattern by a law of `Pattern`. Assumes nothing.
 use borrow.Author.Rules.{rules}
 use native.Mathlib.Omega.{arith}
-use Rattle.ieee754.proofs.Pattern.{nearest_zero, leading, zeros-lt, exact, exact-lt, whole-lt, step-pos, rest_lt, less, more, even}
+use Rattle.ieee754.proofs.Pattern.{nearest_zero, leading, zeros_lt, exact, exact_lt, whole_lt, step_pos, rest_lt, less, more, even}
 use Rattle.ieee754.proofs.nearest_pattern.Statement.{statement}
 use Rattle.ieee754.proofs.nearest_pattern.Tie as tie
 
@@ -9,7 +9,7 @@ returns : tie.Need-returns
 returns c = nearest_zero c.before.args.n c.if1.true
 
 sub-field : tie.Need-overflow-sub-field
-sub-field c = omega (arith, zeros-lt (leading c.before.args.n c.if1.false c.before.ranges.n.fits))
+sub-field c = omega (arith, zeros_lt (leading c.before.args.n c.if1.false c.before.ranges.n.fits))
 
 cast-field : tie.Need-overflow-cast-field
 cast-field c = search rules
@@ -20,20 +20,20 @@ mul-field c = search rules
 cast-result : tie.Need-overflow-cast-result
 cast-result c =
     let e = c.before in
-    record { fits = omega (arith, zeros-lt (leading e.before.args.n e.if1.false e.before.ranges.n.fits)) }
+    record { fits = omega (arith, zeros_lt (leading e.before.args.n e.if1.false e.before.ranges.n.fits)) }
 
 shl-result : tie.Need-overflow-shl-result
 shl-result c =
     let e = c.before in
-    omega (arith, zeros-lt (leading e.before.args.n e.if1.false e.before.ranges.n.fits))
+    omega (arith, zeros_lt (leading e.before.args.n e.if1.false e.before.ranges.n.fits))
 
 add-result : tie.Need-overflow-add-result
 add-result c =
     let e = c.before in
-    record { fits = omega (arith, exact-lt (leading e.before.args.n e.if1.false e.before.ranges.n.fits) c.if2.true) }
+    record { fits = omega (arith, exact_lt (leading e.before.args.n e.if1.false e.before.ranges.n.fits) c.if2.true) }
 
-returns-2 : tie.Need-returns-2
-returns-2 c =
+returns_2 : tie.Need-returns-2
+returns_2 c =
     let e = c.before in
     exact (leading e.before.args.n e.if1.false e.before.ranges.n.fits) c.if2.true
 
@@ -55,7 +55,7 @@ shr-whole c = search rules
 rem-rest : tie.Need-nonzero-rem-rest
 rem-rest c =
     let e = c.before in
-    step-pos (leading e.before.args.n e.if1.false e.before.ranges.n.fits) c.if2.false
+    step_pos (leading e.before.args.n e.if1.false e.before.ranges.n.fits) c.if2.false
 
 add-if3 : tie.Need-overflow-add-if3
 add-if3 c =
@@ -65,10 +65,10 @@ add-if3 c =
 add-result-2 : tie.Need-overflow-add-result-2
 add-result-2 c =
     let e = c.before.before in
-    record { fits = omega (arith, whole-lt (leading e.before.args.n e.if1.false e.before.ranges.n.fits) c.before.if2.false) }
+    record { fits = omega (arith, whole_lt (leading e.before.args.n e.if1.false e.before.ranges.n.fits) c.before.if2.false) }
 
-returns-3 : tie.Need-returns-3
-returns-3 c =
+returns_3 : tie.Need-returns-3
+returns_3 c =
     let e = c.before.before in
     less (leading e.before.args.n e.if1.false e.before.ranges.n.fits) c.before.if2.false c.if3.true
 
@@ -80,27 +80,27 @@ add-if4 c =
 add-result-3 : tie.Need-overflow-add-result-3
 add-result-3 c =
     let e = c.before.before.before in
-    record { fits = omega (arith, whole-lt (leading e.before.args.n e.if1.false e.before.ranges.n.fits) c.before.before.if2.false) }
+    record { fits = omega (arith, whole_lt (leading e.before.args.n e.if1.false e.before.ranges.n.fits) c.before.before.if2.false) }
 
 add-result-4 : tie.Need-overflow-add-result-4
 add-result-4 c =
     let e = c.before.before.before in
-    record { fits = omega (arith, whole-lt (leading e.before.args.n e.if1.false e.before.ranges.n.fits) c.before.before.if2.false) }
+    record { fits = omega (arith, whole_lt (leading e.before.args.n e.if1.false e.before.ranges.n.fits) c.before.before.if2.false) }
 
-returns-4 : tie.Need-returns-4
-returns-4 c =
+returns_4 : tie.Need-returns-4
+returns_4 c =
     let e = c.before.before.before in
     more (leading e.before.args.n e.if1.false e.before.ranges.n.fits) c.before.before.if2.false c.if4.true
 
 add-result-5 : tie.Need-overflow-add-result-5
 add-result-5 c =
     let e = c.before.before.before in
-    record { fits = omega (arith, whole-lt (leading e.before.args.n e.if1.false e.before.ranges.n.fits) c.before.before.if2.false) }
+    record { fits = omega (arith, whole_lt (leading e.before.args.n e.if1.false e.before.ranges.n.fits) c.before.before.if2.false) }
 
 add-result-6 : tie.Need-overflow-add-result-6
 add-result-6 c =
     let e = c.before.before.before in
-    record { fits = omega (arith, whole-lt (leading e.before.args.n e.if1.false e.before.ranges.n.fits) c.before.before.if2.false) }
+    record { fits = omega (arith, whole_lt (leading e.before.args.n e.if1.false e.before.ranges.n.fits) c.before.before.if2.false) }
 
 returns-5 : tie.Need-returns-5
 returns-5 c =
@@ -118,7 +118,7 @@ nearest-pattern-spec =
     cast-result
     shl-result
     add-result
-    returns-2
+    returns_2
     sub-dropped
     cast-step
     shl-step
@@ -127,11 +127,11 @@ nearest-pattern-spec =
     rem-rest
     add-if3
     add-result-2
-    returns-3
+    returns_3
     add-if4
     add-result-3
     add-result-4
-    returns-4
+    returns_4
     add-result-5
     add-result-6
     returns-5)

@@ -1,6 +1,6 @@
 -- `ieee754::root_of_digits` meets its contract: the whole root makes the nearest pattern. Assumes nothing.
 use native.Mathlib.Omega.{arith}
-use Rattle.ieee754.proofs.RootDigits.{one_more, pattern-is}
+use Rattle.ieee754.proofs.RootDigits.{one_more, pattern_is}
 use borrow.Author.Rules.{rules}
 use Rattle.ieee754.proofs.root_of_digits.Statement.{statement}
 use Rattle.ieee754.proofs.root_of_digits.Tie as tie
@@ -27,7 +27,7 @@ add-result-2 : tie.Need-overflow-add-result-2
 add-result-2 c = search rules
 
 returns : tie.Need-returns
-returns c = pattern-is c.before.requires c.whole-root.ensures
+returns c = pattern_is c.before.requires c.whole-root.ensures
 
 pub root-of-digits-spec : {M : Type 1} → statement M
 root-of-digits-spec =

@@ -1,4 +1,4 @@
-use Rattle.nodes.proofs.Widths.{counted-as, two-left}
+use Rattle.nodes.proofs.Widths.{counted_as, two_left}
 use Rattle.is_empty.proofs.is_empty.Statement.{statement}
 use Rattle.is_empty.proofs.is_empty.Tie as tie
 
@@ -6,22 +6,22 @@ source-count-requires : tie.Need-source-count-requires
 source-count-requires c κs = c.before.requires
 
 leaf-is-empty-requires : tie.Need-leaf-is-empty-requires
-leaf-is-empty-requires c κs = (c.before.before.before.requires, counted-as c.before.source-count.ensures c.if1.true)
+leaf-is-empty-requires c κs = (c.before.before.before.requires, counted_as c.before.source-count.ensures c.if1.true)
 
 returns : tie.Need-returns
 returns c = c.leaf-is-empty.ensures
 
 over-is-empty-requires : tie.Need-over-is-empty-requires
-over-is-empty-requires c κs = (c.before.before.before.before.requires, counted-as c.before.before.source-count.ensures c.if2.true)
+over-is-empty-requires c κs = (c.before.before.before.before.requires, counted_as c.before.before.source-count.ensures c.if2.true)
 
-returns-2 : tie.Need-returns-2
-returns-2 c = c.over-is-empty.ensures
+returns_2 : tie.Need-returns-2
+returns_2 c = c.over-is-empty.ensures
 
 join-is-empty-requires : tie.Need-join-is-empty-requires
-join-is-empty-requires c κs = (c.before.before.before.before.requires, two-left c.before.before.source-count.ensures c.before.if1.false c.if2.false)
+join-is-empty-requires c κs = (c.before.before.before.before.requires, two_left c.before.before.source-count.ensures c.before.if1.false c.if2.false)
 
-returns-3 : tie.Need-returns-3
-returns-3 c = c.join-is-empty.ensures
+returns_3 : tie.Need-returns-3
+returns_3 c = c.join-is-empty.ensures
 
 pub is_empty_spec : {M : Type 1} → statement M
 is_empty_spec =
@@ -31,6 +31,6 @@ is_empty_spec =
     leaf-is-empty-requires
     returns
     over-is-empty-requires
-    returns-2
+    returns_2
     join-is-empty-requires
-    returns-3)
+    returns_3)

@@ -1,5 +1,5 @@
-use Rattle.labels.proofs.Routes.{aggregate-ends, groups-behind, group-ends, aggregate-goes}
-use Rattle.nodes.proofs.Trees.{trees-few}
+use Rattle.labels.proofs.Routes.{aggregate_ends, groups_behind, group_ends, aggregate_goes}
+use Rattle.nodes.proofs.Trees.{trees_few}
 use Rattle.nodes.proofs.Own.{at_in}
 use Prim.Native.Nat.{ℕ, ◌+◌, ◌-◌, ◌*◌, ◌≤◌, ◌<◌}
 use native.Mathlib.Omega.{arith}
@@ -22,7 +22,7 @@ cast-if1 : tie.Need-overflow-cast-if1
 cast-if1 c = search rules
 
 returns : tie.Need-returns
-returns c = aggregate-ends c.before.before.cell_at.ensures c.before.before.before.before.requires.1 c.before.before.before.before.args.i c.if1.true
+returns c = aggregate_ends c.before.before.cell_at.ensures c.before.before.before.before.requires.1 c.before.before.before.before.args.i c.if1.true
 
 cast-trees-start : tie.Need-overflow-cast-trees-start
 cast-trees-start c = search rules
@@ -37,19 +37,19 @@ cast-trees-start-2 : tie.Need-overflow-cast-trees-start-2
 cast-trees-start-2 c = search rules
 
 add-trees-start : tie.Need-overflow-add-trees-start
-add-trees-start c = omega (arith, trees-few (groups-behind c.before.before.before.before.cell_at.ensures c.before.before.before.before.before.before.requires.1 c.before.before.before.before.before.before.args.i c.before.before.if1.false c.before.before.before.before.before.before.requires.0), (at_in c.before.before.before.before.before.before.requires.0).1)
+add-trees-start c = omega (arith, trees_few (groups_behind c.before.before.before.before.cell_at.ensures c.before.before.before.before.before.before.requires.1 c.before.before.before.before.before.before.args.i c.before.before.if1.false c.before.before.before.before.before.before.requires.0), (at_in c.before.before.before.before.before.before.requires.0).1)
 
 sub-trees-start-3 : tie.Need-overflow-sub-trees-start-3
 sub-trees-start-3 c = omega (arith, (at_in c.before.before.before.before.before.before.requires.0).0)
 
 trees-start-requires : tie.Need-trees-start-requires
-trees-start-requires c κs = groups-behind c.before.before.before.before.cell_at.ensures c.before.before.before.before.before.before.requires.1 c.before.before.before.before.before.before.args.i c.before.before.if1.false c.before.before.before.before.before.before.requires.0
+trees-start-requires c κs = groups_behind c.before.before.before.before.cell_at.ensures c.before.before.before.before.before.before.requires.1 c.before.before.before.before.before.before.args.i c.before.before.if1.false c.before.before.before.before.before.before.requires.0
 
 expression-route-requires : tie.Need-expression-route-requires
-expression-route-requires c κs = group-ends c.before.before.before.before.before.cell_at.ensures c.before.before.before.before.before.before.before.requires.1 c.before.before.before.before.before.before.before.args.i c.before.before.before.if1.false c.trees-start.ensures c.before.before.before.before.before.before.before.requires.0
+expression-route-requires c κs = group_ends c.before.before.before.before.before.cell_at.ensures c.before.before.before.before.before.before.before.requires.1 c.before.before.before.before.before.before.before.args.i c.before.before.before.if1.false c.trees-start.ensures c.before.before.before.before.before.before.before.requires.0
 
-returns-2 : tie.Need-returns-2
-returns-2 c = aggregate-goes c.before.before.before.before.before.before.cell_at.ensures c.before.before.before.before.before.before.before.before.requires.1 c.before.before.before.before.before.before.before.before.args.i c.before.before.before.before.if1.false c.before.trees-start.ensures c.expression-route.result c.expression-route.ensures
+returns_2 : tie.Need-returns-2
+returns_2 c = aggregate_goes c.before.before.before.before.before.before.cell_at.ensures c.before.before.before.before.before.before.before.before.requires.1 c.before.before.before.before.before.before.before.before.args.i c.before.before.before.before.if1.false c.before.trees-start.ensures c.expression-route.result c.expression-route.ensures
 
 pub aggregate-route-spec : {M : Type 1} → statement M
 aggregate-route-spec =
@@ -66,4 +66,4 @@ aggregate-route-spec =
     sub-trees-start-3
     trees-start-requires
     expression-route-requires
-    returns-2)
+    returns_2)

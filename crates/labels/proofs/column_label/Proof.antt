@@ -1,4 +1,4 @@
-use Rattle.labels.proofs.Texts.{label-said-here, label-of-column}
+use Rattle.labels.proofs.Texts.{label_said_here, label_of_column}
 use Prim.Native.Nat.{ℕ, ◌+◌, ◌-◌, ◌*◌, ◌≤◌, ◌<◌}
 use native.Mathlib.Omega.{arith}
 use mathlib.Core.Path.{◌≡◌, refl, sym, ap, ◌∙◌, subst}
@@ -25,10 +25,10 @@ table-label-requires : tie.Need-table-label-requires
 table-label-requires c κs = c.before.before.before.before.before.before.before.requires.1.1
 
 returns : tie.Need-returns
-returns c = label-said-here c.before.before.before.trace.ensures c.before.traced.given.0.0 c.before.traced.given.1
+returns c = label_said_here c.before.before.before.trace.ensures c.before.traced.given.0.0 c.before.traced.given.1
 
-returns-2 : tie.Need-returns-2
-returns-2 c = label-of-column c.before.before.before.before.trace.ensures c.before.before.traced2.given.0.0 c.before.before.traced2.given.0.1.0 c.before.before.traced2.given.0.1.1.0 c.before.before.traced2.given.0.1.1.1.0 c.before.before.traced2.given.1 c.table-label.result c.table-label.ensures
+returns_2 : tie.Need-returns-2
+returns_2 c = label_of_column c.before.before.before.before.trace.ensures c.before.before.traced2.given.0.0 c.before.before.traced2.given.0.1.0 c.before.before.traced2.given.0.1.1.0 c.before.before.traced2.given.0.1.1.1.0 c.before.before.traced2.given.1 c.table-label.result c.table-label.ensures
 
 pub column-label-spec : {M : Type 1} → statement M
 column-label-spec =
@@ -39,4 +39,4 @@ column-label-spec =
     enum-known-traced-2
     table-label-requires
     returns
-    returns-2)
+    returns_2)

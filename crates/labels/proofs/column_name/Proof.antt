@@ -1,4 +1,4 @@
-use Rattle.labels.proofs.Texts.{record-there, records-few, name-none, name-some}
+use Rattle.labels.proofs.Texts.{record_there, records_few, name_none, name_some}
 use Prim.Native.Nat.{◌+◌, ◌*◌, ◌≤◌, ◌<◌}
 use native.Mathlib.Omega.{arith}
 use mathlib.Core.Path.{◌≡◌}
@@ -10,25 +10,25 @@ table-width-requires : tie.Need-table-width-requires
 table-width-requires c κs = search rules
 
 returns : tie.Need-returns
-returns c = name-none c.before.before.before.before.args.tables.now c.before.before.before.before.args.columns.now c.before.before.before.before.args.t c.before.before.before.before.args.i (omega (arith, c.before.table-width.ensures, c.if1.true))
+returns c = name_none c.before.before.before.before.args.tables.now c.before.before.before.before.args.columns.now c.before.before.before.before.args.t c.before.before.before.before.args.i (omega (arith, c.before.table-width.ensures, c.if1.true))
 
 first-column-requires : tie.Need-first-column-requires
 first-column-requires c κs = search rules
 
 add-word-at : tie.Need-overflow-add-word-at
-add-word-at c = omega (arith, c.first-column.ensures, records-few c.before.before.before.before.before.requires, record-there c.before.before.before.before.before.requires c.before.before.before.before.before.args.t c.before.before.before.before.before.args.i (omega (arith, c.before.before.table-width.ensures, c.before.if1.false)))
+add-word-at c = omega (arith, c.first-column.ensures, records_few c.before.before.before.before.before.requires, record_there c.before.before.before.before.before.requires c.before.before.before.before.before.args.t c.before.before.before.before.before.args.i (omega (arith, c.before.before.table-width.ensures, c.before.if1.false)))
 
 mul-word-at : tie.Need-overflow-mul-word-at
-mul-word-at c = omega (arith, c.first-column.ensures, records-few c.before.before.before.before.before.requires, record-there c.before.before.before.before.before.requires c.before.before.before.before.before.args.t c.before.before.before.before.before.args.i (omega (arith, c.before.before.table-width.ensures, c.before.if1.false)))
+mul-word-at c = omega (arith, c.first-column.ensures, records_few c.before.before.before.before.before.requires, record_there c.before.before.before.before.before.requires c.before.before.before.before.before.args.t c.before.before.before.before.before.args.i (omega (arith, c.before.before.table-width.ensures, c.before.if1.false)))
 
 word-at-requires : tie.Need-word-at-requires
-word-at-requires c κs = omega (arith, c.first-column.ensures, record-there c.before.before.before.before.before.requires c.before.before.before.before.before.args.t c.before.before.before.before.before.args.i (omega (arith, c.before.before.table-width.ensures, c.before.if1.false)))
+word-at-requires c κs = omega (arith, c.first-column.ensures, record_there c.before.before.before.before.before.requires c.before.before.before.before.before.args.t c.before.before.before.before.before.args.i (omega (arith, c.before.before.table-width.ensures, c.before.if1.false)))
 
 cast-result : tie.Need-overflow-cast-result
 cast-result c = search rules
 
-returns-2 : tie.Need-returns-2
-returns-2 c = name-some c.before.before.before.before.before.before.args.tables.now c.before.before.before.before.before.before.args.columns.now c.before.before.before.before.before.before.args.t c.before.before.before.before.before.before.args.i (omega (arith, c.before.before.before.table-width.ensures, c.before.before.if1.false)) c.before.first-column.ensures c.word_at.ensures.is
+returns_2 : tie.Need-returns-2
+returns_2 c = name_some c.before.before.before.before.before.before.args.tables.now c.before.before.before.before.before.before.args.columns.now c.before.before.before.before.before.before.args.t c.before.before.before.before.before.before.args.i (omega (arith, c.before.before.before.table-width.ensures, c.before.before.if1.false)) c.before.first-column.ensures c.word_at.ensures.is
 
 pub column-name-spec : {M : Type 1} → statement M
 column-name-spec =
@@ -41,4 +41,4 @@ column-name-spec =
     mul-word-at
     word-at-requires
     cast-result
-    returns-2)
+    returns_2)

@@ -1,4 +1,4 @@
-use Rattle.labels.proofs.Routes.{hits-some, hits-none}
+use Rattle.labels.proofs.Routes.{hits_some, hits_none}
 use Prim.Native.Nat.{ℕ, ◌+◌, ◌-◌, ◌*◌, ◌≤◌, ◌<◌}
 use native.Mathlib.Omega.{arith}
 use mathlib.Core.Path.{◌≡◌, refl, sym, ap, ◌∙◌, subst}
@@ -11,10 +11,10 @@ use Rattle.labels.proofs.hits.Reads as reads
 use Rattle.labels.proofs.hits.Lts as lts
 
 returns : tie.Need-returns
-returns c = hits-some c.before.args.flag c.before.args.a c.before.args.i c.if1.true
+returns c = hits_some c.before.args.flag c.before.args.a c.before.args.i c.if1.true
 
-returns-2 : tie.Need-returns-2
-returns-2 c = hits-none c.before.args.flag c.before.args.a c.before.args.i c.if1.false
+returns_2 : tie.Need-returns-2
+returns_2 c = hits_none c.before.args.flag c.before.args.a c.before.args.i c.if1.false
 
 pub hits-spec : {M : Type 1} → statement M
-hits-spec = tie.close (tie.spec returns returns-2)
+hits-spec = tie.close (tie.spec returns returns_2)

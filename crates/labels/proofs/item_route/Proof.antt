@@ -1,4 +1,4 @@
-use Rattle.labels.proofs.Routes.{item_in, item-expression, to-expression, own-label}
+use Rattle.labels.proofs.Routes.{item_in, item_expression, to_expression, own_label}
 use Prim.Native.Nat.{ℕ, ◌+◌, ◌-◌, ◌*◌, ◌≤◌, ◌<◌}
 use native.Mathlib.Omega.{arith}
 use mathlib.Core.Path.{◌≡◌, refl, sym, ap, ◌∙◌, subst}
@@ -20,16 +20,16 @@ sub-expression-route : tie.Need-overflow-sub-expression-route
 sub-expression-route c = omega (arith, (item_in c.before.before.before.before.requires).0)
 
 expression-route-requires : tie.Need-expression-route-requires
-expression-route-requires c κs = item-expression c.before.before.before.before.requires
+expression-route-requires c κs = item_expression c.before.before.before.before.requires
 
 returns : tie.Need-returns
-returns c = to-expression c.before.before.before.cell_at.ensures c.before.if1.true c.expression-route.result c.expression-route.ensures
+returns c = to_expression c.before.before.before.cell_at.ensures c.before.if1.true c.expression-route.result c.expression-route.ensures
 
 label-in-requires : tie.Need-label-in-requires
 label-in-requires c κs = search rules
 
-returns-2 : tie.Need-returns-2
-returns-2 c = own-label c.before.before.before.cell_at.ensures c.before.if1.false c.label-in.result c.label-in.ensures
+returns_2 : tie.Need-returns-2
+returns_2 c = own_label c.before.before.before.cell_at.ensures c.before.if1.false c.label-in.result c.label-in.ensures
 
 pub item-route-spec : {M : Type 1} → statement M
 item-route-spec =
@@ -40,4 +40,4 @@ item-route-spec =
     expression-route-requires
     returns
     label-in-requires
-    returns-2)
+    returns_2)

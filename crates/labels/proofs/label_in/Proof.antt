@@ -1,4 +1,4 @@
-use Rattle.labels.proofs.Routes.{says_none, says-name, says_both}
+use Rattle.labels.proofs.Routes.{says_none, says_name, says_both}
 use Prim.Native.Nat.{ℕ, ◌+◌, ◌-◌, ◌*◌, ◌≤◌, ◌<◌}
 use native.Mathlib.Omega.{arith}
 use mathlib.Core.Path.{◌≡◌, refl, sym, ap, ◌∙◌, subst}
@@ -13,11 +13,11 @@ use Rattle.labels.proofs.label_in.Lts as lts
 returns : tie.Need-returns
 returns c = says_none c.before.args.flag c.before.args.a c.before.args.b c.if1.true
 
-returns-2 : tie.Need-returns-2
-returns-2 c = says-name c.before.before.args.flag c.before.before.args.a c.before.before.args.b c.before.if1.false c.if2.true
+returns_2 : tie.Need-returns-2
+returns_2 c = says_name c.before.before.args.flag c.before.before.args.a c.before.before.args.b c.before.if1.false c.if2.true
 
-returns-3 : tie.Need-returns-3
-returns-3 c = says_both c.before.before.args.flag c.before.before.args.a c.before.before.args.b c.before.if1.false c.if2.false
+returns_3 : tie.Need-returns-3
+returns_3 c = says_both c.before.before.args.flag c.before.before.args.a c.before.before.args.b c.before.if1.false c.if2.false
 
 pub label-in-spec : {M : Type 1} → statement M
-label-in-spec = tie.close (tie.spec returns returns-2 returns-3)
+label-in-spec = tie.close (tie.spec returns returns_2 returns_3)

@@ -1,4 +1,4 @@
-use Rattle.labels.proofs.Routes.{targets-up, remap-goes}
+use Rattle.labels.proofs.Routes.{targets_up, remap_goes}
 use Rattle.nodes.proofs.Own.{at_in}
 use Prim.Native.Nat.{ℕ, ◌+◌, ◌-◌, ◌*◌, ◌≤◌, ◌<◌}
 use native.Mathlib.Omega.{arith}
@@ -27,17 +27,17 @@ returns c = c.aggregate-route.ensures
 projection-route-requires : tie.Need-projection-route-requires
 projection-route-requires c κs = (c.before.before.before.before.requires.0, sym c.before.before.tag_at.ensures ∙ c.if2.true)
 
-returns-2 : tie.Need-returns-2
-returns-2 c = c.projection-route.ensures
+returns_2 : tie.Need-returns-2
+returns_2 c = c.projection-route.ensures
 
 sub-remap-route : tie.Need-overflow-sub-remap-route
 sub-remap-route c = omega (arith, (at_in c.before.before.before.before.requires.0).0)
 
 remap-route-requires : tie.Need-remap-route-requires
-remap-route-requires c κs = targets-up c.before.before.before.before.requires.1.0 c.before.before.before.before.requires.1.1.0 c.before.before.before.before.requires.1.1.1 (λ z. c.before.if1.false (c.before.before.tag_at.ensures ∙ z)) (λ z. c.if2.false (c.before.before.tag_at.ensures ∙ z)) c.before.before.before.before.requires.0
+remap-route-requires c κs = targets_up c.before.before.before.before.requires.1.0 c.before.before.before.before.requires.1.1.0 c.before.before.before.before.requires.1.1.1 (λ z. c.before.if1.false (c.before.before.tag_at.ensures ∙ z)) (λ z. c.if2.false (c.before.before.tag_at.ensures ∙ z)) c.before.before.before.before.requires.0
 
-returns-3 : tie.Need-returns-3
-returns-3 c = remap-goes c.before.before.before.before.before.requires.1.0 c.before.before.before.before.before.requires.1.1.0 c.before.before.before.before.before.requires.1.1.1 (λ z. c.before.before.if1.false (c.before.before.before.tag_at.ensures ∙ z)) (λ z. c.before.if2.false (c.before.before.before.tag_at.ensures ∙ z)) c.before.before.before.before.before.args.i c.remap-route.result c.remap-route.ensures
+returns_3 : tie.Need-returns-3
+returns_3 c = remap_goes c.before.before.before.before.before.requires.1.0 c.before.before.before.before.before.requires.1.1.0 c.before.before.before.before.before.requires.1.1.1 (λ z. c.before.before.if1.false (c.before.before.before.tag_at.ensures ∙ z)) (λ z. c.before.if2.false (c.before.before.before.tag_at.ensures ∙ z)) c.before.before.before.before.before.args.i c.remap-route.result c.remap-route.ensures
 
 pub own-route-spec : {M : Type 1} → statement M
 own-route-spec =
@@ -47,7 +47,7 @@ own-route-spec =
     aggregate-route-requires
     returns
     projection-route-requires
-    returns-2
+    returns_2
     sub-remap-route
     remap-route-requires
-    returns-3)
+    returns_3)

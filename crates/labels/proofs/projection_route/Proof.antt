@@ -1,4 +1,4 @@
-use Rattle.labels.proofs.Routes.{projection-ends, items-behind, item-ends, projection-goes}
+use Rattle.labels.proofs.Routes.{projection_ends, items_behind, item_ends, projection_goes}
 use Rattle.nodes.proofs.Own.{at_in}
 use Prim.Native.Nat.{ℕ, ◌+◌, ◌-◌, ◌*◌, ◌≤◌, ◌<◌}
 use native.Mathlib.Omega.{arith}
@@ -21,7 +21,7 @@ cast-if1 : tie.Need-overflow-cast-if1
 cast-if1 c = search rules
 
 returns : tie.Need-returns
-returns c = projection-ends c.before.before.cell_at.ensures c.before.before.before.before.requires.1 c.before.before.before.before.args.i c.if1.true
+returns c = projection_ends c.before.before.cell_at.ensures c.before.before.before.before.requires.1 c.before.before.before.before.args.i c.if1.true
 
 cast-trees-start : tie.Need-overflow-cast-trees-start
 cast-trees-start c = search rules
@@ -36,13 +36,13 @@ sub-trees-start-3 : tie.Need-overflow-sub-trees-start-3
 sub-trees-start-3 c = omega (arith, (at_in c.before.before.before.before.before.requires.0).0)
 
 trees-start-requires : tie.Need-trees-start-requires
-trees-start-requires c κs = items-behind c.before.before.before.cell_at.ensures c.before.before.before.before.before.requires.1 c.before.before.before.before.before.args.i c.before.if1.false c.before.before.before.before.before.requires.0
+trees-start-requires c κs = items_behind c.before.before.before.cell_at.ensures c.before.before.before.before.before.requires.1 c.before.before.before.before.before.args.i c.before.if1.false c.before.before.before.before.before.requires.0
 
 item-route-requires : tie.Need-item-route-requires
-item-route-requires c κs = item-ends c.before.before.before.before.cell_at.ensures c.before.before.before.before.before.before.requires.1 c.before.before.before.before.before.before.args.i c.before.before.if1.false c.trees-start.ensures c.before.before.before.before.before.before.requires.0
+item-route-requires c κs = item_ends c.before.before.before.before.cell_at.ensures c.before.before.before.before.before.before.requires.1 c.before.before.before.before.before.before.args.i c.before.before.if1.false c.trees-start.ensures c.before.before.before.before.before.before.requires.0
 
-returns-2 : tie.Need-returns-2
-returns-2 c = projection-goes c.before.before.before.before.before.cell_at.ensures c.before.before.before.before.before.before.before.requires.1 c.before.before.before.before.before.before.before.args.i c.before.before.before.if1.false c.before.trees-start.ensures c.item-route.result c.item-route.ensures
+returns_2 : tie.Need-returns-2
+returns_2 c = projection_goes c.before.before.before.before.before.cell_at.ensures c.before.before.before.before.before.before.before.requires.1 c.before.before.before.before.before.before.before.args.i c.before.before.before.if1.false c.before.trees-start.ensures c.item-route.result c.item-route.ensures
 
 pub projection-route-spec : {M : Type 1} → statement M
 projection-route-spec =
@@ -57,4 +57,4 @@ projection-route-spec =
     sub-trees-start-3
     trees-start-requires
     item-route-requires
-    returns-2)
+    returns_2)

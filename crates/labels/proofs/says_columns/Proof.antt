@@ -1,4 +1,4 @@
-use Rattle.labels.proofs.Tracing.{says-one, says_other}
+use Rattle.labels.proofs.Tracing.{says_one, says_other}
 use Prim.Native.Nat.{ℕ, ◌+◌, ◌-◌, ◌*◌, ◌≤◌, ◌<◌}
 use native.Mathlib.Omega.{arith}
 use mathlib.Core.Path.{◌≡◌, refl, sym, ap, ◌∙◌, subst}
@@ -11,10 +11,10 @@ use Rattle.labels.proofs.says_columns.Reads as reads
 use Rattle.labels.proofs.says_columns.Lts as lts
 
 returns : tie.Need-returns
-returns c = says-one c.before.args.tag c.if1.true
+returns c = says_one c.before.args.tag c.if1.true
 
-returns-2 : tie.Need-returns-2
-returns-2 c = says_other c.before.args.tag c.if1.false
+returns_2 : tie.Need-returns-2
+returns_2 c = says_other c.before.args.tag c.if1.false
 
 pub says-columns-spec : {M : Type 1} → statement M
-says-columns-spec = tie.close (tie.spec returns returns-2)
+says-columns-spec = tie.close (tie.spec returns returns_2)

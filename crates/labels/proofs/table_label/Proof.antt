@@ -1,4 +1,4 @@
-use Rattle.labels.proofs.Texts.{labels-table}
+use Rattle.labels.proofs.Texts.{labels_table}
 use Prim.Native.Nat.{ℕ, ◌+◌, ◌-◌, ◌*◌, ◌≤◌, ◌<◌}
 use native.Mathlib.Omega.{arith}
 use mathlib.Core.Path.{◌≡◌, refl, sym, ap, ◌∙◌, subst}
@@ -23,7 +23,7 @@ column-name-requires : tie.Need-column-name-requires
 column-name-requires c κs = c.before.before.before.before.requires
 
 returns : tie.Need-returns
-returns c = labels-table c.before.before.before.before.before.args.t c.before.before.before.before.before.args.aliased c.before.before.before.before.before.args.alias c.before.before.before.before.before.args.i c.before.before.table-name.ensures c.before.qualifier.ensures c.column-name.ensures
+returns c = labels_table c.before.before.before.before.before.args.t c.before.before.before.before.before.args.aliased c.before.before.before.before.before.args.alias c.before.before.before.before.before.args.i c.before.before.table-name.ensures c.before.qualifier.ensures c.column-name.ensures
 
 pub table-label-spec : {M : Type 1} → statement M
 table-label-spec =

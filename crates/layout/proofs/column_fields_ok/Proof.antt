@@ -1,5 +1,5 @@
 -- `layout::column_fields_ok` meets its contract: its tests are those of the definition, on the same numbers, and the word of its marks tells them apart.
-use Rattle.layout.proofs.Laws.{fields-tested}
+use Rattle.layout.proofs.Laws.{fields_tested}
 use Prim.Native.Nat.{◌+◌}
 use native.Mathlib.Omega.{arith}
 use borrow.Author.Rules.{rules}
@@ -46,7 +46,7 @@ returns : tie.Need-returns
 returns c =
     let i = c.before.before.before.before.before.before.before.before.before.before.args.i in
     let given = c.before.before.before.before.before.before.before.before.before.shared-slice-known.given in
-    fields-tested c.before.before.before.before.before.before.before.before.before.before.args.s.now i c.before.before.before.before.before.before.before.before.before.before.args.text (omega (arith, given (i + 4))) (omega (arith, given (i + 5))) c.before.before.before.before.before.before.before.before.word_at.ensures.is c.before.before.before.before.before.before.before.both.ensures
+    fields_tested c.before.before.before.before.before.before.before.before.before.before.args.s.now i c.before.before.before.before.before.before.before.before.before.before.args.text (omega (arith, given (i + 4))) (omega (arith, given (i + 5))) c.before.before.before.before.before.before.before.before.word_at.ensures.is c.before.before.before.before.before.before.before.both.ensures
     c.before.before.before.before.before.before.word-at2.ensures.is c.before.before.before.before.before.word-at3.ensures.is c.before.before.before.before.both2.ensures c.before.before.before.word-at4.ensures.is
     c.before.before.inside.ensures c.before.both3.ensures c.both4.ensures
 

@@ -1,5 +1,5 @@
 -- `layout::column_from` meets its contract: the numbers that it read are those of the definition.
-use Rattle.layout.proofs.Laws.{column-reads}
+use Rattle.layout.proofs.Laws.{column_reads}
 use borrow.Author.Rules.{rules}
 use Rattle.layout.proofs.column_from.Statement.{statement}
 use Rattle.layout.proofs.column_from.Tie as tie
@@ -20,7 +20,7 @@ byte-at-requires-2 : tie.Need-byte-at-requires-2
 byte-at-requires-2 c κs = search rules
 
 returns : tie.Need-returns
-returns c = column-reads _ _ c.before.before.word_at.ensures c.before.byte_at.ensures c.byte-at2.ensures
+returns c = column_reads _ _ c.before.before.word_at.ensures c.before.byte_at.ensures c.byte-at2.ensures
 
 pub column-from-spec : {M : Type 1} → statement M
 column-from-spec =

@@ -1,5 +1,5 @@
 -- `layout::columns_before` meets its contract: the range of the table before ends where the definition says.
-use Rattle.layout.proofs.Laws.{columns-before-is}
+use Rattle.layout.proofs.Laws.{columns_before_is}
 use borrow.Author.Rules.{rules}
 use Rattle.layout.proofs.columns_before.Statement.{statement}
 use Rattle.layout.proofs.columns_before.Tie as tie
@@ -22,8 +22,8 @@ table-from-requires c κs = search rules
 add-result : tie.Need-overflow-add-result
 add-result c = search rules
 
-returns-2 : tie.Need-returns-2
-returns-2 c = columns-before-is c.before.before.before.before.before.requires.0 _ c.before.before.before.if1.false c.before.table-from.ensures
+returns_2 : tie.Need-returns-2
+returns_2 c = columns_before_is c.before.before.before.before.before.requires.0 _ c.before.before.before.if1.false c.before.table-from.ensures
 
 pub columns-before-spec : {M : Type 1} → statement M
 columns-before-spec =
@@ -35,4 +35,4 @@ columns-before-spec =
     add-table-from
     table-from-requires
     add-result
-    returns-2)
+    returns_2)

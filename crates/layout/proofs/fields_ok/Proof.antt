@@ -1,5 +1,5 @@
 -- `layout::fields_ok` meets its contract: its tests are those of the row, and so of the tag.
-use Rattle.layout.proofs.Cells.{fields-tested}
+use Rattle.layout.proofs.Cells.{fields_tested}
 use borrow.Author.Rules.{rules}
 use Rattle.layout.proofs.fields_ok.Statement.{statement}
 use Rattle.layout.proofs.fields_ok.Tie as tie
@@ -30,7 +30,7 @@ both-requires-4 c κs = search rules
 
 returns : tie.Need-returns
 returns c =
-    fields-tested _ _ _ _ _ c.before.before.before.before.before.before.before.before.before.row_of.ensures
+    fields_tested _ _ _ _ _ c.before.before.before.before.before.before.before.before.before.row_of.ensures
     c.before.before.before.before.before.before.before.before.field-ok.ensures
     c.before.before.before.before.before.before.before.field-ok2.ensures
     c.before.before.before.before.before.before.field-ok3.ensures c.before.before.before.both.ensures c.before.before.both2.ensures

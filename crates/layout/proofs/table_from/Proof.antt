@@ -1,5 +1,5 @@
 -- `layout::table_from` meets its contract: the words that it read are those of the definition.
-use Rattle.layout.proofs.Laws.{table-reads}
+use Rattle.layout.proofs.Laws.{table_reads}
 use borrow.Author.Rules.{rules}
 use Rattle.layout.proofs.table_from.Statement.{statement}
 use Rattle.layout.proofs.table_from.Tie as tie
@@ -26,7 +26,7 @@ word-at-requires-4 : tie.Need-word-at-requires-4
 word-at-requires-4 c κs = search rules
 
 returns : tie.Need-returns
-returns c = table-reads _ _ c.before.before.before.word_at.ensures c.before.before.word-at2.ensures c.before.word-at3.ensures c.word-at4.ensures
+returns c = table_reads _ _ c.before.before.before.word_at.ensures c.before.before.word-at2.ensures c.before.word-at3.ensures c.word-at4.ensures
 
 pub table-from-spec : {M : Type 1} → statement M
 table-from-spec =

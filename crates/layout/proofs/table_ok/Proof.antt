@@ -1,5 +1,5 @@
 -- `layout::table_ok` meets its contract: its tests are those of the definition, on the same numbers.
-use Rattle.layout.proofs.Laws.{table-tested}
+use Rattle.layout.proofs.Laws.{table_tested}
 use borrow.Author.Rules.{rules}
 use Rattle.layout.proofs.table_ok.Statement.{statement}
 use Rattle.layout.proofs.table_ok.Tie as tie
@@ -36,7 +36,7 @@ both-requires-4 c κs = search rules
 
 returns : tie.Need-returns
 returns c =
-    table-tested c.before.before.before.before.before.before.before.before.before.before.before.before.before.before.requires.0 _
+    table_tested c.before.before.before.before.before.before.before.before.before.before.before.before.before.before.requires.0 _
     c.before.before.before.before.before.before.before.before.before.before.before.table-from.ensures
     c.before.before.before.before.before.before.before.before.before.before.columns-before.ensures
     c.before.before.before.before.both.ensures c.before.before.before.both2.ensures c.before.before.inside.ensures

@@ -1,5 +1,5 @@
 -- `layout::word_at` meets its contract: the bytes that it read are those of the definition.
-use Rattle.layout.proofs.Laws.{word-is}
+use Rattle.layout.proofs.Laws.{word_is}
 use borrow.Author.Rules.{rules}
 use Rattle.layout.proofs.word_at.Statement.{statement}
 use Rattle.layout.proofs.word_at.Tie as tie
@@ -57,7 +57,7 @@ add-result-3 c = search rules
 
 returns : tie.Need-returns
 returns c =
-    word-is _ _ c.before.before.before.before.before.before.wide.ensures c.before.before.before.before.wide2.ensures
+    word_is _ _ c.before.before.before.before.before.before.wide.ensures c.before.before.before.before.wide2.ensures
     c.before.before.wide3.ensures c.wide4.ensures
 
 pub word-at-spec : {M : Type 1} → statement M

@@ -5,7 +5,7 @@ use mathlib.Core.Path.{sym}
 use lib.ListN.{length-replicate}
 use lib.Seq.{length-take-le}
 use borrow.Author.Rules.{rules}
-use Rattle.list_plan.proofs.Handed.{outcome-whole, outcome-within, refusal-listed, sheet-listed}
+use Rattle.list_plan.proofs.Handed.{outcome_whole, outcome_within, refusal_listed, sheet_listed}
 use Rattle.list_plan.proofs.list.Statement.{statement}
 use Rattle.list_plan.proofs.list.Tie as tie
 
@@ -22,22 +22,22 @@ same_length : tie.Need-same-length
 same_length c = search rules
 
 returns : tie.Need-returns
-returns c = refusal-listed c.before.before.before.before.before.before.before.before.before.before.before.args.s.now (λ i. omega (arith, c.before.before.before.before.before.before.before.before.before.before.shared-slice-known.given i)) _ _ c.before.before.before.before.before.before.before.optimize.ensures (omega (arith, length-replicate {A = ℕ} 45332 0)) c.before.before.refusal-line.auto.1.1.0 (omega arith) (omega arith) c.before.before.refusal-line.ensures
+returns c = refusal_listed c.before.before.before.before.before.before.before.before.before.before.before.args.s.now (λ i. omega (arith, c.before.before.before.before.before.before.before.before.before.before.shared-slice-known.given i)) _ _ c.before.before.before.before.before.before.before.optimize.ensures (omega (arith, length-replicate {A = ℕ} 45332 0)) c.before.before.refusal-line.auto.1.1.0 (omega arith) (omega arith) c.before.before.refusal-line.ensures
 
 array-share-prefix-sheet : tie.Need-array-share-prefix-sheet
-array-share-prefix-sheet c = outcome-within c.before.before.before.before.before.before.before.args.s.now (λ i. omega (arith, c.before.before.before.before.before.before.shared-slice-known.given i)) _ _ c.before.before.before.optimize.ensures (omega (arith, length-replicate {A = ℕ} 45332 0)) (omega arith)
+array-share-prefix-sheet c = outcome_within c.before.before.before.before.before.before.before.args.s.now (λ i. omega (arith, c.before.before.before.before.before.before.shared-slice-known.given i)) _ _ c.before.before.before.optimize.ensures (omega (arith, length-replicate {A = ℕ} 45332 0)) (omega arith)
 
 slice-aggregate-listing : tie.Need-slice-aggregate-listing
-slice-aggregate-listing c = sym (length-take-le _ _ (outcome-within c.before.before.before.before.before.before.before.before.args.s.now (λ i. omega (arith, c.before.before.before.before.before.before.before.shared-slice-known.given i)) _ _ c.before.before.before.before.optimize.ensures (omega (arith, length-replicate {A = ℕ} 45332 0)) (omega arith)))
+slice-aggregate-listing c = sym (length-take-le _ _ (outcome_within c.before.before.before.before.before.before.before.before.args.s.now (λ i. omega (arith, c.before.before.before.before.before.before.before.shared-slice-known.given i)) _ _ c.before.before.before.before.optimize.ensures (omega (arith, length-replicate {A = ℕ} 45332 0)) (omega arith)))
 
 listing-requires : tie.Need-listing-requires
-listing-requires c κs = outcome-whole c.before.before.before.before.before.before.before.before.before.args.s.now (λ i. omega (arith, c.before.before.before.before.before.before.before.before.shared-slice-known.given i)) _ _ c.before.before.before.before.before.optimize.ensures (omega (arith, length-replicate {A = ℕ} 45332 0)) (omega arith)
+listing-requires c κs = outcome_whole c.before.before.before.before.before.before.before.before.before.args.s.now (λ i. omega (arith, c.before.before.before.before.before.before.before.before.shared-slice-known.given i)) _ _ c.before.before.before.before.before.optimize.ensures (omega (arith, length-replicate {A = ℕ} 45332 0)) (omega arith)
 
 same-length-2 : tie.Need-same-length-2
 same-length-2 c = search rules
 
-returns-2 : tie.Need-returns-2
-returns-2 c = sheet-listed c.before.before.before.before.before.before.before.before.before.before.before.before.args.s.now (λ i. omega (arith, c.before.before.before.before.before.before.before.before.before.before.before.shared-slice-known.given i)) _ _ c.before.before.before.before.before.before.before.before.optimize.ensures (omega (arith, length-replicate {A = ℕ} 45332 0)) c.before.before.listing.auto.1.1.0 (omega arith) (omega arith) c.before.before.listing.ensures
+returns_2 : tie.Need-returns-2
+returns_2 c = sheet_listed c.before.before.before.before.before.before.before.before.before.before.before.before.args.s.now (λ i. omega (arith, c.before.before.before.before.before.before.before.before.before.before.before.shared-slice-known.given i)) _ _ c.before.before.before.before.before.before.before.before.optimize.ensures (omega (arith, length-replicate {A = ℕ} 45332 0)) c.before.before.listing.auto.1.1.0 (omega arith) (omega arith) c.before.before.listing.ensures
 
 pub list-spec : {M : Type 1} → statement M
 list-spec =
@@ -52,4 +52,4 @@ list-spec =
     slice-aggregate-listing
     listing-requires
     same-length-2
-    returns-2)
+    returns_2)

@@ -1,4 +1,4 @@
-use Rattle.listing.proofs.Written.{then-more}
+use Rattle.listing.proofs.Written.{then_more}
 use borrow.Author.Rules.{rules}
 use Rattle.listing.proofs.cell_line.Statement.{statement}
 use Rattle.listing.proofs.cell_line.Tie as tie
@@ -28,7 +28,7 @@ same_length : tie.Need-same-length
 same_length c = search rules
 
 returns : tie.Need-returns
-returns c = then-more c.before.before.before.before.before.before.before.before.before.before.before.before.before.before.before.before.before.before.before.before.before.before.before.before.before.before.args.i 32 c.before.before.before.before.before.before.before.before.before.before.before.before.before.before.before.before.before.before.before.before.before.before.before.number.auto.1.1.0 c.before.before.before.before.before.before.before.before.before.before.before.before.before.before.before.before.before.before.before.before.before.before.before.number.ensures (then-more c.before.before.before.before.before.before.before.before.before.before.before.before.before.before.before.before.before.before.before.before.before.before.before.before.before.before.args.k.tag 32 c.before.before.before.before.before.before.before.before.before.before.before.before.before.before.before.before.before.before.number2.auto.1.1.0 c.before.before.before.before.before.before.before.before.before.before.before.before.before.before.before.before.before.before.number2.ensures (then-more c.before.before.before.before.before.before.before.before.before.before.before.before.before.before.before.before.before.before.before.before.before.before.before.before.before.before.args.k.flag 32 c.before.before.before.before.before.before.before.before.before.before.before.before.before.before.number3.auto.1.1.0 c.before.before.before.before.before.before.before.before.before.before.before.before.before.before.number3.ensures (then-more c.before.before.before.before.before.before.before.before.before.before.before.before.before.before.before.before.before.before.before.before.before.before.before.before.before.before.args.k.a 32 c.before.before.before.before.before.before.before.before.before.before.number4.auto.1.1.0 c.before.before.before.before.before.before.before.before.before.before.number4.ensures (then-more c.before.before.before.before.before.before.before.before.before.before.before.before.before.before.before.before.before.before.before.before.before.before.before.before.before.before.args.k.b 32 c.before.before.before.before.before.before.number5.auto.1.1.0 c.before.before.before.before.before.before.number5.ensures c.before.before.number6.ensures))))
+returns c = then_more c.before.before.before.before.before.before.before.before.before.before.before.before.before.before.before.before.before.before.before.before.before.before.before.before.before.before.args.i 32 c.before.before.before.before.before.before.before.before.before.before.before.before.before.before.before.before.before.before.before.before.before.before.before.number.auto.1.1.0 c.before.before.before.before.before.before.before.before.before.before.before.before.before.before.before.before.before.before.before.before.before.before.before.number.ensures (then_more c.before.before.before.before.before.before.before.before.before.before.before.before.before.before.before.before.before.before.before.before.before.before.before.before.before.before.args.k.tag 32 c.before.before.before.before.before.before.before.before.before.before.before.before.before.before.before.before.before.before.number2.auto.1.1.0 c.before.before.before.before.before.before.before.before.before.before.before.before.before.before.before.before.before.before.number2.ensures (then_more c.before.before.before.before.before.before.before.before.before.before.before.before.before.before.before.before.before.before.before.before.before.before.before.before.before.before.args.k.flag 32 c.before.before.before.before.before.before.before.before.before.before.before.before.before.before.number3.auto.1.1.0 c.before.before.before.before.before.before.before.before.before.before.before.before.before.before.number3.ensures (then_more c.before.before.before.before.before.before.before.before.before.before.before.before.before.before.before.before.before.before.before.before.before.before.before.before.before.before.args.k.a 32 c.before.before.before.before.before.before.before.before.before.before.number4.auto.1.1.0 c.before.before.before.before.before.before.before.before.before.before.number4.ensures (then_more c.before.before.before.before.before.before.before.before.before.before.before.before.before.before.before.before.before.before.before.before.before.before.before.before.before.before.args.k.b 32 c.before.before.before.before.before.before.number5.auto.1.1.0 c.before.before.before.before.before.before.number5.ensures c.before.before.number6.ensures))))
 
 pub cell-line-spec : {M : Type 1} → statement M
 cell-line-spec =

@@ -1,4 +1,4 @@
-use Rattle.listing.proofs.Written.{then-more}
+use Rattle.listing.proofs.Written.{then_more}
 use Rattle.cells.proofs.Laws.{then}
 use borrow.Author.Rules.{rules}
 use Rattle.listing.proofs.header.Statement.{statement}
@@ -35,7 +35,7 @@ same_length : tie.Need-same-length
 same_length c = search rules
 
 returns : tie.Need-returns
-returns c = then c.before.before.before.before.before.before.before.before.before.before.before.before.before.before.before.before.before.before.before.before.before.before.before.before.text.auto.1.0 c.before.before.before.before.before.before.before.before.before.before.before.before.before.before.before.before.before.before.before.before.before.before.before.before.text.ensures (then-more c.before.before.before.before.before.before.before.before.before.before.before.before.before.before.before.before.before.before.before.before.before.before.before.before.before.before.before.before.args.cells 32 c.before.before.before.before.before.before.before.before.before.before.before.before.before.before.before.before.before.before.before.before.number.auto.1.1.0 c.before.before.before.before.before.before.before.before.before.before.before.before.before.before.before.before.before.before.before.before.number.ensures (then c.before.before.before.before.before.before.before.before.before.before.before.before.before.before.before.text2.auto.1.0 c.before.before.before.before.before.before.before.before.before.before.before.before.before.before.before.text2.ensures (then-more c.before.before.before.before.before.before.before.before.before.before.before.before.before.before.before.before.before.before.before.before.before.before.before.before.before.before.before.before.args.bytes 32 c.before.before.before.before.before.before.before.before.before.before.before.number2.auto.1.1.0 c.before.before.before.before.before.before.before.before.before.before.before.number2.ensures (then c.before.before.before.before.before.before.text3.auto.1.0 c.before.before.before.before.before.before.text3.ensures c.before.before.number3.ensures))))
+returns c = then c.before.before.before.before.before.before.before.before.before.before.before.before.before.before.before.before.before.before.before.before.before.before.before.before.text.auto.1.0 c.before.before.before.before.before.before.before.before.before.before.before.before.before.before.before.before.before.before.before.before.before.before.before.before.text.ensures (then_more c.before.before.before.before.before.before.before.before.before.before.before.before.before.before.before.before.before.before.before.before.before.before.before.before.before.before.before.before.args.cells 32 c.before.before.before.before.before.before.before.before.before.before.before.before.before.before.before.before.before.before.before.before.number.auto.1.1.0 c.before.before.before.before.before.before.before.before.before.before.before.before.before.before.before.before.before.before.before.before.number.ensures (then c.before.before.before.before.before.before.before.before.before.before.before.before.before.before.before.text2.auto.1.0 c.before.before.before.before.before.before.before.before.before.before.before.before.before.before.before.text2.ensures (then_more c.before.before.before.before.before.before.before.before.before.before.before.before.before.before.before.before.before.before.before.before.before.before.before.before.before.before.before.before.args.bytes 32 c.before.before.before.before.before.before.before.before.before.before.before.number2.auto.1.1.0 c.before.before.before.before.before.before.before.before.before.before.before.number2.ensures (then c.before.before.before.before.before.before.text3.auto.1.0 c.before.before.before.before.before.before.text3.ensures c.before.before.number3.ensures))))
 
 pub header-spec : {M : Type 1} → statement M
 header-spec =

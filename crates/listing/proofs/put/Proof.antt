@@ -17,8 +17,8 @@ same_length c = search rules
 returns : tie.Need-returns
 returns c = one c.before.args.d.now c.before.args.at c.before.args.b (omega arith)
 
-returns-2 : tie.Need-returns-2
-returns-2 c = no_room (omega arith) (omega arith)
+returns_2 : tie.Need-returns-2
+returns_2 c = no_room (omega arith) (omega arith)
 
 pub put_spec : {M : Type 1} → statement M
-put_spec = tie.close (tie.spec slice-write-d add-result same_length returns returns-2)
+put_spec = tie.close (tie.spec slice-write-d add-result same_length returns returns_2)

@@ -1,5 +1,5 @@
-use Rattle.listing.proofs.Written.{then-more}
-use Rattle.sheet.specs.Listing.{refusal-line}
+use Rattle.listing.proofs.Written.{then_more}
+use Rattle.sheet.specs.Listing.{refusal_line}
 use Rattle.cells.proofs.Laws.{then}
 use borrow.Author.Rules.{rules}
 use Rattle.listing.proofs.refusal_line.Statement.{statement}
@@ -27,8 +27,8 @@ same_length : tie.Need-same-length
 same_length c = search rules
 
 returns : tie.Need-returns
-unfolding refusal-line
-returns c = then c.before.before.before.before.before.before.before.before.before.before.before.before.before.before.before.text.auto.1.0 c.before.before.before.before.before.before.before.before.before.before.before.before.before.before.before.text.ensures (then-more c.before.before.before.before.before.before.before.before.before.before.before.before.before.before.before.before.before.before.before.args.refused 32 c.before.before.before.before.before.before.before.before.before.before.before.number.auto.1.1.0 c.before.before.before.before.before.before.before.before.before.before.before.number.ensures (then c.before.before.before.before.before.before.text2.auto.1.0 c.before.before.before.before.before.before.text2.ensures c.before.before.number2.ensures))
+unfolding refusal_line
+returns c = then c.before.before.before.before.before.before.before.before.before.before.before.before.before.before.before.text.auto.1.0 c.before.before.before.before.before.before.before.before.before.before.before.before.before.before.before.text.ensures (then_more c.before.before.before.before.before.before.before.before.before.before.before.before.before.before.before.before.before.before.before.args.refused 32 c.before.before.before.before.before.before.before.before.before.before.before.number.auto.1.1.0 c.before.before.before.before.before.before.before.before.before.before.before.number.ensures (then c.before.before.before.before.before.before.text2.auto.1.0 c.before.before.before.before.before.before.text2.ensures c.before.before.number2.ensures))
 
 pub refusal-line-spec : {M : Type 1} → statement M
 refusal-line-spec =

@@ -1,5 +1,5 @@
 use Rattle.cells.proofs.Laws.{then}
-use Rattle.listing.proofs.Written.{then-more, totals-written}
+use Rattle.listing.proofs.Written.{then_more, totals_written}
 use borrow.Author.Rules.{rules}
 use Rattle.listing.proofs.totals.Statement.{statement}
 use Rattle.listing.proofs.totals.Tie as tie
@@ -41,7 +41,7 @@ same_length : tie.Need-same-length
 same_length c = search rules
 
 returns : tie.Need-returns
-returns c = totals-written _ _ c.before.before.before.before.before.before.before.before.before.before.before.before.before.before.before.before.before.before.before.before.before.before.before.before.before.before.before.before.kinds-of.ensures (then c.before.before.before.before.before.before.before.before.before.before.before.before.before.before.before.before.before.before.before.before.before.before.before.before.before.text.auto.1.0 c.before.before.before.before.before.before.before.before.before.before.before.before.before.before.before.before.before.before.before.before.before.before.before.before.before.text.ensures (then-more c.before.before.before.before.before.before.before.before.before.before.before.before.before.before.before.before.before.before.before.before.before.before.before.before.before.before.before.before.kinds-of.result.expressions 32 c.before.before.before.before.before.before.before.before.before.before.before.before.before.before.before.before.before.before.before.before.before.number.auto.1.1.0 c.before.before.before.before.before.before.before.before.before.before.before.before.before.before.before.before.before.before.before.before.before.number.ensures (then-more c.before.before.before.before.before.before.before.before.before.before.before.before.before.before.before.before.before.before.before.before.before.before.before.before.before.before.before.before.kinds-of.result.parts 32 c.before.before.before.before.before.before.before.before.before.before.before.before.before.before.before.before.before.number2.auto.1.1.0 c.before.before.before.before.before.before.before.before.before.before.before.before.before.before.before.before.before.number2.ensures (then-more c.before.before.before.before.before.before.before.before.before.before.before.before.before.before.before.before.before.before.before.before.before.before.before.before.before.before.before.before.kinds-of.result.nodes 32 c.before.before.before.before.before.before.before.before.before.before.before.before.before.number3.auto.1.1.0 c.before.before.before.before.before.before.before.before.before.before.before.before.before.number3.ensures (then c.before.before.before.before.before.before.before.before.text2.auto.1.0 c.before.before.before.before.before.before.before.before.text2.ensures c.before.before.number4.ensures)))))
+returns c = totals_written _ _ c.before.before.before.before.before.before.before.before.before.before.before.before.before.before.before.before.before.before.before.before.before.before.before.before.before.before.before.before.kinds-of.ensures (then c.before.before.before.before.before.before.before.before.before.before.before.before.before.before.before.before.before.before.before.before.before.before.before.before.before.text.auto.1.0 c.before.before.before.before.before.before.before.before.before.before.before.before.before.before.before.before.before.before.before.before.before.before.before.before.before.text.ensures (then_more c.before.before.before.before.before.before.before.before.before.before.before.before.before.before.before.before.before.before.before.before.before.before.before.before.before.before.before.before.kinds-of.result.expressions 32 c.before.before.before.before.before.before.before.before.before.before.before.before.before.before.before.before.before.before.before.before.before.number.auto.1.1.0 c.before.before.before.before.before.before.before.before.before.before.before.before.before.before.before.before.before.before.before.before.before.number.ensures (then_more c.before.before.before.before.before.before.before.before.before.before.before.before.before.before.before.before.before.before.before.before.before.before.before.before.before.before.before.before.kinds-of.result.parts 32 c.before.before.before.before.before.before.before.before.before.before.before.before.before.before.before.before.before.number2.auto.1.1.0 c.before.before.before.before.before.before.before.before.before.before.before.before.before.before.before.before.before.number2.ensures (then_more c.before.before.before.before.before.before.before.before.before.before.before.before.before.before.before.before.before.before.before.before.before.before.before.before.before.before.before.before.kinds-of.result.nodes 32 c.before.before.before.before.before.before.before.before.before.before.before.before.before.number3.auto.1.1.0 c.before.before.before.before.before.before.before.before.before.before.before.before.before.number3.ensures (then c.before.before.before.before.before.before.before.before.text2.auto.1.0 c.before.before.before.before.before.before.before.before.text2.ensures c.before.before.number4.ensures)))))
 
 pub totals-spec : {M : Type 1} → statement M
 totals-spec =

@@ -1,4 +1,4 @@
-use Rattle.lookup_or_scan.proofs.Looking.{looks-full, looks, values-count}
+use Rattle.lookup_or_scan.proofs.Looking.{looks_full, looks, values_count}
 use native.Mathlib.Omega.{arith}
 use borrow.Author.Rules.{rules}
 use Rattle.lookup_or_scan.proofs.lookup.Statement.{statement}
@@ -16,16 +16,16 @@ same_length : tie.Need-same-length
 same_length c = search rules
 
 returns : tie.Need-returns
-returns c = looks-full c.before.before.before.into-column-values.ensures c.before.before.before.before.before.before.before.args.scan c.before.before.before.before.before.before.before.args.key c.before.before.before.before.before.before.before.args.c (omega (arith, c.if1.true, c.before.before.before.into-column-values.auto.1.1.1.0))
+returns c = looks_full c.before.before.before.into-column-values.ensures c.before.before.before.before.before.before.before.args.scan c.before.before.before.before.before.before.before.args.key c.before.before.before.before.before.before.before.args.c (omega (arith, c.if1.true, c.before.before.before.into-column-values.auto.1.1.1.0))
 
 sub-lookup-cell : tie.Need-overflow-sub-lookup-cell
-sub-lookup-cell c = let (h, k) = values-count c.before.before.before.before.into-column-values.ensures (omega (arith, c.before.if1.false)) c.before.before.before.before.before.before.before.before.requires.0 in omega arith
+sub-lookup-cell c = let (h, k) = values_count c.before.before.before.before.into-column-values.ensures (omega (arith, c.before.if1.false)) c.before.before.before.before.before.before.before.before.requires.0 in omega arith
 
 cast-lookup-cell : tie.Need-overflow-cast-lookup-cell
 cast-lookup-cell c = search rules
 
 lookup-cell-requires : tie.Need-lookup-cell-requires
-lookup-cell-requires c κs = let (h, k) = values-count c.before.before.before.before.into-column-values.ensures (omega (arith, c.before.if1.false)) c.before.before.before.before.before.before.before.before.requires.0 in (omega (arith, c.before.before.before.before.before.before.before.before.requires.1.0), omega (arith, c.before.before.before.before.before.before.before.before.requires.1.1))
+lookup-cell-requires c κs = let (h, k) = values_count c.before.before.before.before.into-column-values.ensures (omega (arith, c.before.if1.false)) c.before.before.before.before.before.before.before.before.requires.0 in (omega (arith, c.before.before.before.before.before.before.before.before.requires.1.0), omega (arith, c.before.before.before.before.before.before.before.before.requires.1.1))
 
 put-requires : tie.Need-put-requires
 put-requires c κs = search rules
@@ -33,8 +33,8 @@ put-requires c κs = search rules
 same-length-2 : tie.Need-same-length-2
 same-length-2 c = search rules
 
-returns-2 : tie.Need-returns-2
-returns-2 c = looks c.before.before.before.before.before.before.before.before.into-column-values.ensures (omega (arith, c.before.before.before.before.before.if1.false)) c.before.before.before.before.before.before.before.before.before.before.before.before.args.scan c.before.before.before.before.before.before.before.before.before.before.before.before.args.key c.before.before.before.before.before.before.before.before.before.before.before.before.args.c c.before.before.before.before.before.before.before.before.into-column-values.auto.1.1.1.0 c.before.before.before.lookup-cell.ensures c.before.before.put.ensures.0
+returns_2 : tie.Need-returns-2
+returns_2 c = looks c.before.before.before.before.before.before.before.before.into-column-values.ensures (omega (arith, c.before.before.before.before.before.if1.false)) c.before.before.before.before.before.before.before.before.before.before.before.before.args.scan c.before.before.before.before.before.before.before.before.before.before.before.before.args.key c.before.before.before.before.before.before.before.before.before.before.before.before.args.c c.before.before.before.before.before.before.before.before.into-column-values.auto.1.1.1.0 c.before.before.before.lookup-cell.ensures c.before.before.put.ensures.0
 
 pub lookup-spec : {M : Type 1} → statement M
 lookup-spec =
@@ -48,4 +48,4 @@ lookup-spec =
     lookup-cell-requires
     put-requires
     same-length-2
-    returns-2)
+    returns_2)

@@ -1,7 +1,7 @@
 use mathlib.Core.Option.{some}
 use Rattle.sql.specs.Plan.{scan, leaf}
 use Rattle.words.proofs.Nodes.{node_in}
-use Rattle.lookup_step.proofs.Marks.{copied-scan, scan-at, looked-up, slice_inside}
+use Rattle.lookup_step.proofs.Marks.{copied_scan, scan_at, looked_up, slice_inside}
 use native.Mathlib.Omega.{arith}
 use mathlib.Core.Path.{refl}
 use borrow.Author.Rules.{rules}
@@ -24,7 +24,7 @@ same_length : tie.Need-same-length
 same_length c = search rules
 
 returns : tie.Need-returns
-returns c = copied-scan c.before.before.before.before.before.before.before.cell_at.ensures c.before.before.before.before.before.before.before.before.before.before.before.before.before.args.tables.now c.before.before.before.before.before.before.before.before.before.before.before.before.before.args.columns.now c.before.before.before.before.before.table-width.ensures c.before.before.before.before.if1.true c.before.before.copy.ensures
+returns c = copied_scan c.before.before.before.before.before.before.before.cell_at.ensures c.before.before.before.before.before.before.before.before.before.before.before.before.before.args.tables.now c.before.before.before.before.before.before.before.before.before.before.before.before.before.args.columns.now c.before.before.before.before.before.table-width.ensures c.before.before.before.before.if1.true c.before.before.copy.ensures
 
 first-column-requires : tie.Need-first-column-requires
 first-column-requires c κs = search rules
@@ -51,13 +51,13 @@ part-lookup-or-scan-end : tie.Need-slice-bounds-lookup-or-scan-end
 part-lookup-or-scan-end c = let (h, i) = slice_inside c.before.before.before.before.before.before.before.before.before.before.before.before.requires _ c.before.before.before.before.table-width.ensures c.before.before.first-column.ensures in omega arith
 
 lookup-or-scan-requires : tie.Need-lookup-or-scan-requires
-lookup-or-scan-requires c κs = scan-at c.before.before.before.before.before.before.before.cell_at.ensures c.before.before.before.before.before.before.before.before.before.before.before.before.before.args.tables.now c.before.before.before.before.before.before.before.before.before.before.before.before.before.args.columns.now c.before.before.before.before.before.table-width.ensures c.before.before.before.before.if1.false c.before.before.before.first-column.ensures refl refl c.before.before.primary-key.ensures c.before.before.before.before.before.before.before.before.before.before.before.before.before.requires
+lookup-or-scan-requires c κs = scan_at c.before.before.before.before.before.before.before.cell_at.ensures c.before.before.before.before.before.before.before.before.before.before.before.before.before.args.tables.now c.before.before.before.before.before.before.before.before.before.before.before.before.before.args.columns.now c.before.before.before.before.before.table-width.ensures c.before.before.before.before.if1.false c.before.before.before.first-column.ensures refl refl c.before.before.primary-key.ensures c.before.before.before.before.before.before.before.before.before.before.before.before.before.requires
 
 same-length-2 : tie.Need-same-length-2
 same-length-2 c = search rules
 
-returns-2 : tie.Need-returns-2
-returns-2 c = looked-up c.before.before.before.before.before.before.before.before.before.before.cell_at.ensures c.before.before.before.before.before.before.before.before.before.before.before.before.before.before.before.before.args.tables.now c.before.before.before.before.before.before.before.before.before.before.before.before.before.before.before.before.args.columns.now c.before.before.before.before.before.before.before.before.table-width.ensures c.before.before.before.before.before.before.before.if1.false c.before.before.before.before.before.before.first-column.ensures refl refl c.before.before.before.before.before.primary-key.ensures c.before.before.lookup-or-scan.ensures
+returns_2 : tie.Need-returns-2
+returns_2 c = looked_up c.before.before.before.before.before.before.before.before.before.before.cell_at.ensures c.before.before.before.before.before.before.before.before.before.before.before.before.before.before.before.before.args.tables.now c.before.before.before.before.before.before.before.before.before.before.before.before.before.before.before.before.args.columns.now c.before.before.before.before.before.before.before.before.table-width.ensures c.before.before.before.before.before.before.before.if1.false c.before.before.before.before.before.before.first-column.ensures refl refl c.before.before.before.before.before.primary-key.ensures c.before.before.lookup-or-scan.ensures
 
 pub lookup-in-table-spec : {M : Type 1} → statement M
 lookup-in-table-spec =
@@ -79,4 +79,4 @@ lookup-in-table-spec =
     part-lookup-or-scan-end
     lookup-or-scan-requires
     same-length-2
-    returns-2)
+    returns_2)

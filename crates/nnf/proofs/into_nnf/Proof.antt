@@ -1,6 +1,6 @@
 use Rattle.nnf.proofs.Tags.{copied}
-use Rattle.nnf.proofs.Steps.{nnf-other}
-use Rattle.sql.specs.Expression.{into-nnf}
+use Rattle.nnf.proofs.Steps.{nnf_other}
+use Rattle.sql.specs.Expression.{into_nnf}
 use Rattle.words.proofs.Expressions.{at_in}
 use native.Mathlib.Omega.{arith}
 use borrow.Author.Rules.{rules}
@@ -25,8 +25,8 @@ copy-requires c κs = let (h, k) = at_in c.before.before.before.before.before.re
 same-length-2 : tie.Need-same-length-2
 same-length-2 c = search rules
 
-returns-2 : tie.Need-returns-2
-returns-2 c = copied into-nnf 30 nnf-other c.before.before.before.before.before.contains-tag.ensures c.before.before.before.before.if1.false c.before.before.copy.ensures
+returns_2 : tie.Need-returns-2
+returns_2 c = copied into_nnf 30 nnf_other c.before.before.before.before.before.contains-tag.ensures c.before.before.before.before.if1.false c.before.before.copy.ensures
 
 pub into-nnf-spec : {M : Type 1} → statement M
 into-nnf-spec =
@@ -38,4 +38,4 @@ into-nnf-spec =
     returns
     copy-requires
     same-length-2
-    returns-2)
+    returns_2)

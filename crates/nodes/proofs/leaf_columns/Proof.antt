@@ -1,4 +1,4 @@
-use Rattle.nodes.proofs.Widths.{columns-nothing, columns-no-rows, rows_at, row_in, columns-values, columns-table}
+use Rattle.nodes.proofs.Widths.{columns_nothing, columns_no_rows, rows_at, row_in, columns_values, columns_table}
 use Rattle.nodes.proofs.Own.{at_in}
 use Prim.Native.Nat.{ℕ, ◌+◌, ◌-◌, ◌*◌, ◌≤◌, ◌<◌}
 use native.Mathlib.Omega.{arith}
@@ -21,10 +21,10 @@ cast-result : tie.Need-overflow-cast-result
 cast-result c = search rules
 
 returns : tie.Need-returns
-returns c = columns-nothing c.before.before.before.cell_at.ensures c.before.if1.true
+returns c = columns_nothing c.before.before.before.cell_at.ensures c.before.if1.true
 
-returns-2 : tie.Need-returns-2
-returns-2 c = columns-no-rows c.before.before.before.before.before.before.cell_at.ensures c.before.before.if2.true c.if3.true
+returns_2 : tie.Need-returns-2
+returns_2 c = columns_no_rows c.before.before.before.before.before.before.cell_at.ensures c.before.before.if2.true c.if3.true
 
 cast-trees-start : tie.Need-overflow-cast-trees-start
 cast-trees-start c = search rules
@@ -44,8 +44,8 @@ cell-at-requires-2 c κs = row_in c.before.before.before.before.before.before.be
 cast-result-2 : tie.Need-overflow-cast-result-2
 cast-result-2 c = search rules
 
-returns-3 : tie.Need-returns-3
-returns-3 c = columns-values c.before.before.before.before.before.before.before.before.before.before.cell_at.ensures c.before.before.before.before.before.before.if2.true c.before.before.before.before.if3.false c.before.before.trees-start.ensures c.before.cell-at2.ensures
+returns_3 : tie.Need-returns-3
+returns_3 c = columns_values c.before.before.before.before.before.before.before.before.before.before.cell_at.ensures c.before.before.before.before.before.before.if2.true c.before.before.before.before.if3.false c.before.before.trees-start.ensures c.before.cell-at2.ensures
 
 cast-table-width : tie.Need-overflow-cast-table-width
 cast-table-width c = search rules
@@ -53,8 +53,8 @@ cast-table-width c = search rules
 table-width-requires : tie.Need-table-width-requires
 table-width-requires c κs = search rules
 
-returns-4 : tie.Need-returns-4
-returns-4 c = columns-table c.before.before.before.before.before.before.cell_at.ensures c.before.before.before.before.before.before.before.before.before.requires.1 c.before.before.before.before.if1.false c.before.before.if2.false c.table-width.ensures
+returns_4 : tie.Need-returns-4
+returns_4 c = columns_table c.before.before.before.before.before.before.cell_at.ensures c.before.before.before.before.before.before.before.before.before.requires.1 c.before.before.before.before.if1.false c.before.before.if2.false c.table-width.ensures
 
 pub leaf-columns-spec : {M : Type 1} → statement M
 leaf-columns-spec =
@@ -63,14 +63,14 @@ leaf-columns-spec =
     cell-at-requires
     cast-result
     returns
-    returns-2
+    returns_2
     cast-trees-start
     sub-trees-start
     sub-trees-start-2
     trees-start-requires
     cell-at-requires-2
     cast-result-2
-    returns-3
+    returns_3
     cast-table-width
     table-width-requires
-    returns-4)
+    returns_4)

@@ -1,4 +1,4 @@
-use Rattle.nodes.proofs.Widths.{past_fits, past_more, past-less, past-none}
+use Rattle.nodes.proofs.Widths.{past_fits, past_more, past_less, past_none}
 use Prim.Native.Nat.{ℕ, ◌+◌, ◌-◌, ◌*◌, ◌≤◌, ◌<◌}
 use native.Mathlib.Omega.{arith}
 use mathlib.Core.Path.{◌≡◌, refl, sym, ap, ◌∙◌, subst}
@@ -16,11 +16,11 @@ add-result c = omega (arith, past_fits c.before.before.args.flag c.before.before
 returns : tie.Need-returns
 returns c = past_more c.before.before.args.n c.before.before.args.flag c.before.before.args.a c.before.if1.true c.if2.true
 
-returns-2 : tie.Need-returns-2
-returns-2 c = past-less c.before.before.args.n c.before.before.args.flag c.before.before.args.a c.before.if1.true c.if2.false
+returns_2 : tie.Need-returns-2
+returns_2 c = past_less c.before.before.args.n c.before.before.args.flag c.before.before.args.a c.before.if1.true c.if2.false
 
-returns-3 : tie.Need-returns-3
-returns-3 c = past-none c.before.args.n c.before.args.flag c.before.args.a c.if1.false
+returns_3 : tie.Need-returns-3
+returns_3 c = past_none c.before.args.n c.before.args.flag c.before.args.a c.if1.false
 
 pub past-target-spec : {M : Type 1} → statement M
-past-target-spec = tie.close (tie.spec add-result returns returns-2 returns-3)
+past-target-spec = tie.close (tie.spec add-result returns returns_2 returns_3)

@@ -1,9 +1,9 @@
 use Rattle.sql.specs.Room
 use Rattle.sql.specs.Optimizer as Optimizer
 use Rattle.sql.specs.Answer.{done}
-use Rattle.passes.proofs.Turns.{plan-with, runs-with}
+use Rattle.passes.proofs.Turns.{plan_with, runs_with}
 use Rattle.optimizer.specs.Choices.{Choice}
-use Rattle.optimizer.proofs.Choosing.{by_number, by-choice}
+use Rattle.optimizer.proofs.Choosing.{by_number, by_choice}
 use native.Mathlib.Omega.{arith}
 use mathlib.Core.Path.{refl, subst}
 use borrow.Author.Rules.{rules}
@@ -39,7 +39,7 @@ same-length-4 : tie.Need-same-length-4
 same-length-4 c = c.before.before.before.before.before.before.before.before.pass.auto.1.1.1.1.1.0
 
 returns : tie.Need-returns
-returns c = by-choice c.before.before.before.before.before.before.before.before.before.before.before.before.before.before.before.before.before.before.before.before.before.before.before.args.x.now c.before.before.before.before.before.before.before.before.before.before.before.before.before.before.before.before.before.before.before.before.before.before.before.args.t _ _ c.before.before.before.before.before.before.before.before.before.before.before.before.before.before.before.before.before.before.before.before.before.before.before.args.c _ c.before.before.before.before.before.before.before.before.before.before.before.before.before.before.c.given.1 c.before.before.before.before.before.before.before.before.pass.ensures
+returns c = by_choice c.before.before.before.before.before.before.before.before.before.before.before.before.before.before.before.before.before.before.before.before.before.before.before.args.x.now c.before.before.before.before.before.before.before.before.before.before.before.before.before.before.before.before.before.before.before.before.before.before.before.args.t _ _ c.before.before.before.before.before.before.before.before.before.before.before.before.before.before.before.before.before.before.before.before.before.before.before.args.c _ c.before.before.before.before.before.before.before.before.before.before.before.before.before.before.c.given.1 c.before.before.before.before.before.before.before.before.pass.ensures
 
 same-length-5 : tie.Need-same-length-5
 same-length-5 c = c.before.before.before.before.before.before.before.before.optimize.auto.1.0
@@ -53,8 +53,8 @@ same-length-7 c = c.before.before.before.before.before.before.before.before.opti
 same-length-8 : tie.Need-same-length-8
 same-length-8 c = c.before.before.before.before.before.before.before.before.optimize.auto.1.1.1.1.0
 
-returns-2 : tie.Need-returns-2
-returns-2 c = by-choice c.before.before.before.before.before.before.before.before.before.before.before.before.before.before.before.before.before.before.before.before.before.before.args.x.now c.before.before.before.before.before.before.before.before.before.before.before.before.before.before.before.before.before.before.before.before.before.before.args.t _ _ c.before.before.before.before.before.before.before.before.before.before.before.before.before.before.before.before.before.before.before.before.before.before.args.c _ c.before.before.before.before.before.before.before.before.before.before.before.before.before.enum_told.given.1 c.before.before.before.before.before.before.before.before.optimize.ensures
+returns_2 : tie.Need-returns-2
+returns_2 c = by_choice c.before.before.before.before.before.before.before.before.before.before.before.before.before.before.before.before.before.before.before.before.before.before.args.x.now c.before.before.before.before.before.before.before.before.before.before.before.before.before.before.before.before.before.before.before.before.before.before.args.t _ _ c.before.before.before.before.before.before.before.before.before.before.before.before.before.before.before.before.before.before.before.before.before.before.args.c _ c.before.before.before.before.before.before.before.before.before.before.before.before.before.enum_told.given.1 c.before.before.before.before.before.before.before.before.optimize.ensures
 
 pub run_spec : {M : Type 1} → statement M
 run_spec =
@@ -73,4 +73,4 @@ run_spec =
     same-length-6
     same-length-7
     same-length-8
-    returns-2)
+    returns_2)

@@ -1,4 +1,4 @@
-use Rattle.passes.proofs.Running.{fold-asked, folded}
+use Rattle.passes.proofs.Running.{fold_asked, folded}
 use native.Mathlib.Omega.{arith}
 use borrow.Author.Rules.{rules}
 use Rattle.passes.proofs.fold.Statement.{statement}
@@ -6,7 +6,7 @@ use Rattle.passes.proofs.fold.Tie as tie
 use Rattle.constant_folding.proofs.constant_folding.Reads as constant-folding-reads
 
 constant-folding-requires : tie.Need-constant-folding-requires
-constant-folding-requires c κs = (fold-asked c.before.before.before.before.requires.0, (omega (arith, c.before.before.before.before.requires.0.plan.inside, c.before.before.before.before.requires.1), omega (arith, c.before.before.before.before.requires.0.short, c.before.before.before.before.requires.1)))
+constant-folding-requires c κs = (fold_asked c.before.before.before.before.requires.0, (omega (arith, c.before.before.before.before.requires.0.plan.inside, c.before.before.before.before.requires.1), omega (arith, c.before.before.before.before.requires.0.short, c.before.before.before.before.requires.1)))
 
 same_length : tie.Need-same-length
 same_length c = search rules

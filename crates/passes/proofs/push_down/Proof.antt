@@ -1,5 +1,5 @@
 use Rattle.sql.specs.Room.{FilterPushdown}
-use Rattle.passes.proofs.Turns.{plan-next, runs-copied, runs-refused}
+use Rattle.passes.proofs.Turns.{plan_next, runs_copied, runs_refused}
 use Prim.Native.Nat.{ℕ, ◌+◌, ◌-◌, ◌*◌, ◌≤◌, ◌<◌}
 use native.Mathlib.Omega.{arith}
 use mathlib.Core.Path.{◌≡◌, refl, sym, ap, ◌∙◌, subst}
@@ -21,7 +21,7 @@ enum-known-n c = search rules
 
 copy-requires : tie.Need-copy-requires
 copy-requires c κs =
-    let at = plan-next (λ schema text g. g) (λ room schema p. FilterPushdown room schema 0 p) c.before.before.before.before.before.before.before.before.before.before.before.before.before.before.before.before.before.before.before.before.before.before.before.args.x.now c.before.before.before.before.before.before.before.before.before.before.before.before.before.before.before.before.before.before.before.before.before.before.before.args.t _ _ _ c.before.before.before.n.given.1 c.before.before.before.before.before.before.before.before.before.before.before.before.before.push-down-in-place.ensures c.before.before.before.before.before.before.before.before.before.before.before.before.before.push-down-in-place.auto.0 c.before.before.before.before.before.before.before.before.before.before.before.before.before.before.before.before.before.before.before.before.before.before.before.requires.0 in
+    let at = plan_next (λ schema text g. g) (λ room schema p. FilterPushdown room schema 0 p) c.before.before.before.before.before.before.before.before.before.before.before.before.before.before.before.before.before.before.before.before.before.before.before.args.x.now c.before.before.before.before.before.before.before.before.before.before.before.before.before.before.before.before.before.before.before.before.before.before.before.args.t _ _ _ c.before.before.before.n.given.1 c.before.before.before.before.before.before.before.before.before.before.before.before.before.push-down-in-place.ensures c.before.before.before.before.before.before.before.before.before.before.before.before.before.push-down-in-place.auto.0 c.before.before.before.before.before.before.before.before.before.before.before.before.before.before.before.before.before.before.before.before.before.before.before.requires.0 in
     (omega arith, at.plan.inside)
 
 enum-known-number : tie.Need-enum-known-number
@@ -40,7 +40,7 @@ same-length-4 : tie.Need-same-length-4
 same-length-4 c = search rules
 
 returns : tie.Need-returns
-returns c = runs-copied (λ room schema p. FilterPushdown room schema 0 p) c.before.before.before.before.before.before.before.before.before.before.before.before.before.before.before.before.before.before.before.before.before.before.before.before.before.before.args.x.now c.before.before.before.before.before.before.before.before.before.before.before.before.before.before.before.before.before.before.before.before.before.before.before.before.before.before.args.t _ _ _ _ _ _ c.before.before.before.before.before.before.n.given.1 c.before.before.before.before.before.before.before.before.before.before.before.before.before.before.before.before.push-down-in-place.ensures (omega (arith, c.before.before.before.before.before.before.before.before.before.before.before.before.before.before.before.before.push-down-in-place.auto.1.0, c.before.before.before.before.before.before.before.before.before.before.before.before.before.before.before.before.before.before.before.before.before.before.before.before.before.before.requires.0.short, c.before.before.before.before.before.before.before.before.before.before.before.before.before.before.before.before.before.before.before.before.before.before.before.before.before.before.requires.1.second)) (omega (arith, c.before.before.before.before.before.before.before.before.before.before.before.before.before.before.before.before.push-down-in-place.auto.0, c.before.before.before.before.before.before.before.before.before.before.before.before.before.before.before.before.push-down-in-place.auto.1.0, c.before.before.before.before.before.before.before.before.before.before.before.before.before.before.before.before.before.before.before.before.before.before.before.before.before.before.requires.1.second)) c.before.before.copy.auto.1.1.1.0 c.before.before.copy.ensures
+returns c = runs_copied (λ room schema p. FilterPushdown room schema 0 p) c.before.before.before.before.before.before.before.before.before.before.before.before.before.before.before.before.before.before.before.before.before.before.before.before.before.before.args.x.now c.before.before.before.before.before.before.before.before.before.before.before.before.before.before.before.before.before.before.before.before.before.before.before.before.before.before.args.t _ _ _ _ _ _ c.before.before.before.before.before.before.n.given.1 c.before.before.before.before.before.before.before.before.before.before.before.before.before.before.before.before.push-down-in-place.ensures (omega (arith, c.before.before.before.before.before.before.before.before.before.before.before.before.before.before.before.before.push-down-in-place.auto.1.0, c.before.before.before.before.before.before.before.before.before.before.before.before.before.before.before.before.before.before.before.before.before.before.before.before.before.before.requires.0.short, c.before.before.before.before.before.before.before.before.before.before.before.before.before.before.before.before.before.before.before.before.before.before.before.before.before.before.requires.1.second)) (omega (arith, c.before.before.before.before.before.before.before.before.before.before.before.before.before.before.before.before.push-down-in-place.auto.0, c.before.before.before.before.before.before.before.before.before.before.before.before.before.before.before.before.push-down-in-place.auto.1.0, c.before.before.before.before.before.before.before.before.before.before.before.before.before.before.before.before.before.before.before.before.before.before.before.before.before.before.requires.1.second)) c.before.before.copy.auto.1.1.1.0 c.before.before.copy.ensures
 
 same-length-5 : tie.Need-same-length-5
 same-length-5 c = search rules
@@ -54,8 +54,8 @@ same-length-7 c = search rules
 same-length-8 : tie.Need-same-length-8
 same-length-8 c = search rules
 
-returns-2 : tie.Need-returns-2
-returns-2 c = runs-refused (λ room schema p. FilterPushdown room schema 0 p) c.before.before.before.before.before.before.before.before.before.before.before.before.before.before.before.before.before.before.before.before.before.args.x.now c.before.before.before.before.before.before.before.before.before.before.before.before.before.before.before.before.before.before.before.before.before.args.t _ _ _ _ _ c.before.number.given.1 c.before.before.before.before.before.before.before.before.before.before.before.push-down-in-place.ensures
+returns_2 : tie.Need-returns-2
+returns_2 c = runs_refused (λ room schema p. FilterPushdown room schema 0 p) c.before.before.before.before.before.before.before.before.before.before.before.before.before.before.before.before.before.before.before.before.before.args.x.now c.before.before.before.before.before.before.before.before.before.before.before.before.before.before.before.before.before.before.before.before.before.args.t _ _ _ _ _ c.before.number.given.1 c.before.before.before.before.before.before.before.before.before.before.before.push-down-in-place.ensures
 
 pub push-down-spec : {M : Type 1} → statement M
 push-down-spec =
@@ -74,4 +74,4 @@ push-down-spec =
     same-length-6
     same-length-7
     same-length-8
-    returns-2)
+    returns_2)

@@ -1,5 +1,5 @@
 use Rattle.sql.specs.Room.{FilterPushdown}
-use Rattle.passes.proofs.Running.{push-asked, push-left}
+use Rattle.passes.proofs.Running.{push_asked, push_left}
 use Prim.Native.Nat.{ℕ, ◌+◌, ◌-◌, ◌*◌, ◌≤◌, ◌<◌}
 use native.Mathlib.Omega.{arith}
 use mathlib.Core.Path.{◌≡◌, refl, sym, ap, ◌∙◌, subst}
@@ -14,7 +14,7 @@ use Rattle.filter_pushdown.proofs.filter_pushdown.Reads as filter-pushdown-reads
 use Rattle.passes.proofs.in_room.Reads as in-room-reads
 
 filter-pushdown-requires : tie.Need-filter-pushdown-requires
-filter-pushdown-requires c κs = (push-asked c.before.before.before.before.before.before.before.before.before.requires.0, record { first = c.before.before.before.before.before.before.before.before.before.requires.1.second; second = c.before.before.before.before.before.before.before.before.before.requires.1.third; third = c.before.before.before.before.before.before.before.before.before.requires.1.fourth })
+filter-pushdown-requires c κs = (push_asked c.before.before.before.before.before.before.before.before.before.requires.0, record { first = c.before.before.before.before.before.before.before.before.before.requires.1.second; second = c.before.before.before.before.before.before.before.before.before.requires.1.third; third = c.before.before.before.before.before.before.before.before.before.requires.1.fourth })
 
 in-room-requires : tie.Need-in-room-requires
 in-room-requires c κs = search rules
@@ -32,7 +32,7 @@ same-length-4 : tie.Need-same-length-4
 same-length-4 c = search rules
 
 returns : tie.Need-returns
-returns c = push-left c.before.before.before.before.before.before.before.before.before.before.before.before.before.before.before.before.before.before.before.before.requires.0.short FilterPushdown c.before.before.before.before.before.before.before.before.before.before.filter-pushdown.ensures c.in-room.ensures
+returns c = push_left c.before.before.before.before.before.before.before.before.before.before.before.before.before.before.before.before.before.before.before.before.requires.0.short FilterPushdown c.before.before.before.before.before.before.before.before.before.before.filter-pushdown.ensures c.in-room.ensures
 
 pub push-down-in-place-spec : {M : Type 1} → statement M
 push-down-in-place-spec =

@@ -1,4 +1,4 @@
-use Rattle.passes.proofs.Running.{circuit-asked, circuited}
+use Rattle.passes.proofs.Running.{circuit_asked, circuited}
 use Prim.Native.Nat.{ℕ, ◌+◌, ◌-◌, ◌*◌, ◌≤◌, ◌<◌}
 use native.Mathlib.Omega.{arith}
 use mathlib.Core.Path.{◌≡◌, refl, sym, ap, ◌∙◌, subst}
@@ -13,7 +13,7 @@ use Rattle.passes.proofs.in_room.Reads as in-room-reads
 use Rattle.short_circuit.proofs.short_circuit.Reads as short-circuit-reads
 
 short-circuit-requires : tie.Need-short-circuit-requires
-short-circuit-requires c κs = (circuit-asked c.before.before.before.before.before.before.before.requires.1.0 c.before.before.before.before.before.before.before.requires.0, omega (arith, c.before.before.before.before.before.before.before.requires.1.0, c.before.before.before.before.before.before.before.requires.1.1))
+short-circuit-requires c κs = (circuit_asked c.before.before.before.before.before.before.before.requires.1.0 c.before.before.before.before.before.before.before.requires.0, omega (arith, c.before.before.before.before.before.before.before.requires.1.0, c.before.before.before.before.before.before.before.requires.1.1))
 
 in-room-requires : tie.Need-in-room-requires
 in-room-requires c κs = search rules

@@ -1,5 +1,5 @@
 use Rattle.push_filters.proofs.Trying.{filtered}
-use Rattle.push_into.proofs.Taking.{put-long}
+use Rattle.push_into.proofs.Taking.{put_long}
 use Rattle.words.proofs.Writing.{plain}
 use native.Mathlib.Omega.{arith}
 use mathlib.Core.Path.{◌∙◌}
@@ -11,7 +11,7 @@ put-requires : tie.Need-put-requires
 put-requires c κs = search rules
 
 replace-own-requires : tie.Need-replace-own-requires
-replace-own-requires c κs = (c.before.before.before.before.before.before.before.before.requires.1.0, ((c.before.before.before.before.before.before.before.before.requires.0, λ z. put-long (plain c.before.before.before.before.before.before.before.before.args.origin 51) c.before.before.before.before.put.ensures.0 (omega (arith, c.before.before.before.before.put.auto.0))), c.before.before.before.before.put.auto.0 ∙ c.before.before.before.before.before.before.before.before.requires.1.1))
+replace-own-requires c κs = (c.before.before.before.before.before.before.before.before.requires.1.0, ((c.before.before.before.before.before.before.before.before.requires.0, λ z. put_long (plain c.before.before.before.before.before.before.before.before.args.origin 51) c.before.before.before.before.put.ensures.0 (omega (arith, c.before.before.before.before.put.auto.0))), c.before.before.before.before.put.auto.0 ∙ c.before.before.before.before.before.before.before.before.requires.1.1))
 
 same_length : tie.Need-same-length
 same_length c = c.before.before.before.before.replace-own.auto.0

@@ -1,31 +1,31 @@
-use Rattle.push_filters.proofs.Trying.{own-ends, starts-plain, starts-filter, starts-at, starts-passes}
-use Rattle.push_filters.proofs.Pushing.{pass-at, pass-in, buffers-next}
-use Rattle.push_into.proofs.Taking.{node-at-in}
+use Rattle.push_filters.proofs.Trying.{own_ends, starts_plain, starts_filter, starts_at, starts_passes}
+use Rattle.push_filters.proofs.Pushing.{pass_at, pass_in, buffers_next}
+use Rattle.push_into.proofs.Taking.{node_at_in}
 use Rattle.sql.specs.Room
 use mathlib.Core.Path.{refl, sym, ◌∙◌}
 use Rattle.push_filters.proofs.push_filters_in_place.Statement.{statement}
 use Rattle.push_filters.proofs.push_filters_in_place.Tie as tie
 
 sub-hi : tie.Need-overflow-sub-hi
-sub-hi c = (pass-in c.before.before.before.before.before.requires.0).0
+sub-hi c = (pass_in c.before.before.before.before.before.requires.0).0
 
 tag-at-requires : tie.Need-tag-at-requires
-tag-at-requires c κs = node-at-in (pass-at c.before.before.before.before.before.before.requires.0)
+tag-at-requires c κs = node_at_in (pass_at c.before.before.before.before.before.before.requires.0)
 
 own-start-requires : tie.Need-own-start-requires
-own-start-requires c κs = pass-at c.before.before.before.before.before.before.before.before.before.requires.0
+own-start-requires c κs = pass_at c.before.before.before.before.before.before.before.before.before.requires.0
 
 sub-copy : tie.Need-overflow-sub-copy
-sub-copy c = (node-at-in (pass-at c.before.before.before.before.before.before.before.before.before.before.before.requires.0)).0
+sub-copy c = (node_at_in (pass_at c.before.before.before.before.before.before.before.before.before.before.before.requires.0)).0
 
 copy-requires : tie.Need-copy-requires
-copy-requires c κs = own-ends c.before.before.own-start.ensures (pass-at c.before.before.before.before.before.before.before.before.before.before.before.before.requires.0)
+copy-requires c κs = own_ends c.before.before.own-start.ensures (pass_at c.before.before.before.before.before.before.before.before.before.before.before.before.requires.0)
 
 origin-at-requires : tie.Need-origin-at-requires
-origin-at-requires c κs = node-at-in (pass-at c.before.before.before.before.before.before.before.before.before.before.before.before.before.before.before.before.requires.0)
+origin-at-requires c κs = node_at_in (pass_at c.before.before.before.before.before.before.before.before.before.before.before.before.before.before.before.before.requires.0)
 
 push-filters-requires : tie.Need-push-filters-requires
-push-filters-requires c κs = (starts-at (starts-filter (sym c.before.before.before.before.before.before.before.before.before.before.before.before.before.before.tag_at.ensures ∙ c.before.before.before.before.before.before.before.before.before.before.before.before.before.if1.true) c.before.before.before.before.before.before.before.before.before.before.before.own-start.ensures c.before.before.before.before.before.before.before.before.before.before.before.before.before.before.before.before.before.before.before.before.before.requires.1.first c.before.before.before.before.before.before.before.before.copy.ensures c.before.before.before.before.origin-at.ensures) c.before.before.before.before.before.before.before.before.before.before.before.before.before.before.before.before.before.before.before.before.before.requires.0, buffers-next c.before.before.before.before.before.before.before.before.before.before.before.before.before.before.before.before.before.before.before.before.before.requires.1 refl c.before.before.before.before.before.before.before.before.copy.auto.1.1.1.0 refl refl)
+push-filters-requires c κs = (starts_at (starts_filter (sym c.before.before.before.before.before.before.before.before.before.before.before.before.before.before.tag_at.ensures ∙ c.before.before.before.before.before.before.before.before.before.before.before.before.before.if1.true) c.before.before.before.before.before.before.before.before.before.before.before.own-start.ensures c.before.before.before.before.before.before.before.before.before.before.before.before.before.before.before.before.before.before.before.before.before.requires.1.first c.before.before.before.before.before.before.before.before.copy.ensures c.before.before.before.before.origin-at.ensures) c.before.before.before.before.before.before.before.before.before.before.before.before.before.before.before.before.before.before.before.before.before.requires.0, buffers_next c.before.before.before.before.before.before.before.before.before.before.before.before.before.before.before.before.before.before.before.before.before.requires.1 refl c.before.before.before.before.before.before.before.before.copy.auto.1.1.1.0 refl refl)
 
 same_length : tie.Need-same-length
 same_length c = c.before.before.before.before.before.before.before.before.push-filters.auto.0
@@ -40,10 +40,10 @@ same-length-4 : tie.Need-same-length-4
 same-length-4 c = c.before.before.before.before.before.before.before.before.push-filters.auto.1.1.1.0
 
 returns : tie.Need-returns
-returns c = starts-passes (starts-filter (sym c.before.before.before.before.before.before.before.before.before.before.before.before.before.before.before.before.before.before.before.before.before.before.before.tag_at.ensures ∙ c.before.before.before.before.before.before.before.before.before.before.before.before.before.before.before.before.before.before.before.before.before.before.if1.true) c.before.before.before.before.before.before.before.before.before.before.before.before.before.before.before.before.before.before.before.before.own-start.ensures c.before.before.before.before.before.before.before.before.before.before.before.before.before.before.before.before.before.before.before.before.before.before.before.before.before.before.before.before.before.before.requires.1.first c.before.before.before.before.before.before.before.before.before.before.before.before.before.before.before.before.before.copy.ensures c.before.before.before.before.before.before.before.before.before.before.before.before.before.origin-at.ensures) (λ room schema. Room.push-filters room schema c.before.before.before.before.before.before.before.before.before.before.before.before.before.before.before.before.before.before.before.before.before.before.before.before.before.before.before.before.before.before.args.n) c.before.before.before.before.before.before.before.before.push-filters.ensures
+returns c = starts_passes (starts_filter (sym c.before.before.before.before.before.before.before.before.before.before.before.before.before.before.before.before.before.before.before.before.before.before.before.tag_at.ensures ∙ c.before.before.before.before.before.before.before.before.before.before.before.before.before.before.before.before.before.before.before.before.before.before.if1.true) c.before.before.before.before.before.before.before.before.before.before.before.before.before.before.before.before.before.before.before.before.own-start.ensures c.before.before.before.before.before.before.before.before.before.before.before.before.before.before.before.before.before.before.before.before.before.before.before.before.before.before.before.before.before.before.requires.1.first c.before.before.before.before.before.before.before.before.before.before.before.before.before.before.before.before.before.copy.ensures c.before.before.before.before.before.before.before.before.before.before.before.before.before.origin-at.ensures) (λ room schema. Room.push_filters room schema c.before.before.before.before.before.before.before.before.before.before.before.before.before.before.before.before.before.before.before.before.before.before.before.before.before.before.before.before.before.before.args.n) c.before.before.before.before.before.before.before.before.push-filters.ensures
 
 push-filters-requires-2 : tie.Need-push-filters-requires-2
-push-filters-requires-2 c κs = (starts-at (starts-plain (λ i. c.before.before.before.before.if1.false (c.before.before.before.before.before.tag_at.ensures ∙ i)) _ _ _) c.before.before.before.before.before.before.before.before.before.before.before.before.requires.0, c.before.before.before.before.before.before.before.before.before.before.before.before.requires.1)
+push-filters-requires-2 c κs = (starts_at (starts_plain (λ i. c.before.before.before.before.if1.false (c.before.before.before.before.before.tag_at.ensures ∙ i)) _ _ _) c.before.before.before.before.before.before.before.before.before.before.before.before.requires.0, c.before.before.before.before.before.before.before.before.before.before.before.before.requires.1)
 
 same-length-5 : tie.Need-same-length-5
 same-length-5 c = c.before.before.before.before.before.before.before.before.push-filters2.auto.0
@@ -57,8 +57,8 @@ same-length-7 c = c.before.before.before.before.before.before.before.before.push
 same-length-8 : tie.Need-same-length-8
 same-length-8 c = c.before.before.before.before.before.before.before.before.push-filters2.auto.1.1.1.0
 
-returns-2 : tie.Need-returns-2
-returns-2 c = starts-passes (starts-plain (λ i. c.before.before.before.before.before.before.before.before.before.before.before.before.before.if1.false (c.before.before.before.before.before.before.before.before.before.before.before.before.before.before.tag_at.ensures ∙ i)) _ _ _) (λ room schema. Room.push-filters room schema c.before.before.before.before.before.before.before.before.before.before.before.before.before.before.before.before.before.before.before.before.before.args.n) c.before.before.before.before.before.before.before.before.push-filters2.ensures
+returns_2 : tie.Need-returns-2
+returns_2 c = starts_passes (starts_plain (λ i. c.before.before.before.before.before.before.before.before.before.before.before.before.before.if1.false (c.before.before.before.before.before.before.before.before.before.before.before.before.before.before.tag_at.ensures ∙ i)) _ _ _) (λ room schema. Room.push_filters room schema c.before.before.before.before.before.before.before.before.before.before.before.before.before.before.before.before.before.before.before.before.before.args.n) c.before.before.before.before.before.before.before.before.push-filters2.ensures
 
 pub push-filters-in-place-spec : {M : Type 1} → statement M
 push-filters-in-place-spec =
@@ -81,4 +81,4 @@ push-filters-in-place-spec =
     same-length-6
     same-length-7
     same-length-8
-    returns-2)
+    returns_2)

@@ -1,8 +1,8 @@
 use Prim.Native.Nat.{◌-◌}
 use native.Mathlib.Omega.{arith}
-use Rattle.push_part.proofs.Parts.{left_at, right-at, part_left, part-right-side}
+use Rattle.push_part.proofs.Parts.{left_at, right_at, part_left, part_right_side}
 use Rattle.conjuncts.proofs.Appending.{gathered_none}
-use Rattle.push_part.proofs.Gathering.{left-gathered, right-gathered}
+use Rattle.push_part.proofs.Gathering.{left_gathered, right_gathered}
 use borrow.Author.Rules.{rules}
 use Rattle.push_part.proofs.part.Statement.{statement}
 use Rattle.push_part.proofs.part.Tie as tie
@@ -14,7 +14,7 @@ for-right-requires : tie.Need-for-right-requires
 for-right-requires c κs = (c.before.before.before.before.before.before.requires.0, gathered_none c.before.before.before.before.before.before.args.g.now 0)
 
 push-left-requires : tie.Need-push-left-requires
-push-left-requires c κs = left_at c.before.before.before.before.before.before.before.before.before.before.before.args.origin c.before.before.before.before.before.before.before.before.before.before.before.args.n (right-gathered c.before.before.before.before.before.before.before.before.before.before.before.requires.1 (omega (arith, c.before.before.before.before.before.before.before.before.before.before.shared-slice-known.given (c.before.before.before.before.before.before.before.before.before.before.before.args.end - 1))) c.before.before.before.before.before.before.before.before.before.before.before.args.origin c.before.before.before.before.before.before.before.before.before.before.before.args.n c.before.before.before.before.for-right.ensures) c.before.before.before.before.before.before.before.before.before.before.before.requires.0
+push-left-requires c κs = left_at c.before.before.before.before.before.before.before.before.before.before.before.args.origin c.before.before.before.before.before.before.before.before.before.before.before.args.n (right_gathered c.before.before.before.before.before.before.before.before.before.before.before.requires.1 (omega (arith, c.before.before.before.before.before.before.before.before.before.before.shared-slice-known.given (c.before.before.before.before.before.before.before.before.before.before.before.args.end - 1))) c.before.before.before.before.before.before.before.before.before.before.before.args.origin c.before.before.before.before.before.before.before.before.before.before.before.args.n c.before.before.before.before.for-right.ensures) c.before.before.before.before.before.before.before.before.before.before.before.requires.0
 
 enum-told-2 : tie.Need-enum-told-2
 enum-told-2 c = search rules
@@ -23,7 +23,7 @@ for-left-requires : tie.Need-for-left-requires
 for-left-requires c κs = (c.before.before.before.before.before.before.requires.0, gathered_none c.before.before.before.before.before.before.args.g.now 0)
 
 push-right-requires : tie.Need-push-right-requires
-push-right-requires c κs = right-at c.before.before.before.before.before.before.before.before.before.before.before.args.origin c.before.before.before.before.before.before.before.before.before.before.before.args.n (left-gathered c.before.before.before.before.before.before.before.before.before.before.before.requires.1 (omega (arith, c.before.before.before.before.before.before.before.before.before.before.shared-slice-known.given (c.before.before.before.before.before.before.before.before.before.before.before.args.end - 1))) c.before.before.before.before.before.before.before.before.before.before.before.args.origin c.before.before.before.before.before.before.before.before.before.before.before.args.n c.before.before.before.before.for-left.ensures) c.before.before.before.before.before.before.before.before.before.before.before.requires.0
+push-right-requires c κs = right_at c.before.before.before.before.before.before.before.before.before.before.before.args.origin c.before.before.before.before.before.before.before.before.before.before.before.args.n (left_gathered c.before.before.before.before.before.before.before.before.before.before.before.requires.1 (omega (arith, c.before.before.before.before.before.before.before.before.before.before.shared-slice-known.given (c.before.before.before.before.before.before.before.before.before.before.before.args.end - 1))) c.before.before.before.before.before.before.before.before.before.before.before.args.origin c.before.before.before.before.before.before.before.before.before.before.before.args.n c.before.before.before.before.for-left.ensures) c.before.before.before.before.before.before.before.before.before.before.before.requires.0
 
 same_length : tie.Need-same-length
 same_length c = c.before.before.before.before.before.before.before.for-right.auto.1.1.1.0
@@ -32,7 +32,7 @@ same-length-2 : tie.Need-same-length-2
 same-length-2 c = c.before.before.push-left.auto.1.1.1.1.1.1.0
 
 returns : tie.Need-returns
-returns c = part_left c.before.before.before.before.before.before.before.before.before.before.before.before.before.before.args.origin c.before.before.before.before.before.before.before.before.before.before.before.before.before.before.args.n c.before.before.before.before.before.before.before.before.before.before.before.before.before.before.args.shift c.before.before.before.before.before.before.before.before.before.enum_told.given.1 (right-gathered c.before.before.before.before.before.before.before.before.before.before.before.before.before.before.requires.1 (omega (arith, c.before.before.before.before.before.before.before.before.before.before.before.before.before.shared-slice-known.given (c.before.before.before.before.before.before.before.before.before.before.before.before.before.before.args.end - 1))) c.before.before.before.before.before.before.before.before.before.before.before.before.before.before.args.origin c.before.before.before.before.before.before.before.before.before.before.before.before.before.before.args.n c.before.before.before.before.before.before.before.for-right.ensures) c.before.before.push-left.ensures
+returns c = part_left c.before.before.before.before.before.before.before.before.before.before.before.before.before.before.args.origin c.before.before.before.before.before.before.before.before.before.before.before.before.before.before.args.n c.before.before.before.before.before.before.before.before.before.before.before.before.before.before.args.shift c.before.before.before.before.before.before.before.before.before.enum_told.given.1 (right_gathered c.before.before.before.before.before.before.before.before.before.before.before.before.before.before.requires.1 (omega (arith, c.before.before.before.before.before.before.before.before.before.before.before.before.before.shared-slice-known.given (c.before.before.before.before.before.before.before.before.before.before.before.before.before.before.args.end - 1))) c.before.before.before.before.before.before.before.before.before.before.before.before.before.before.args.origin c.before.before.before.before.before.before.before.before.before.before.before.before.before.before.args.n c.before.before.before.before.before.before.before.for-right.ensures) c.before.before.push-left.ensures
 
 same-length-3 : tie.Need-same-length-3
 same-length-3 c = c.before.before.before.before.before.before.before.for-left.auto.1.1.1.0
@@ -40,8 +40,8 @@ same-length-3 c = c.before.before.before.before.before.before.before.for-left.au
 same-length-4 : tie.Need-same-length-4
 same-length-4 c = c.before.before.push-right.auto.1.1.1.1.1.1.0
 
-returns-2 : tie.Need-returns-2
-returns-2 c = part-right-side c.before.before.before.before.before.before.before.before.before.before.before.before.before.before.args.origin c.before.before.before.before.before.before.before.before.before.before.before.before.before.before.args.n c.before.before.before.before.before.before.before.before.before.before.before.before.before.before.args.shift c.before.before.before.before.before.before.before.before.before.enum-told2.given.1 (left-gathered c.before.before.before.before.before.before.before.before.before.before.before.before.before.before.requires.1 (omega (arith, c.before.before.before.before.before.before.before.before.before.before.before.before.before.shared-slice-known.given (c.before.before.before.before.before.before.before.before.before.before.before.before.before.before.args.end - 1))) c.before.before.before.before.before.before.before.before.before.before.before.before.before.before.args.origin c.before.before.before.before.before.before.before.before.before.before.before.before.before.before.args.n c.before.before.before.before.before.before.before.for-left.ensures) c.before.before.push-right.ensures
+returns_2 : tie.Need-returns-2
+returns_2 c = part_right_side c.before.before.before.before.before.before.before.before.before.before.before.before.before.before.args.origin c.before.before.before.before.before.before.before.before.before.before.before.before.before.before.args.n c.before.before.before.before.before.before.before.before.before.before.before.before.before.before.args.shift c.before.before.before.before.before.before.before.before.before.enum-told2.given.1 (left_gathered c.before.before.before.before.before.before.before.before.before.before.before.before.before.before.requires.1 (omega (arith, c.before.before.before.before.before.before.before.before.before.before.before.before.before.shared-slice-known.given (c.before.before.before.before.before.before.before.before.before.before.before.before.before.before.args.end - 1))) c.before.before.before.before.before.before.before.before.before.before.before.before.before.before.args.origin c.before.before.before.before.before.before.before.before.before.before.before.before.before.before.args.n c.before.before.before.before.before.before.before.for-left.ensures) c.before.before.push-right.ensures
 
 pub part-spec : {M : Type 1} → statement M
 part-spec =
@@ -58,4 +58,4 @@ part-spec =
     returns
     same-length-3
     same-length-4
-    returns-2)
+    returns_2)

@@ -1,6 +1,6 @@
 use Rattle.nodes.proofs.Own.{at_in}
 use Rattle.push_into.proofs.Taking.{taker}
-use Rattle.push_part.proofs.Parts.{own_in, part-closeable, push-taken, push-refused}
+use Rattle.push_part.proofs.Parts.{own_in, part_closeable, push_taken, push_refused}
 use native.Mathlib.Omega.{arith}
 use mathlib.Core.Path.{◌∙◌}
 use Rattle.push_part.proofs.push_part.Statement.{statement}
@@ -19,7 +19,7 @@ part-requires : tie.Need-part-requires
 part-requires c κs = c.before.before.before.before.before.before.before.before.before.before.before.before.before.requires.1
 
 close-requires : tie.Need-close-requires
-close-requires c κs = (taker c.before.before.before.before.before.before.before.before.before.before.before.before.before.before.before.before.before.before.before.requires.0 c.before.before.before.before.before.before.before.before.before.before.before.before.before.before.takes.ensures c.before.before.before.before.before.before.before.before.before.before.before.before.before.if1.true, (c.before.before.before.before.before.before.before.before.before.before.before.before.own-start.ensures, part-closeable c.before.before.before.before.before.before.before.before.before.before.before.before.before.before.before.before.before.before.before.args.origin c.before.before.before.before.before.before.before.before.before.before.before.before.before.before.before.before.before.before.before.args.into c.before.before.before.before.before.before.before.before.before.before.before.before.before.before.before.before.before.before.before.args.n c.before.before.before.before.before.before.before.before.before.before.before.before.before.before.before.before.before.before.before.args.shift c.before.before.before.before.before.before.before.before.before.before.before.before.before.before.before.before.before.before.before.requires.0 c.before.before.before.before.before.before.before.before.before.before.before.before.before.before.before.before.before.before.before.requires.1.0 c.before.before.before.before.before.before.before.before.before.before.before.before.own-start.ensures c.before.before.before.before.before.before.before.before.before.before.copy.auto.1.1.1.0 c.before.before.before.before.before.part.auto.1.1.1.0 c.before.before.before.before.before.before.before.before.before.before.copy.ensures c.before.before.before.before.before.part.ensures))
+close-requires c κs = (taker c.before.before.before.before.before.before.before.before.before.before.before.before.before.before.before.before.before.before.before.requires.0 c.before.before.before.before.before.before.before.before.before.before.before.before.before.before.takes.ensures c.before.before.before.before.before.before.before.before.before.before.before.before.before.if1.true, (c.before.before.before.before.before.before.before.before.before.before.before.before.own-start.ensures, part_closeable c.before.before.before.before.before.before.before.before.before.before.before.before.before.before.before.before.before.before.before.args.origin c.before.before.before.before.before.before.before.before.before.before.before.before.before.before.before.before.before.before.before.args.into c.before.before.before.before.before.before.before.before.before.before.before.before.before.before.before.before.before.before.before.args.n c.before.before.before.before.before.before.before.before.before.before.before.before.before.before.before.before.before.before.before.args.shift c.before.before.before.before.before.before.before.before.before.before.before.before.before.before.before.before.before.before.before.requires.0 c.before.before.before.before.before.before.before.before.before.before.before.before.before.before.before.before.before.before.before.requires.1.0 c.before.before.before.before.before.before.before.before.before.before.before.before.own-start.ensures c.before.before.before.before.before.before.before.before.before.before.copy.auto.1.1.1.0 c.before.before.before.before.before.part.auto.1.1.1.0 c.before.before.before.before.before.before.before.before.before.before.copy.ensures c.before.before.before.before.before.part.ensures))
 
 same_length : tie.Need-same-length
 same_length c = c.before.before.before.before.before.before.before.before.part.auto.1.1.0
@@ -28,7 +28,7 @@ same-length-2 : tie.Need-same-length-2
 same-length-2 c = c.before.before.close.auto.1.1.1.1.0 ∙ (c.before.before.before.before.before.before.before.before.part.auto.1.1.1.0 ∙ c.before.before.before.before.before.before.before.before.before.before.before.before.before.copy.auto.1.1.1.0)
 
 returns : tie.Need-returns
-returns c = push-taken c.before.before.before.before.before.before.before.before.before.before.before.before.before.before.before.before.before.before.before.before.before.before.args.origin c.before.before.before.before.before.before.before.before.before.before.before.before.before.before.before.before.before.before.before.before.before.before.args.into c.before.before.before.before.before.before.before.before.before.before.before.before.before.before.before.before.before.before.before.before.before.before.args.n c.before.before.before.before.before.before.before.before.before.before.before.before.before.before.before.before.before.before.before.before.before.before.args.shift c.before.before.before.before.before.before.before.before.before.before.before.before.before.before.before.before.before.takes.ensures c.before.before.before.before.before.before.before.before.before.before.before.before.before.before.before.before.if1.true c.before.before.before.before.before.before.before.before.before.before.before.before.before.before.before.own-start.ensures c.before.before.before.before.before.before.before.before.before.before.before.before.before.copy.auto.1.1.1.0 c.before.before.before.before.before.before.before.before.part.auto.1.1.1.0 c.before.before.before.before.before.before.before.before.before.before.before.before.before.copy.ensures c.before.before.before.before.before.before.before.before.part.ensures c.before.before.close.ensures
+returns c = push_taken c.before.before.before.before.before.before.before.before.before.before.before.before.before.before.before.before.before.before.before.before.before.before.args.origin c.before.before.before.before.before.before.before.before.before.before.before.before.before.before.before.before.before.before.before.before.before.before.args.into c.before.before.before.before.before.before.before.before.before.before.before.before.before.before.before.before.before.before.before.before.before.before.args.n c.before.before.before.before.before.before.before.before.before.before.before.before.before.before.before.before.before.before.before.before.before.before.args.shift c.before.before.before.before.before.before.before.before.before.before.before.before.before.before.before.before.before.takes.ensures c.before.before.before.before.before.before.before.before.before.before.before.before.before.before.before.before.if1.true c.before.before.before.before.before.before.before.before.before.before.before.before.before.before.before.own-start.ensures c.before.before.before.before.before.before.before.before.before.before.before.before.before.copy.auto.1.1.1.0 c.before.before.before.before.before.before.before.before.part.auto.1.1.1.0 c.before.before.before.before.before.before.before.before.before.before.before.before.before.copy.ensures c.before.before.before.before.before.before.before.before.part.ensures c.before.before.close.ensures
 
 copy-requires-2 : tie.Need-copy-requires-2
 copy-requires-2 c κs = let (a, b) = at_in c.before.before.before.before.before.before.before.requires.0 in (omega arith, b)
@@ -36,8 +36,8 @@ copy-requires-2 c κs = let (a, b) = at_in c.before.before.before.before.before.
 same-length-3 : tie.Need-same-length-3
 same-length-3 c = c.before.before.copy2.auto.1.1.1.0
 
-returns-2 : tie.Need-returns-2
-returns-2 c = push-refused c.before.before.before.before.before.before.before.before.before.before.args.origin c.before.before.before.before.before.before.before.before.before.before.args.into c.before.before.before.before.before.before.before.before.before.before.args.n c.before.before.before.before.before.before.before.before.before.before.args.shift c.before.before.before.before.before.takes.ensures c.before.before.before.before.if1.false c.before.before.copy2.ensures
+returns_2 : tie.Need-returns-2
+returns_2 c = push_refused c.before.before.before.before.before.before.before.before.before.before.args.origin c.before.before.before.before.before.before.before.before.before.before.args.into c.before.before.before.before.before.before.before.before.before.before.args.n c.before.before.before.before.before.before.before.before.before.before.args.shift c.before.before.before.before.before.takes.ensures c.before.before.before.before.if1.false c.before.before.copy2.ensures
 
 pub push-part-spec : {M : Type 1} → statement M
 push-part-spec =
@@ -53,4 +53,4 @@ push-part-spec =
     returns
     copy-requires-2
     same-length-3
-    returns-2)
+    returns_2)

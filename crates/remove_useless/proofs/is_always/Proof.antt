@@ -1,16 +1,16 @@
-use Rattle.labels.proofs.Routes.{expression-in}
-use Rattle.remove_useless.proofs.Predicates.{boolean-always, other-always}
+use Rattle.labels.proofs.Routes.{expression_in}
+use Rattle.remove_useless.proofs.Predicates.{boolean_always, other_always}
 use Rattle.remove_useless.proofs.is_always.Statement.{statement}
 use Rattle.remove_useless.proofs.is_always.Tie as tie
 
 cell-at-requires : tie.Need-cell-at-requires
-cell-at-requires c κs = expression-in c.before.requires
+cell-at-requires c κs = expression_in c.before.requires
 
 returns : tie.Need-returns
-returns c = boolean-always c.before.before.before.cell_at.ensures c.before.if1.true
+returns c = boolean_always c.before.before.before.cell_at.ensures c.before.if1.true
 
-returns-2 : tie.Need-returns-2
-returns-2 c = other-always c.before.before.cell_at.ensures c.if1.false
+returns_2 : tie.Need-returns-2
+returns_2 c = other_always c.before.before.cell_at.ensures c.if1.false
 
 pub is-always-spec : {M : Type 1} → statement M
-is-always-spec = tie.close (tie.spec cell-at-requires returns returns-2)
+is-always-spec = tie.close (tie.spec cell-at-requires returns returns_2)

@@ -1,5 +1,5 @@
 use Rattle.nodes.proofs.Own.{at_in}
-use Rattle.remove_useless.proofs.Nodes.{scan-predicate, scan-flag, scan-written, scan-same}
+use Rattle.remove_useless.proofs.Nodes.{scan_predicate, scan_flag, scan_written, scan_same}
 use native.Mathlib.Omega.{arith}
 use mathlib.Core.Path.{sym, ◌∙◌}
 use borrow.Author.Rules.{rules}
@@ -10,13 +10,13 @@ sub-optional-is-always : tie.Need-overflow-sub-optional-is-always
 sub-optional-is-always c = let (h, k) = at_in c.before.before.requires.0 in omega arith
 
 optional-is-always-requires : tie.Need-optional-is-always-requires
-optional-is-always-requires c κs = scan-predicate c.before.before.requires.1 c.before.before.requires.0
+optional-is-always-requires c κs = scan_predicate c.before.before.requires.1 c.before.before.requires.0
 
 cell-at-requires : tie.Need-cell-at-requires
 cell-at-requires c κs = let (h, k) = at_in c.before.before.before.before.before.requires.0 in (omega arith, k)
 
 sub-t12 : tie.Need-overflow-sub-t12
-sub-t12 c = scan-flag c.before.before.before.before.before.before.before.requires.1 c.before.cell_at.ensures (λ e p. sym c.before.before.before.if1.true ∙ c.before.before.before.before.optional-is-always.ensures e p) c.before.before.before.before.before.before.before.requires.0
+sub-t12 c = scan_flag c.before.before.before.before.before.before.before.requires.1 c.before.cell_at.ensures (λ e p. sym c.before.before.before.if1.true ∙ c.before.before.before.before.optional-is-always.ensures e p) c.before.before.before.before.before.before.before.requires.0
 
 put-requires : tie.Need-put-requires
 put-requires c κs = search rules
@@ -25,13 +25,13 @@ same_length : tie.Need-same-length
 same_length c = search rules
 
 returns : tie.Need-returns
-returns c = scan-written c.before.before.before.before.before.before.before.before.before.before.before.requires.1 c.before.before.before.before.before.cell_at.ensures (λ e p. sym c.before.before.before.before.before.before.before.if1.true ∙ c.before.before.before.before.before.before.before.before.optional-is-always.ensures e p) c.before.before.put.ensures.0
+returns c = scan_written c.before.before.before.before.before.before.before.before.before.before.before.requires.1 c.before.before.before.before.before.cell_at.ensures (λ e p. sym c.before.before.before.before.before.before.before.if1.true ∙ c.before.before.before.before.before.before.before.before.optional-is-always.ensures e p) c.before.before.put.ensures.0
 
 same-length-2 : tie.Need-same-length-2
 same-length-2 c = search rules
 
-returns-2 : tie.Need-returns-2
-returns-2 c = scan-same c.before.before.before.before.requires.1 (λ e p. sym c.if1.false ∙ c.before.optional-is-always.ensures e p)
+returns_2 : tie.Need-returns-2
+returns_2 c = scan_same c.before.before.before.before.requires.1 (λ e p. sym c.if1.false ∙ c.before.optional-is-always.ensures e p)
 
 pub scan-without-true-spec : {M : Type 1} → statement M
 scan-without-true-spec =
@@ -45,4 +45,4 @@ scan-without-true-spec =
     same_length
     returns
     same-length-2
-    returns-2)
+    returns_2)

@@ -1,5 +1,5 @@
-use Rattle.sheet.specs.Parts.{columns-at}
-use Rattle.layout.proofs.Laws.{columns-start, cells-start}
+use Rattle.sheet.specs.Parts.{columns_at}
+use Rattle.layout.proofs.Laws.{columns_start, cells_start}
 use Prim.Native.Nat.{ℕ, ◌+◌, ◌-◌, ◌*◌, ◌≤◌, ◌<◌}
 use mathlib.Core.Path.{◌≡◌, refl, sym, ap, ◌∙◌, subst}
 use mathlib.Core.List.{List, [], ◌∷◌, ◌++◌}
@@ -26,8 +26,8 @@ part-result-end c = search rules
 returns : tie.Need-returns
 returns c =
     let s = c.before.before.before.args.s.now in
-    ap (λ (n : ℕ). take (c.before.parts-of.result.cells.at - n) (drop n s)) (columns-start c.before.parts-of.ensures)
-    ∙ ap (λ (n : ℕ). take (n - columns-at s) (drop (columns-at s) s)) (cells-start c.before.parts-of.ensures)
+    ap (λ (n : ℕ). take (c.before.parts-of.result.cells.at - n) (drop n s)) (columns_start c.before.parts-of.ensures)
+    ∙ ap (λ (n : ℕ). take (n - columns_at s) (drop (columns_at s) s)) (cells_start c.before.parts-of.ensures)
 
 pub column-records-spec : {M : Type 1} → statement M
 column-records-spec =

@@ -11,11 +11,11 @@ use Rattle.schema.proofs.primary_key.Reads as reads
 use Rattle.schema.proofs.primary_key.Lts as lts
 use Rattle.layout.proofs.table_at.Reads as table-at-reads
 
-table-at-requires : tie.Need-table-at-requires
-table-at-requires c κs = search rules
+table_at_requires : tie.Need-table-at-requires
+table_at_requires c κs = search rules
 
 returns : tie.Need-returns
 returns c = ap (λ (k : Table). k.key) c.table_at.ensures.is
 
 pub primary-key-spec : {M : Type 1} → statement M
-primary-key-spec = tie.close (tie.spec table-at-requires returns)
+primary-key-spec = tie.close (tie.spec table_at_requires returns)

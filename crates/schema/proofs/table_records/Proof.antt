@@ -1,5 +1,5 @@
-use Rattle.sheet.specs.Parts.{tables-at}
-use Rattle.layout.proofs.Laws.{text-is, columns-start}
+use Rattle.sheet.specs.Parts.{tables_at}
+use Rattle.layout.proofs.Laws.{text_is, columns_start}
 use Prim.Native.Nat.{ℕ, ◌-◌}
 use mathlib.Core.Path.{ap, ◌∙◌}
 use lib.ListN.{take, drop}
@@ -25,8 +25,8 @@ part-result-end c = search rules
 returns : tie.Need-returns
 returns c =
     let s = c.before.before.before.args.s.now in
-    ap (λ (n : ℕ). take (c.before.parts-of.result.columns.at - n) (drop n s)) (text-is c.before.parts-of.ensures)
-    ∙ ap (λ (n : ℕ). take (n - tables-at s) (drop (tables-at s) s)) (columns-start c.before.parts-of.ensures)
+    ap (λ (n : ℕ). take (c.before.parts-of.result.columns.at - n) (drop n s)) (text_is c.before.parts-of.ensures)
+    ∙ ap (λ (n : ℕ). take (n - tables_at s) (drop (tables_at s) s)) (columns_start c.before.parts-of.ensures)
 
 pub table-records-spec : {M : Type 1} → statement M
 table-records-spec =

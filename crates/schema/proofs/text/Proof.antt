@@ -1,5 +1,5 @@
 use lib.Seq.{length-take-le}
-use Rattle.layout.proofs.Laws.{text-is}
+use Rattle.layout.proofs.Laws.{text_is}
 use Prim.Native.Nat.{ℕ, ◌+◌, ◌-◌, ◌*◌, ◌≤◌, ◌<◌}
 use native.Mathlib.Omega.{arith}
 use mathlib.Core.Path.{◌≡◌, refl, sym, ap, ◌∙◌, subst}
@@ -16,10 +16,10 @@ parts-of-requires : tie.Need-parts-of-requires
 parts-of-requires c κs = search rules
 
 slice-aggregate-result : tie.Need-slice-aggregate-result
-slice-aggregate-result c = sym (length-take-le c.before.parts-of.result.tables.at c.before.before.before.args.s.now (let l = c.before.parts-of.ensures in omega (arith, l.tables_end, l.columns-end, l.cells-end)))
+slice-aggregate-result c = sym (length-take-le c.before.parts-of.result.tables.at c.before.before.before.args.s.now (let l = c.before.parts-of.ensures in omega (arith, l.tables_end, l.columns_end, l.cells_end)))
 
 returns : tie.Need-returns
-returns c = ap (λ (n : ℕ). take n c.before.before.before.args.s.now) (text-is c.before.parts-of.ensures)
+returns c = ap (λ (n : ℕ). take n c.before.before.before.args.s.now) (text_is c.before.parts-of.ensures)
 
 pub text-spec : {M : Type 1} → statement M
 text-spec = tie.close (tie.spec parts-of-requires slice-aggregate-result returns)

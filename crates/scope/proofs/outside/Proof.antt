@@ -32,8 +32,8 @@ slice-aggregate-outside-in-2 c = sym (length-replicate {A = ℕ} 256 0)
 outside-in-requires-2 : tie.Need-outside-in-requires-2
 outside-in-requires-2 c κs = (c.before.before.before.before.before.before.before.requires.0, omega (arith, cells_are c.before.before.before.before.before.parts-of.ensures, c.before.if2.true, length-replicate {A = ℕ} 256 0))
 
-returns-2 : tie.Need-returns-2
-returns-2 c = c.before.outside-in2.ensures
+returns_2 : tie.Need-returns-2
+returns_2 c = c.before.outside-in2.ensures
 
 slice-aggregate-outside-in-3 : tie.Need-slice-aggregate-outside-in-3
 slice-aggregate-outside-in-3 c = sym (length-replicate {A = ℕ} 2048 0)
@@ -41,8 +41,8 @@ slice-aggregate-outside-in-3 c = sym (length-replicate {A = ℕ} 2048 0)
 outside-in-requires-3 : tie.Need-outside-in-requires-3
 outside-in-requires-3 c κs = (c.before.before.before.before.before.before.before.requires.0, omega (arith, cells_are c.before.before.before.before.before.parts-of.ensures, c.before.before.before.before.before.parts-of.ensures.cells-few, length-replicate {A = ℕ} 2048 0))
 
-returns-3 : tie.Need-returns-3
-returns-3 c = c.before.outside-in3.ensures
+returns_3 : tie.Need-returns-3
+returns_3 c = c.before.outside-in3.ensures
 
 pub outside-spec : {M : Type 1} → statement M
 outside-spec =
@@ -54,7 +54,7 @@ outside-spec =
     returns
     slice-aggregate-outside-in-2
     outside-in-requires-2
-    returns-2
+    returns_2
     slice-aggregate-outside-in-3
     outside-in-requires-3
-    returns-3)
+    returns_3)

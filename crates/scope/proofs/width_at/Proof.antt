@@ -1,5 +1,5 @@
 -- `scope::width_at` meets its contract: below the top, or past it.
-use Rattle.scope.proofs.Stack.{width-below, width-past}
+use Rattle.scope.proofs.Stack.{width_below, width_past}
 use Prim.Native.Nat.{ℕ, ◌+◌, ◌-◌, ◌*◌, ◌≤◌, ◌<◌}
 use native.Mathlib.Omega.{arith}
 use mathlib.Core.Path.{◌≡◌, refl, sym, ap, ◌∙◌, subst}
@@ -18,10 +18,10 @@ shared-slice-read-result : tie.Need-shared-slice-read-result
 shared-slice-read-result c = search rules
 
 returns : tie.Need-returns
-returns c = width-below c.before.before.args.widths.now _ _ c.before.if1.true
+returns c = width_below c.before.before.args.widths.now _ _ c.before.if1.true
 
-returns-2 : tie.Need-returns-2
-returns-2 c = width-past c.before.args.widths.now _ _ c.if1.false
+returns_2 : tie.Need-returns-2
+returns_2 c = width_past c.before.args.widths.now _ _ c.if1.false
 
 pub width-at-spec : {M : Type 1} → statement M
-width-at-spec = tie.close (tie.spec mul-result shared-slice-read-result returns returns-2)
+width-at-spec = tie.close (tie.spec mul-result shared-slice-read-result returns returns_2)

@@ -1,5 +1,5 @@
-use Rattle.nodes.proofs.Widths.{columns-node}
-use Rattle.short_circuit.proofs.Node.{removed-in, removed-at, circuit-stays, circuit-empties}
+use Rattle.nodes.proofs.Widths.{columns_node}
+use Rattle.short_circuit.proofs.Node.{removed_in, removed_at, circuit_stays, circuit_empties}
 use native.Mathlib.Omega.{arith}
 use mathlib.Core.Path.{sym, ◌∙◌}
 use borrow.Author.Rules.{rules}
@@ -10,10 +10,10 @@ remove-useless-requires : tie.Need-remove-useless-requires
 remove-useless-requires c κs = c.before.before.before.before.before.requires.0
 
 is-empty-requires : tie.Need-is-empty-requires
-is-empty-requires c κs = columns-node (removed-at c.before.before.before.remove-useless.auto.0 c.before.before.before.remove-useless.ensures c.before.before.before.before.before.before.before.before.before.requires.1.1.1.1 c.before.before.before.before.before.before.before.before.before.requires.0)
+is-empty-requires c κs = columns_node (removed_at c.before.before.before.remove-useless.auto.0 c.before.before.before.remove-useless.ensures c.before.before.before.before.before.before.before.before.before.requires.1.1.1.1 c.before.before.before.before.before.before.before.before.before.requires.0)
 
 into-nothing-requires : tie.Need-into-nothing-requires
-into-nothing-requires c κs = (removed-at c.before.before.before.before.before.before.before.remove-useless.auto.0 c.before.before.before.before.before.before.before.remove-useless.ensures c.before.before.before.before.before.before.before.before.before.before.before.before.before.requires.1.1.1.1 c.before.before.before.before.before.before.before.before.before.before.before.before.before.requires.0, (c.before.before.before.before.before.before.before.before.before.before.before.before.before.requires.1.0, (c.before.before.before.before.before.before.before.before.before.before.before.before.before.requires.1.1.0 ∙ sym c.before.before.before.before.before.before.before.remove-useless.auto.0, (omega (arith, removed-in c.before.before.before.before.before.before.before.remove-useless.auto.0 c.before.before.before.before.before.before.before.remove-useless.ensures c.before.before.before.before.before.before.before.before.before.before.before.before.before.requires.1.1.1.1 c.before.before.before.before.before.before.before.before.before.before.before.before.before.requires.0, c.before.before.before.before.before.before.before.remove-useless.auto.0, c.before.before.before.before.before.before.before.before.before.before.before.before.before.requires.1.1.1.0), omega (arith, c.before.before.before.before.before.before.before.remove-useless.auto.0, c.before.before.before.before.before.before.before.before.before.before.before.before.before.requires.1.1.1.1)))))
+into-nothing-requires c κs = (removed_at c.before.before.before.before.before.before.before.remove-useless.auto.0 c.before.before.before.before.before.before.before.remove-useless.ensures c.before.before.before.before.before.before.before.before.before.before.before.before.before.requires.1.1.1.1 c.before.before.before.before.before.before.before.before.before.before.before.before.before.requires.0, (c.before.before.before.before.before.before.before.before.before.before.before.before.before.requires.1.0, (c.before.before.before.before.before.before.before.before.before.before.before.before.before.requires.1.1.0 ∙ sym c.before.before.before.before.before.before.before.remove-useless.auto.0, (omega (arith, removed_in c.before.before.before.before.before.before.before.remove-useless.auto.0 c.before.before.before.before.before.before.before.remove-useless.ensures c.before.before.before.before.before.before.before.before.before.before.before.before.before.requires.1.1.1.1 c.before.before.before.before.before.before.before.before.before.before.before.before.before.requires.0, c.before.before.before.before.before.before.before.remove-useless.auto.0, c.before.before.before.before.before.before.before.before.before.before.before.before.before.requires.1.1.1.0), omega (arith, c.before.before.before.before.before.before.before.remove-useless.auto.0, c.before.before.before.before.before.before.before.before.before.before.before.before.before.requires.1.1.1.1)))))
 
 same_length : tie.Need-same-length
 same_length c = search rules
@@ -22,13 +22,13 @@ same-length-2 : tie.Need-same-length-2
 same-length-2 c = search rules
 
 returns : tie.Need-returns
-returns c = circuit-empties c.before.before.before.before.before.before.before.before.before.before.before.before.remove-useless.auto.0 c.before.before.before.before.before.before.before.before.before.before.before.before.remove-useless.ensures c.before.before.before.before.before.before.before.before.before.before.before.before.before.before.before.before.before.before.requires.1.1.1.1 c.before.before.before.before.before.before.before.before.before.before.before.before.before.before.before.before.before.before.requires.1.1.1.0 c.before.before.before.before.before.before.before.before.is-empty.ensures c.before.before.before.before.before.before.before.if1.true c.before.before.before.before.into-nothing.ensures
+returns c = circuit_empties c.before.before.before.before.before.before.before.before.before.before.before.before.remove-useless.auto.0 c.before.before.before.before.before.before.before.before.before.before.before.before.remove-useless.ensures c.before.before.before.before.before.before.before.before.before.before.before.before.before.before.before.before.before.before.requires.1.1.1.1 c.before.before.before.before.before.before.before.before.before.before.before.before.before.before.before.before.before.before.requires.1.1.1.0 c.before.before.before.before.before.before.before.before.is-empty.ensures c.before.before.before.before.before.before.before.if1.true c.before.before.before.before.into-nothing.ensures
 
 same-length-3 : tie.Need-same-length-3
 same-length-3 c = search rules
 
-returns-2 : tie.Need-returns-2
-returns-2 c = circuit-stays c.before.before.before.before.before.remove-useless.auto.0 c.before.before.before.before.before.remove-useless.ensures c.before.before.before.before.before.before.before.before.before.before.before.requires.1.1.1.1 c.before.before.before.before.before.before.before.before.before.before.before.requires.1.1.1.0 c.before.is-empty.ensures c.if1.false
+returns_2 : tie.Need-returns-2
+returns_2 c = circuit_stays c.before.before.before.before.before.remove-useless.auto.0 c.before.before.before.before.before.remove-useless.ensures c.before.before.before.before.before.before.before.before.before.before.before.requires.1.1.1.1 c.before.before.before.before.before.before.before.before.before.before.before.requires.1.1.1.0 c.before.is-empty.ensures c.if1.false
 
 pub short-circuit-node-spec : {M : Type 1} → statement M
 short-circuit-node-spec =
@@ -41,4 +41,4 @@ short-circuit-node-spec =
     same-length-2
     returns
     same-length-3
-    returns-2)
+    returns_2)

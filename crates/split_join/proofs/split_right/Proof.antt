@@ -1,11 +1,11 @@
-use Rattle.split_join.proofs.Placing.{right-at, from_end, from-right, right-none, right-full, right-room, right-done}
+use Rattle.split_join.proofs.Placing.{right_at, from_end, from_right, right_none, right_full, right_room, right_done}
 use native.Mathlib.Omega.{arith}
 use mathlib.Core.Path.{sym, ◌∙◌}
 use Rattle.split_join.proofs.split_right.Statement.{statement}
 use Rattle.split_join.proofs.split_right.Tie as tie
 
 own-part-requires : tie.Need-own-part-requires
-own-part-requires c κs = (right-at c.before.before.before.before.before.before.before.requires.0, c.before.before.before.before.before.before.before.requires.1.1)
+own-part-requires c κs = (right_at c.before.before.before.before.before.before.before.requires.0, c.before.before.before.before.before.before.before.requires.1.1)
 
 replace-end-requires : tie.Need-replace-end-requires
 replace-end-requires c κs = (c.before.before.before.before.before.before.before.before.before.before.before.before.before.before.before.before.requires.0, (from_end c.before.before.before.before.before.before.before.before.before.before.before.before.before.before.before.before.requires.0, (c.before.before.before.before.before.before.before.before.own-part.auto.1.1.1.1.1.1.0 ∙ c.before.before.before.before.before.before.before.before.before.before.before.before.before.before.before.before.requires.1.0, (c.before.before.before.before.before.before.before.before.before.before.before.before.before.before.before.before.requires.1.1.0, c.before.before.before.before.before.before.before.before.own-part.auto.1.1.1.1.1.0 ∙ c.before.before.before.before.before.before.before.before.before.before.before.before.before.before.before.before.requires.1.1.1))))
@@ -20,13 +20,13 @@ same-length-3 : tie.Need-same-length-3
 same-length-3 c = c.before.before.before.before.before.before.replace-end.auto.1.1.1.1.0 ∙ c.before.before.before.before.before.before.before.before.before.before.before.before.before.before.before.own-part.auto.1.1.1.1.1.0
 
 returns : tie.Need-returns
-returns c = right-none c.before.before.before.before.before.before.before.before.before.before.before.before.before.before.before.before.before.before.before.before.before.before.before.args.origin c.before.before.before.before.before.before.before.before.before.before.before.before.before.before.before.before.before.before.before.before.before.before.before.args.n c.before.before.before.before.before.before.before.before.before.before.before.before.before.before.before.own-part.ensures c.before.before.before.before.before.before.before.before.before.before.if1.true c.before.before.before.before.before.before.replace-end.ensures
+returns c = right_none c.before.before.before.before.before.before.before.before.before.before.before.before.before.before.before.before.before.before.before.before.before.before.before.args.origin c.before.before.before.before.before.before.before.before.before.before.before.before.before.before.before.before.before.before.before.before.before.before.before.args.n c.before.before.before.before.before.before.before.before.before.before.before.before.before.before.before.own-part.ensures c.before.before.before.before.before.before.before.before.before.before.if1.true c.before.before.before.before.before.before.replace-end.ensures
 
 own-start-requires : tie.Need-own-start-requires
-own-start-requires c κs = right-at c.before.before.before.before.before.before.before.before.before.before.before.before.before.before.requires.0
+own-start-requires c κs = right_at c.before.before.before.before.before.before.before.before.before.before.before.before.before.before.requires.0
 
 replace-end-requires-2 : tie.Need-replace-end-requires-2
-replace-end-requires-2 c κs = (c.before.before.before.before.before.before.before.before.before.before.before.before.before.before.before.before.before.before.requires.0, (from-right c.before.before.before.before.before.before.before.before.before.before.before.before.before.before.before.before.before.before.requires.0 c.before.before.before.own-start.ensures, (c.before.before.before.before.before.before.before.before.before.before.own-part.auto.1.1.1.1.1.1.0 ∙ c.before.before.before.before.before.before.before.before.before.before.before.before.before.before.before.before.before.before.requires.1.0, (c.before.before.before.before.before.before.before.before.before.before.before.before.before.before.before.before.before.before.requires.1.1.0, c.before.before.before.before.before.before.before.before.before.before.own-part.auto.1.1.1.1.1.0 ∙ c.before.before.before.before.before.before.before.before.before.before.before.before.before.before.before.before.before.before.requires.1.1.1))))
+replace-end-requires-2 c κs = (c.before.before.before.before.before.before.before.before.before.before.before.before.before.before.before.before.before.before.requires.0, (from_right c.before.before.before.before.before.before.before.before.before.before.before.before.before.before.before.before.before.before.requires.0 c.before.before.before.own-start.ensures, (c.before.before.before.before.before.before.before.before.before.before.own-part.auto.1.1.1.1.1.1.0 ∙ c.before.before.before.before.before.before.before.before.before.before.before.before.before.before.before.before.before.before.requires.1.0, (c.before.before.before.before.before.before.before.before.before.before.before.before.before.before.before.before.before.before.requires.1.1.0, c.before.before.before.before.before.before.before.before.before.before.own-part.auto.1.1.1.1.1.0 ∙ c.before.before.before.before.before.before.before.before.before.before.before.before.before.before.before.before.before.before.requires.1.1.1))))
 
 same-length-4 : tie.Need-same-length-4
 same-length-4 c = c.before.before.before.before.before.before.before.replace-end2.auto.0
@@ -37,17 +37,17 @@ same-length-5 c = c.before.before.before.before.before.before.before.replace-end
 same-length-6 : tie.Need-same-length-6
 same-length-6 c = c.before.before.before.before.before.before.before.replace-end2.auto.1.1.1.1.0 ∙ c.before.before.before.before.before.before.before.before.before.before.before.before.before.before.before.before.before.before.own-part.auto.1.1.1.1.1.0
 
-returns-2 : tie.Need-returns-2
-returns-2 c = right-full c.before.before.before.before.before.before.before.before.before.before.before.before.before.before.before.before.before.before.before.before.before.before.before.before.before.before.args.origin c.before.before.before.before.before.before.before.before.before.before.before.before.before.before.before.before.before.before.before.before.before.before.before.before.before.before.args.n c.before.before.before.before.before.before.before.before.before.before.before.before.before.before.before.before.before.before.own-part.ensures c.before.before.before.before.before.before.before.before.before.before.before.before.before.if1.false c.before.before.before.before.before.before.before.before.before.before.before.own-start.ensures c.before.before.before.before.before.before.before.before.before.before.before.before.before.before.before.before.before.before.own-part.auto.1.1.1.1.1.1.0 c.before.before.before.before.before.before.before.replace-end2.ensures c.if2.true
+returns_2 : tie.Need-returns-2
+returns_2 c = right_full c.before.before.before.before.before.before.before.before.before.before.before.before.before.before.before.before.before.before.before.before.before.before.before.before.before.before.args.origin c.before.before.before.before.before.before.before.before.before.before.before.before.before.before.before.before.before.before.before.before.before.before.before.before.before.before.args.n c.before.before.before.before.before.before.before.before.before.before.before.before.before.before.before.before.before.before.own-part.ensures c.before.before.before.before.before.before.before.before.before.before.before.before.before.if1.false c.before.before.before.before.before.before.before.before.before.before.before.own-start.ensures c.before.before.before.before.before.before.before.before.before.before.before.before.before.before.before.before.before.before.own-part.auto.1.1.1.1.1.1.0 c.before.before.before.before.before.before.before.replace-end2.ensures c.if2.true
 
 sub-reseal : tie.Need-overflow-sub-reseal
-sub-reseal c = (right-room c.before.before.before.before.before.before.before.before.before.before.before.before.before.before.before.before.before.before.before.before.before.before.before.before.before.before.before.args.origin c.before.before.before.before.before.before.before.before.before.before.before.before.before.before.before.before.before.before.before.before.before.before.before.before.before.before.before.args.n c.before.before.before.before.before.before.before.before.before.before.before.before.before.before.before.before.before.before.before.own-part.ensures c.before.before.before.before.before.before.before.before.before.before.before.before.before.before.if1.false c.before.before.before.before.before.before.before.before.before.before.before.before.own-start.ensures c.before.before.before.before.before.before.before.before.before.before.before.before.before.before.before.before.before.before.before.own-part.auto.1.1.1.1.1.1.0 c.before.before.before.before.before.before.before.before.replace-end2.ensures (c.before.before.before.before.before.before.before.before.before.before.before.before.before.before.before.before.before.before.before.before.before.before.before.before.before.before.before.requires.1.0 ∙ sym c.before.before.before.before.before.before.before.before.replace-end2.auto.0) c.before.if2.false (omega (arith, c.before.before.before.before.before.before.before.before.replace-end2.auto.0, c.before.before.before.before.before.before.before.before.before.before.before.before.before.before.before.before.before.before.before.before.before.before.before.before.before.before.before.requires.0.short)) c.before.before.before.before.before.before.before.before.before.before.before.before.before.before.before.before.before.before.before.before.before.before.before.before.before.before.before.requires.0 c.before.before.before.before.before.before.before.before.before.before.before.before.before.before.before.before.before.before.before.before.before.before.before.before.before.before.before.requires.1.1.0).0
+sub-reseal c = (right_room c.before.before.before.before.before.before.before.before.before.before.before.before.before.before.before.before.before.before.before.before.before.before.before.before.before.before.before.args.origin c.before.before.before.before.before.before.before.before.before.before.before.before.before.before.before.before.before.before.before.before.before.before.before.before.before.before.before.args.n c.before.before.before.before.before.before.before.before.before.before.before.before.before.before.before.before.before.before.before.own-part.ensures c.before.before.before.before.before.before.before.before.before.before.before.before.before.before.if1.false c.before.before.before.before.before.before.before.before.before.before.before.before.own-start.ensures c.before.before.before.before.before.before.before.before.before.before.before.before.before.before.before.before.before.before.before.own-part.auto.1.1.1.1.1.1.0 c.before.before.before.before.before.before.before.before.replace-end2.ensures (c.before.before.before.before.before.before.before.before.before.before.before.before.before.before.before.before.before.before.before.before.before.before.before.before.before.before.before.requires.1.0 ∙ sym c.before.before.before.before.before.before.before.before.replace-end2.auto.0) c.before.if2.false (omega (arith, c.before.before.before.before.before.before.before.before.replace-end2.auto.0, c.before.before.before.before.before.before.before.before.before.before.before.before.before.before.before.before.before.before.before.before.before.before.before.before.before.before.before.requires.0.short)) c.before.before.before.before.before.before.before.before.before.before.before.before.before.before.before.before.before.before.before.before.before.before.before.before.before.before.before.requires.0 c.before.before.before.before.before.before.before.before.before.before.before.before.before.before.before.before.before.before.before.before.before.before.before.before.before.before.before.requires.1.1.0).0
 
 sub-reseal-2 : tie.Need-overflow-sub-reseal-2
-sub-reseal-2 c = (right-room c.before.before.before.before.before.before.before.before.before.before.before.before.before.before.before.before.before.before.before.before.before.before.before.before.before.before.before.args.origin c.before.before.before.before.before.before.before.before.before.before.before.before.before.before.before.before.before.before.before.before.before.before.before.before.before.before.before.args.n c.before.before.before.before.before.before.before.before.before.before.before.before.before.before.before.before.before.before.before.own-part.ensures c.before.before.before.before.before.before.before.before.before.before.before.before.before.before.if1.false c.before.before.before.before.before.before.before.before.before.before.before.before.own-start.ensures c.before.before.before.before.before.before.before.before.before.before.before.before.before.before.before.before.before.before.before.own-part.auto.1.1.1.1.1.1.0 c.before.before.before.before.before.before.before.before.replace-end2.ensures (c.before.before.before.before.before.before.before.before.before.before.before.before.before.before.before.before.before.before.before.before.before.before.before.before.before.before.before.requires.1.0 ∙ sym c.before.before.before.before.before.before.before.before.replace-end2.auto.0) c.before.if2.false (omega (arith, c.before.before.before.before.before.before.before.before.replace-end2.auto.0, c.before.before.before.before.before.before.before.before.before.before.before.before.before.before.before.before.before.before.before.before.before.before.before.before.before.before.before.requires.0.short)) c.before.before.before.before.before.before.before.before.before.before.before.before.before.before.before.before.before.before.before.before.before.before.before.before.before.before.before.requires.0 c.before.before.before.before.before.before.before.before.before.before.before.before.before.before.before.before.before.before.before.before.before.before.before.before.before.before.before.requires.1.1.0).1.0
+sub-reseal-2 c = (right_room c.before.before.before.before.before.before.before.before.before.before.before.before.before.before.before.before.before.before.before.before.before.before.before.before.before.before.before.args.origin c.before.before.before.before.before.before.before.before.before.before.before.before.before.before.before.before.before.before.before.before.before.before.before.before.before.before.before.args.n c.before.before.before.before.before.before.before.before.before.before.before.before.before.before.before.before.before.before.before.own-part.ensures c.before.before.before.before.before.before.before.before.before.before.before.before.before.before.if1.false c.before.before.before.before.before.before.before.before.before.before.before.before.own-start.ensures c.before.before.before.before.before.before.before.before.before.before.before.before.before.before.before.before.before.before.before.own-part.auto.1.1.1.1.1.1.0 c.before.before.before.before.before.before.before.before.replace-end2.ensures (c.before.before.before.before.before.before.before.before.before.before.before.before.before.before.before.before.before.before.before.before.before.before.before.before.before.before.before.requires.1.0 ∙ sym c.before.before.before.before.before.before.before.before.replace-end2.auto.0) c.before.if2.false (omega (arith, c.before.before.before.before.before.before.before.before.replace-end2.auto.0, c.before.before.before.before.before.before.before.before.before.before.before.before.before.before.before.before.before.before.before.before.before.before.before.before.before.before.before.requires.0.short)) c.before.before.before.before.before.before.before.before.before.before.before.before.before.before.before.before.before.before.before.before.before.before.before.before.before.before.before.requires.0 c.before.before.before.before.before.before.before.before.before.before.before.before.before.before.before.before.before.before.before.before.before.before.before.before.before.before.before.requires.1.1.0).1.0
 
 reseal-requires : tie.Need-reseal-requires
-reseal-requires c κs = (right-room c.before.before.before.before.before.before.before.before.before.before.before.before.before.before.before.before.before.before.before.before.before.before.before.before.before.before.before.args.origin c.before.before.before.before.before.before.before.before.before.before.before.before.before.before.before.before.before.before.before.before.before.before.before.before.before.before.before.args.n c.before.before.before.before.before.before.before.before.before.before.before.before.before.before.before.before.before.before.before.own-part.ensures c.before.before.before.before.before.before.before.before.before.before.before.before.before.before.if1.false c.before.before.before.before.before.before.before.before.before.before.before.before.own-start.ensures c.before.before.before.before.before.before.before.before.before.before.before.before.before.before.before.before.before.before.before.own-part.auto.1.1.1.1.1.1.0 c.before.before.before.before.before.before.before.before.replace-end2.ensures (c.before.before.before.before.before.before.before.before.before.before.before.before.before.before.before.before.before.before.before.before.before.before.before.before.before.before.before.requires.1.0 ∙ sym c.before.before.before.before.before.before.before.before.replace-end2.auto.0) c.before.if2.false (omega (arith, c.before.before.before.before.before.before.before.before.replace-end2.auto.0, c.before.before.before.before.before.before.before.before.before.before.before.before.before.before.before.before.before.before.before.before.before.before.before.before.before.before.before.requires.0.short)) c.before.before.before.before.before.before.before.before.before.before.before.before.before.before.before.before.before.before.before.before.before.before.before.before.before.before.before.requires.0 c.before.before.before.before.before.before.before.before.before.before.before.before.before.before.before.before.before.before.before.before.before.before.before.before.before.before.before.requires.1.1.0).1.1
+reseal-requires c κs = (right_room c.before.before.before.before.before.before.before.before.before.before.before.before.before.before.before.before.before.before.before.before.before.before.before.before.before.before.before.args.origin c.before.before.before.before.before.before.before.before.before.before.before.before.before.before.before.before.before.before.before.before.before.before.before.before.before.before.before.args.n c.before.before.before.before.before.before.before.before.before.before.before.before.before.before.before.before.before.before.before.own-part.ensures c.before.before.before.before.before.before.before.before.before.before.before.before.before.before.if1.false c.before.before.before.before.before.before.before.before.before.before.before.before.own-start.ensures c.before.before.before.before.before.before.before.before.before.before.before.before.before.before.before.before.before.before.before.own-part.auto.1.1.1.1.1.1.0 c.before.before.before.before.before.before.before.before.replace-end2.ensures (c.before.before.before.before.before.before.before.before.before.before.before.before.before.before.before.before.before.before.before.before.before.before.before.before.before.before.before.requires.1.0 ∙ sym c.before.before.before.before.before.before.before.before.replace-end2.auto.0) c.before.if2.false (omega (arith, c.before.before.before.before.before.before.before.before.replace-end2.auto.0, c.before.before.before.before.before.before.before.before.before.before.before.before.before.before.before.before.before.before.before.before.before.before.before.before.before.before.before.requires.0.short)) c.before.before.before.before.before.before.before.before.before.before.before.before.before.before.before.before.before.before.before.before.before.before.before.before.before.before.before.requires.0 c.before.before.before.before.before.before.before.before.before.before.before.before.before.before.before.before.before.before.before.before.before.before.before.before.before.before.before.requires.1.1.0).1.1
 
 same-length-7 : tie.Need-same-length-7
 same-length-7 c = c.before.before.reseal.auto.0 ∙ c.before.before.before.before.before.before.before.before.before.before.before.replace-end2.auto.0
@@ -58,8 +58,8 @@ same-length-8 c = c.before.before.before.before.before.before.before.before.befo
 same-length-9 : tie.Need-same-length-9
 same-length-9 c = c.before.before.before.before.before.before.before.before.before.before.before.replace-end2.auto.1.1.1.1.0 ∙ c.before.before.before.before.before.before.before.before.before.before.before.before.before.before.before.before.before.before.before.before.before.before.own-part.auto.1.1.1.1.1.0
 
-returns-3 : tie.Need-returns-3
-returns-3 c = right-done c.before.before.before.before.before.before.before.before.before.before.before.before.before.before.before.before.before.before.before.before.before.before.before.before.before.before.before.before.before.before.args.origin c.before.before.before.before.before.before.before.before.before.before.before.before.before.before.before.before.before.before.before.before.before.before.before.before.before.before.before.before.before.before.args.n c.before.before.before.before.before.before.before.before.before.before.before.before.before.before.before.before.before.before.before.before.before.before.own-part.ensures c.before.before.before.before.before.before.before.before.before.before.before.before.before.before.before.before.before.if1.false c.before.before.before.before.before.before.before.before.before.before.before.before.before.before.before.own-start.ensures c.before.before.before.before.before.before.before.before.before.before.before.before.before.before.before.before.before.before.before.before.before.before.own-part.auto.1.1.1.1.1.1.0 c.before.before.before.before.before.before.before.before.before.before.before.replace-end2.ensures (c.before.before.before.before.before.before.before.before.before.before.before.before.before.before.before.before.before.before.before.before.before.before.before.before.before.before.before.before.before.before.requires.1.0 ∙ sym c.before.before.before.before.before.before.before.before.before.before.before.replace-end2.auto.0) c.before.before.before.before.if2.false (omega (arith, c.before.before.before.before.before.before.before.before.before.before.before.replace-end2.auto.0, c.before.before.before.before.before.before.before.before.before.before.before.before.before.before.before.before.before.before.before.before.before.before.before.before.before.before.before.before.before.before.requires.0.short)) c.before.before.reseal.auto.0 c.before.before.reseal.ensures
+returns_3 : tie.Need-returns-3
+returns_3 c = right_done c.before.before.before.before.before.before.before.before.before.before.before.before.before.before.before.before.before.before.before.before.before.before.before.before.before.before.before.before.before.before.args.origin c.before.before.before.before.before.before.before.before.before.before.before.before.before.before.before.before.before.before.before.before.before.before.before.before.before.before.before.before.before.before.args.n c.before.before.before.before.before.before.before.before.before.before.before.before.before.before.before.before.before.before.before.before.before.before.own-part.ensures c.before.before.before.before.before.before.before.before.before.before.before.before.before.before.before.before.before.if1.false c.before.before.before.before.before.before.before.before.before.before.before.before.before.before.before.own-start.ensures c.before.before.before.before.before.before.before.before.before.before.before.before.before.before.before.before.before.before.before.before.before.before.own-part.auto.1.1.1.1.1.1.0 c.before.before.before.before.before.before.before.before.before.before.before.replace-end2.ensures (c.before.before.before.before.before.before.before.before.before.before.before.before.before.before.before.before.before.before.before.before.before.before.before.before.before.before.before.before.before.before.requires.1.0 ∙ sym c.before.before.before.before.before.before.before.before.before.before.before.replace-end2.auto.0) c.before.before.before.before.if2.false (omega (arith, c.before.before.before.before.before.before.before.before.before.before.before.replace-end2.auto.0, c.before.before.before.before.before.before.before.before.before.before.before.before.before.before.before.before.before.before.before.before.before.before.before.before.before.before.before.before.before.before.requires.0.short)) c.before.before.reseal.auto.0 c.before.before.reseal.ensures
 
 pub split-right-spec : {M : Type 1} → statement M
 split-right-spec =
@@ -76,11 +76,11 @@ split-right-spec =
     same-length-4
     same-length-5
     same-length-6
-    returns-2
+    returns_2
     sub-reseal
     sub-reseal-2
     reseal-requires
     same-length-7
     same-length-8
     same-length-9
-    returns-3)
+    returns_3)

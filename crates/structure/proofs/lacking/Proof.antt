@@ -33,8 +33,8 @@ slice-aggregate-lacking-in-2 c = search rules
 lacking-in-requires-2 : tie.Need-lacking-in-requires-2
 lacking-in-requires-2 c κs = (c.before.before.before.before.before.requires, omega (arith, cells_are c.before.before.before.parts-of.ensures, c.before.before.before.parts-of.ensures.cells-few, length-replicate {A = ℕ} 2048 0))
 
-returns-2 : tie.Need-returns-2
-returns-2 c = c.before.lacking-in2.ensures
+returns_2 : tie.Need-returns-2
+returns_2 c = c.before.lacking-in2.ensures
 
 pub lacking-spec : {M : Type 1} → statement M
 lacking-spec =
@@ -46,4 +46,4 @@ lacking-spec =
     returns
     slice-aggregate-lacking-in-2
     lacking-in-requires-2
-    returns-2)
+    returns_2)

@@ -2,7 +2,7 @@
 -- Assumes nothing.
 use native.Mathlib.Omega.{arith}
 use borrow.Author.Rules.{rules}
-use Rattle.structure.proofs.Stack.{no-higher, lacks-aggs, lacks-parts, lacks-nodes, rest-low, lacks-none}
+use Rattle.structure.proofs.Stack.{no_higher, lacks_aggs, lacks_parts, lacks_nodes, rest_low, lacks_none}
 use Rattle.structure.proofs.reduced_any.Statement.{statement}
 use Rattle.structure.proofs.reduced_any.Tie as tie
 
@@ -25,11 +25,11 @@ returns : tie.Need-returns
 returns c =
     let first = c.before.before in
     let asked = first.before.before in
-    lacks-aggs asked.before.before.args.k asked.children-of.ensures first.taken.ensures c.enum_told.given.1
+    lacks_aggs asked.before.before.args.k asked.children_of.ensures first.taken.ensures c.enum_told.given.1
 
 taken-requires-2 : tie.Need-taken-requires-2
 taken-requires-2 c κs =
-    omega (arith, no-higher c.before.before.before.before.taken.ensures c.before.before.below.given.1)
+    omega (arith, no_higher c.before.before.before.before.taken.ensures c.before.before.below.given.1)
 
 enum-known-low : tie.Need-enum-known-low
 enum-known-low c = search rules
@@ -40,12 +40,12 @@ enum-told-2 c = search rules
 same-length-2 : tie.Need-same-length-2
 same-length-2 c = search rules
 
-returns-2 : tie.Need-returns-2
-returns-2 c =
+returns_2 : tie.Need-returns-2
+returns_2 c =
     let second = c.before.before in
     let first = second.before.before.before.before.before in
     let asked = first.before.before in
-    lacks-parts asked.before.before.args.k asked.children-of.ensures first.taken.ensures second.before.before.before.below.given.1
+    lacks_parts asked.before.before.args.k asked.children_of.ensures first.taken.ensures second.before.before.before.below.given.1
     second.taken2.ensures c.enum-told2.given.1
 
 taken-requires-3 : tie.Need-taken-requires-3
@@ -54,8 +54,8 @@ taken-requires-3 c κs =
     let first = second.before.before.before.before.before in
     omega (
       arith,
-      no-higher first.taken.ensures second.before.before.before.below.given.1,
-      no-higher second.taken2.ensures c.before.before.low.given.1,
+      no_higher first.taken.ensures second.before.before.before.below.given.1,
+      no_higher second.taken2.ensures c.before.before.low.given.1,
     )
 
 enum-known-rest : tie.Need-enum-known-rest
@@ -67,13 +67,13 @@ enum-told-3 c = search rules
 same-length-3 : tie.Need-same-length-3
 same-length-3 c = search rules
 
-returns-3 : tie.Need-returns-3
-returns-3 c =
+returns_3 : tie.Need-returns-3
+returns_3 c =
     let third = c.before.before in
     let second = third.before.before.before.before.before in
     let first = second.before.before.before.before.before in
     let asked = first.before.before in
-    lacks-nodes asked.before.before.args.k asked.children-of.ensures first.taken.ensures second.before.before.before.below.given.1
+    lacks_nodes asked.before.before.args.k asked.children_of.ensures first.taken.ensures second.before.before.before.below.given.1
     second.taken2.ensures third.before.before.before.low.given.1 third.taken3.ensures c.enum-told3.given.1
 
 sort-of-requires : tie.Need-sort-of-requires
@@ -90,7 +90,7 @@ slice-write-stack c =
     let asked = first.before.before in
     omega (
       arith,
-      rest-low asked.before.before.args.k asked.children-of.ensures first.taken.ensures second.before.before.before.below.given.1
+      rest_low asked.before.before.args.k asked.children_of.ensures first.taken.ensures second.before.before.before.below.given.1
           second.taken2.ensures third.before.before.before.low.given.1 third.taken3.ensures c.before.before.rest.given.1,
     )
 
@@ -102,20 +102,20 @@ add-t17 c =
     let asked = first.before.before in
     omega (
       arith,
-      rest-low asked.before.before.args.k asked.children-of.ensures first.taken.ensures second.before.before.before.below.given.1
+      rest_low asked.before.before.args.k asked.children_of.ensures first.taken.ensures second.before.before.before.below.given.1
           second.taken2.ensures third.before.before.before.low.given.1 third.taken3.ensures c.before.before.rest.given.1,
     )
 
 same-length-4 : tie.Need-same-length-4
 same-length-4 c = search rules
 
-returns-4 : tie.Need-returns-4
-returns-4 c =
+returns_4 : tie.Need-returns-4
+returns_4 c =
     let third = c.before.before.before.before in
     let second = third.before.before.before.before.before in
     let first = second.before.before.before.before.before in
     let asked = first.before.before in
-    lacks-none asked.before.before.args.k asked.children-of.ensures first.taken.ensures second.before.before.before.below.given.1
+    lacks_none asked.before.before.args.k asked.children_of.ensures first.taken.ensures second.before.before.before.below.given.1
     second.taken2.ensures third.before.before.before.low.given.1 third.taken3.ensures
     c.before.before.rest.given.1 (omega arith) c.sort-of.ensures
 
@@ -133,15 +133,15 @@ reduced-any-spec =
     enum-known-low
     enum-told-2
     same-length-2
-    returns-2
+    returns_2
     taken-requires-3
     enum-known-rest
     enum-told-3
     same-length-3
-    returns-3
+    returns_3
     sort-of-requires
     cast-stack
     slice-write-stack
     add-t17
     same-length-4
-    returns-4)
+    returns_4)

@@ -4,11 +4,11 @@ use borrow.Author.Rules.{rules}
 use mathlib.Core.Path.{◌≡◌, refl, sym, ap, ap₂, ◌∙◌, subst}
 use mathlib.Core.List.{List, [], ◌∷◌, ◌++◌, map}
 use lib.ListN.{length, take, drop, get_or, set, length-set}
-use Rattle.text_references.proofs.Laws.{listed-all}
+use Rattle.text_references.proofs.Laws.{listed_all}
 use mathlib.Core.Option.{Option, none, some}
 use mathlib.Core.Bool.{Bool, true, false}
-use Rattle.compact.specs.Slots.{Slot, record-slots, cell-slots, in-each}
-use Rattle.text_references.specs.Asks.{Listed, if-refers}
+use Rattle.compact.specs.Slots.{Slot, record_slots, cell_slots, in_each}
+use Rattle.text_references.specs.Asks.{Listed, if_refers}
 use Rattle.text_references.proofs.references.Statement.{statement}
 use Rattle.text_references.proofs.references.Tie as tie
 use Rattle.text_references.proofs.references.Reads as reads
@@ -33,7 +33,7 @@ same_length : tie.Need-same-length
 same_length c = search rules
 
 returns : tie.Need-returns
-returns c = listed-all c.before.before.before.before.before.before.before.before.before.before.before.before.args.s.now c.before.before.before.before.before.before.before.before.before.parts-of.result c.before.before.before.before.before.before.before.before.before.parts-of.ensures c.before.before.before.before.before.before.list-records.ensures c.before.before.list-cells.ensures
+returns c = listed_all c.before.before.before.before.before.before.before.before.before.before.before.before.args.s.now c.before.before.before.before.before.before.before.before.before.parts-of.result c.before.before.before.before.before.before.before.before.before.parts-of.ensures c.before.before.before.before.before.before.list-records.ensures c.before.before.list-cells.ensures
 
 pub references-spec : {M : Type 1} → statement M
 references-spec =

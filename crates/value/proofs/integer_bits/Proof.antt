@@ -27,12 +27,12 @@ sub-result-2 c =
     let l : mag c.before.args.i < 9223372036854775808 = c.before.ranges.i.sfits in
     rw (to_z-of_z w64 c.before.args.i c.before.ranges.i, turned c.before.args.i (rw (to_z-of_z w64 c.before.args.i c.before.ranges.i) at c.if1.false), to_z-of_z w64 (pos (mag c.before.args.i)) (record { sfits = l })) (omega arith)
 
-returns-2 : tie.Need-returns-2
-returns-2 c =
+returns_2 : tie.Need-returns-2
+returns_2 c =
     let l : mag c.before.args.i < 9223372036854775808 = c.before.ranges.i.sfits in
     let sign = rw (to_z-of_z w64 c.before.args.i c.before.ranges.i) at c.if1.false in
     rw (to_z-of_z w64 c.before.args.i c.before.ranges.i, turned c.before.args.i sign, to_z-of_z w64 (pos (mag c.before.args.i)) (record { sfits = l })) (complement c.before.args.i sign)
 
 pub integer-bits-spec : {M : Type 1} → statement M
 integer-bits-spec =
-    tie.close (tie.spec cast-result returns sub-result cast-result-2 sub-result-2 returns-2)
+    tie.close (tie.spec cast-result returns sub-result cast-result-2 sub-result-2 returns_2)

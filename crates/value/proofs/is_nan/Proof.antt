@@ -4,13 +4,13 @@ use mathlib.Core.Bool.{Bool, true, false}
 use mathlib.Core.Path.{◌≡◌, refl, ap}
 use borrow.Author.Rules.{rules}
 use Rattle.value.specs.Value.{boolean, ok, err, mismatch}
-use Rattle.value.proofs.Laws.{nan-test, at_places}
-use Rattle.value.specs.Undefined.{is-nan}
+use Rattle.value.proofs.Laws.{nan_test, at_places}
+use Rattle.value.specs.Undefined.{is_nan}
 use Rattle.value.specs.Meaning.{meaning}
 use Rattle.value.proofs.is_nan.Statement.{statement}
 use Rattle.value.proofs.is_nan.Tie as tie
 
-either : (b : Bool) → err mismatch ≡ is-nan (boolean b)
+either : (b : Bool) → err mismatch ≡ is_nan (boolean b)
 either true = refl
 either false = refl
 
@@ -23,11 +23,11 @@ enum-known-v c = search rules
 returns : tie.Need-returns
 returns c text = rw c.enum_told.given.1
 
-returns-2 : tie.Need-returns-2
-returns-2 c text = rw c.before.v.given.1 (ap (λ b. ok (boolean b)) (nan-test c.before.v.given.0.0 c.known-told.given.0.1))
+returns_2 : tie.Need-returns-2
+returns_2 c text = rw c.before.v.given.1 (ap (λ b. ok (boolean b)) (nan_test c.before.v.given.0.0 c.known-told.given.0.1))
 
-returns-3 : tie.Need-returns-3
-returns-3 c text = at_places (1 ∷ 2 ∷ 4 ∷ []) (λ v. err mismatch ≡ is-nan (meaning text v)) (λ h. absurd h) (λ h b. either b) (λ h i. refl) (λ h x. absurd h) (λ h r. refl) c.before.args.v c.match.keys3
+returns_3 : tie.Need-returns-3
+returns_3 c text = at_places (1 ∷ 2 ∷ 4 ∷ []) (λ v. err mismatch ≡ is_nan (meaning text v)) (λ h. absurd h) (λ h b. either b) (λ h i. refl) (λ h x. absurd h) (λ h r. refl) c.before.args.v c.match.keys3
 
 pub is-nan-spec : {M : Type 1} → statement M
-is-nan-spec = tie.close (tie.spec enum_told enum-known-v returns returns-2 returns-3)
+is-nan-spec = tie.close (tie.spec enum_told enum-known-v returns returns_2 returns_3)

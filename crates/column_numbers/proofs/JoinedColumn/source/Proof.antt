@@ -12,8 +12,8 @@ returns c = simp (lt-ltb _ _ c.if1.true)
 cast-t7 : tie.Need-overflow-cast-t7
 cast-t7 c = search rules
 
-returns-2 : tie.Need-returns-2
-returns-2 c = simp (le-ltb _ _ c.if1.false)
+returns_2 : tie.Need-returns-2
+returns_2 c = simp (le-ltb _ _ c.if1.false)
 
 pub source-spec : {M : Type 1} → statement M
-source-spec = tie.close (tie.spec cast-c returns cast-t7 returns-2)
+source-spec = tie.close (tie.spec cast-c returns cast-t7 returns_2)
