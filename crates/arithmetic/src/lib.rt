@@ -1,4 +1,6 @@
 // Addition, subtraction, multiplication, division, identity, negation and the square root. Operands must be numbers or Null.
+#![tactic(auto)]
+
 ghost use Rattle.std.specs.Prelude.{ℕ, ◌≡◌, List, neg_ℤ};
 ghost use Rattle.std.specs.Float.Ieee as Ieee;
 ghost use Rattle.std.specs.Float.{binary64};
@@ -100,7 +102,7 @@ pub fn square_root(v: Value) -> Result
 }
 
 // What the operands of addition, subtraction, multiplication and division are, once an Integer met by a Float is rounded. Null: there is a Null, with a number or Null.
-#[derive(Drop)]
+#[derive(Clone, Copy)]
 pub enum Operands {
     Integers(i64, i64),
     Floats(f64, f64),

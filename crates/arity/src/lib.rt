@@ -1,5 +1,7 @@
 // What a cell is and which children it asks for, by its tag and its numbers. Tags are told apart by tests: a constant array over all tags would be stored
 // anew at each call, which takes longer than all else that is done for a cell.
+#![tactic(auto)]
+
 ghost use Rattle.std.specs.Prelude.{◌≡◌, ◌≤◌, ◌<◌};
 ghost use Rattle.arity.specs.Arity.{Sorted, asking, Asked};
 
@@ -23,7 +25,7 @@ pub const ROW: usize = 8;
 pub const NODE: usize = 9;
 
 // The children of a cell, in the order in which they stand before it: so many nodes, so many parts of one sort, so many Aggs.
-#[derive(Drop)]
+#[derive(Clone, Copy)]
 pub struct Children {
     pub nodes: usize,
     pub part: usize,

@@ -1,11 +1,13 @@
-// A view over cells: the sheet's bytes and a cell's number, held in one struct. The work is done by crate `layout`, on the slice and the number. Functions
-// over a struct that holds a slice are proved by hand, so there are two of them, and `cell_of` stands above them with plain parameters.
+// A view over cells: the sheet's bytes and a cell's number, held in one struct. The work is done by crate `layout`, on the slice and the number; `cell_of`
+// stands above the view with plain parameters.
+#![tactic(auto)]
+
 ghost use Rattle.std.specs.Prelude.{◌≡◌, ◌<◌};
 ghost use Rattle.sheet.specs.Parts.{cell_count};
 ghost use Rattle.sheet.specs.Cell as Sheet;
 ghost use Rattle.layout.specs.Layout.{Whole, IsCell};
 
-#[derive(Drop)]
+#[derive(Clone, Copy)]
 pub struct CellView<'a> {
     pub sheet: &'a [u8],
     pub number: usize,

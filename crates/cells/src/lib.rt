@@ -1,9 +1,11 @@
 // The working form of a plan: postfix cells of seven words in lent slices. A position is a number of words.
+#![tactic(auto)]
+
 ghost use Rattle.std.specs.Prelude.{◌≡◌, List, [], ◌∷◌, ◌++◌, ℕ, ◌+◌, ◌-◌, ◌≤◌, ◌<◌, length, take, drop};
 ghost use Rattle.cells.specs.Cells.{cell_words, cell_at, start_at, tag_at, origin_at, Part, Sized};
 ghost use Rattle.cells.specs.Room.{Wrote, Puts, Copies};
 
-#[derive(Drop)]
+#[derive(Clone, Copy)]
 pub struct Cell {
     pub origin: u32,
     pub tag: u32,

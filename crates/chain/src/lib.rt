@@ -1,6 +1,8 @@
 // Chains: nodes with one source that are no Filters, each over the next one; passes 2 and 3 leave such nodes as they are. A chain can be as long as the plan, so
 // a pass goes down through it in a loop, works on the node below it, and seals the chain's cells over what that node has become in a second loop. A pass that works on
 // each node's own parts goes through those nodes alone that have none: they are one cell each, so the way back is known too.
+#![tactic(auto)]
+
 ghost use Rattle.std.specs.Prelude.{◌≡◌, ◌<◌, ◌+◌, ◌≤◌, length};
 ghost use Rattle.words.specs.Place.{NodeAt};
 ghost use Rattle.chain.specs.Chain.{IsOther, GoesDown, GoesBelow, ChainAt, Follows};
@@ -21,7 +23,7 @@ fn is_other(s: &[u32], lo: usize, hi: usize) -> bool
 }
 
 // Where the node below a chain ends, and what is left of a number that is one lower for each node of the chain.
-#[derive(Drop)]
+#[derive(Clone, Copy)]
 pub struct Below {
     pub end: usize,
     pub left: usize,

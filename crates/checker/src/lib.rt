@@ -1,4 +1,6 @@
 // The operation `check`: every byte string gets success or one refusal, 2 to 10, with its place.
+#![tactic(auto)]
+
 ghost use Rattle.std.specs.Prelude.{◌≡◌};
 ghost use Rattle.std.proofs.Math.Option.{none};
 ghost use Rattle.sheet.specs.Cell.{bad_cell};
@@ -14,7 +16,7 @@ use scope::Scope;
 // What an operation returns: 0 or a refusal's number, its place, and of a success the length of the sheet handed out (0 for `check`), its cells and
 // its columns.
 #[repr(C)]
-#[derive(Drop)]
+#[derive(Clone, Copy)]
 pub struct Answer {
     pub number: usize,
     pub place: usize,

@@ -1,5 +1,7 @@
 // expression.rs, into_cnf after into_nnf: Ors are spread over the Ands at the top of their operands. The result is written directly and can be
 // exponentially longer than the source, so each function stops as soon as there is no room. An expression without an Or stays as it is.
+#![tactic(auto)]
+
 ghost use Rattle.std.specs.Prelude.{◌≡◌, ℕ, ◌+◌, ◌-◌, ◌≤◌, ◌<◌, length};
 ghost use Rattle.sql.specs.Expression;
 ghost use Rattle.cells.specs.Cells.{tag_at};

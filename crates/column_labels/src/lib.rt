@@ -1,4 +1,6 @@
 // optimizer.rs, the `collect` in short_circuit that asks plan.rs's column_label for each column of a node: all its labels, written as Label cells.
+#![tactic(auto)]
+
 ghost use Rattle.std.specs.Prelude.{◌≡◌, ℕ};
 ghost use Rattle.sheet.specs.Content.{label_cell};
 ghost use Rattle.cells.specs.Room.{Wrote};

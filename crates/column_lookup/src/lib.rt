@@ -1,5 +1,7 @@
 // expression.rs, is_column_lookup and into_column_values, and optimizer.rs, the test for an equijoin: which column an expression looks up, the values that it
 // is looked up for, and which two columns it sets equal. Expressions are in their working form (crate cells).
+#![tactic(auto)]
+
 ghost use Rattle.std.specs.Prelude.{◌≡◌, ℕ, ◌-◌, ◌<◌};
 ghost use Rattle.sql.specs.Expression.{same_column};
 ghost use Rattle.sql.specs.Optimizer.{ordered};
@@ -9,14 +11,14 @@ ghost use Rattle.column_lookup.specs.Lookup.{found, pair, column_in, equal_cells
 ghost use Rattle.column_lookup.specs.Values.{is_number, is_defined, value_words, is_words, Gathers};
 
 // The column that an expression looks up, if it is a lookup.
-#[derive(Drop)]
+#[derive(Clone, Copy)]
 pub enum Lookup {
     Column(u32),
     None,
 }
 
 // The two columns of a join's row that an expression sets equal, the lower one first, if it is an equijoin.
-#[derive(Drop)]
+#[derive(Clone, Copy)]
 pub enum ColumnPair {
     Pair(column_numbers::JoinedColumn, column_numbers::JoinedColumn),
     None,

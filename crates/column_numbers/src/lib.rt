@@ -1,6 +1,8 @@
 // expression.rs, shift_column and replace_column, and optimizer.rs, ref_left and ref_right: the numbers of an expression's columns. An expression is in its
 // working form (crate cells), and the rewritten one is appended to another slice. Its cells follow each other, operands before operators, and what is asked or
 // rewritten stands in a column's cell alone: so a loop over the cells does it, whatever the operators are and however deep they nest.
+#![tactic(auto)]
+
 ghost use Rattle.std.specs.Prelude.{◌≡◌, ◌+◌, ◌-◌, ◌<◌};
 ghost use Rattle.sql.specs.Expression.{map_columns, replace_column, shift_column_down, shift_column_up};
 ghost use Rattle.words.specs.Place.{ExpressionAt, Maps};
@@ -8,19 +10,19 @@ ghost use Rattle.column_numbers.specs.Columns.{source_of, changed, Room, CellsAt
 ghost use Rattle.column_numbers.specs.References.{column_refers, together, RefersTo};
 
 // A column of a join's left source.
-#[derive(Drop)]
+#[derive(Clone, Copy)]
 pub struct LeftColumn(pub u32);
 
 // A column of a join's right source.
-#[derive(Drop)]
+#[derive(Clone, Copy)]
 pub struct RightColumn(pub u32);
 
 // A column of a join's row: the left source's columns, and behind them the right source's.
-#[derive(Drop)]
+#[derive(Clone, Copy)]
 pub struct JoinedColumn(pub u32);
 
 // A column of one of a join's sources.
-#[derive(Drop)]
+#[derive(Clone, Copy)]
 pub enum SourceColumn {
     Left(LeftColumn),
     Right(RightColumn),
@@ -69,7 +71,7 @@ impl JoinedColumn {
 }
 
 // A rewrite of column numbers.
-#[derive(Drop)]
+#[derive(Clone, Copy)]
 pub enum Change {
     // From the joined row to the right source's row, where the left source has that many columns.
     Down(usize),
@@ -167,7 +169,7 @@ pub fn replace_column(
 }
 
 // The sources of a join that an expression refers to.
-#[derive(Drop)]
+#[derive(Clone, Copy)]
 pub enum References {
     Neither,
     Left,

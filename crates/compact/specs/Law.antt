@@ -1,4 +1,4 @@
--- What document 02, W-212, promises of the operation that drops text, for every list of bytes and every output. Proved in Proof.antt.
+-- What document 02, W-212, promises of the operation that drops text, for every list of bytes and every output. Proved in proofs/Proved.antt.
 use Rattle.std.specs.Prelude.{ℕ, ◌+◌, ◌*◌, ◌≤◌, ◌<◌, ◌≡◌, ◌≢◌, true, false, cond, List, [], ◌∷◌, ◌++◌, map, length, take, drop}
 use Rattle.value.specs.Meaning.{bytes_at}
 use Rattle.sql.specs.Answer.{done, refused}

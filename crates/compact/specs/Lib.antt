@@ -1,15 +1,6 @@
 pub mod Strings
-pub mod StringLaws
 pub mod Slots
 pub mod Compact
 pub mod Examples
 pub mod References
-pub mod Unseen
-pub mod Reading
-pub mod Cells
-pub mod Agree
-pub mod Blocks
-pub mod Moved
-pub mod Accepts
 pub mod Law
-pub mod Proof

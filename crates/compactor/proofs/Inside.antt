@@ -21,11 +21,12 @@ use Rattle.sheet.specs.Check.{plan}
 use Rattle.sheet_laws.specs.Fits.{All, Word}
 use Rattle.sheet_laws.specs.Content.{and_left, and_right}
 use Rattle.sheet_laws.specs.Layout.{Parts, none_failing, table_facts}
-use Rattle.sheet_laws.specs.Plan.{Bytes, word_bound, parts_of}
+use Rattle.sheet_laws.specs.Plan.{Bytes}
+use Rattle.sheet_laws.proofs.Plan.{word_bound, parts_of}
 use Rattle.sheet_laws.specs.Accepted.{Accepted, accepted}
 use Rattle.sound.specs.Lists.{all_append}
 use Rattle.compact.specs.Slots.{Slot, number, reference, references, field_slot, field_slots, record_slots, cell_slots, in_each, slots}
-use Rattle.compact.specs.Cells.{Refers}
+use Rattle.compact.proofs.Cells.{Refers}
 use Rattle.gather.specs.Gather.{Inside}
 
 -- A reference that lies inside the text, and is a number of 4 bytes.

@@ -16,7 +16,7 @@ use Rattle.sheet_laws.specs.Plan.{Bytes}
 use Rattle.sheet_laws.specs.Bytes.{word_next}
 use Rattle.compact.specs.Strings.{joined}
 use Rattle.compact.specs.Slots.{Slot, number, reference, references, value, redirect, record_slots, cell_slots, in_each, slots, slot_bytes}
-use Rattle.compact.specs.Blocks.{slot_bytes_append, length_slot_bytes, map_append}
+use Rattle.compact.proofs.Blocks.{slot_bytes_append, length_slot_bytes, map_append}
 use Rattle.layout.specs.Layout.{IsCell}
 use Rattle.layout.specs.declared.Cell as Code
 use Rattle.encode.specs.Encode.{written}

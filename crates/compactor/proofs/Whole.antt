@@ -18,14 +18,16 @@ use Rattle.sheet.specs.Check.{Numbers, text, schema, plan, check, checked, refus
 use Rattle.sheet.specs.Operations as Sheet
 use Rattle.sheet.specs.Operations.{refuse}
 use Rattle.sheet_laws.specs.Fits.{All}
-use Rattle.sheet_laws.specs.Plan.{Bytes, parts_of, plan_size}
+use Rattle.sheet_laws.specs.Plan.{Bytes}
+use Rattle.sheet_laws.proofs.Plan.{parts_of, plan_size}
 use Rattle.sheet_laws.specs.Accepted.{accepted}
-use Rattle.sound.specs.Refusals.{RefusedBy, FromTo, plan_refused}
+use Rattle.sound.specs.Refusals.{RefusedBy, FromTo}
+use Rattle.sound.proofs.Refusals.{plan_refused}
 use Rattle.compact.specs.Strings.{kept, joined, reference_to}
 use Rattle.compact.specs.Slots.{Slot, references, redirect, record_slots, cell_slots, in_each, slots, slot_bytes}
 use Rattle.compact.specs.Compact.{strings, kept_strings, kept_text, moved, trailer_with, compacted, handed_out, compact}
-use Rattle.compact.specs.Blocks.{slot_bytes_append, length_slot_bytes}
-use Rattle.compact.specs.Moved.{length_d}
+use Rattle.compact.proofs.Blocks.{slot_bytes_append, length_slot_bytes}
+use Rattle.compact.proofs.Moved.{length_d}
 use Rattle.layout.specs.Layout.{Whole, Laid}
 use Rattle.layout.specs.declared.Parts.{Parts}
 use Rattle.checker.specs.Checker.{numbers, outcome}

@@ -1,4 +1,6 @@
 // The operation that drops text nobody refers to: strings are gathered first, and written where they are not refused.
+#![tactic(auto)]
+
 ghost use Rattle.std.specs.Prelude.{◌≡◌, List, [], ◌∷◌, ℕ, ◌+◌, ◌*◌, ◌≤◌, ◌<◌, length, take, drop};
 ghost use Rattle.sheet.specs.Bytes.{bytes, word};
 ghost use Rattle.compact.specs.Strings.{joined};

@@ -1,4 +1,6 @@
 // One comparison of two values, and Equal, GreaterThan and LessThan, which take their answer from it.
+#![tactic(auto)]
+
 ghost use Rattle.std.specs.Prelude.{ℕ, ◌≡◌, List};
 ghost use Rattle.std.specs.Float.Ieee as Ieee;
 ghost use Rattle.std.specs.Float.{binary64};
@@ -11,7 +13,7 @@ ghost use Rattle.value.specs.Comparison.{Found, compare_integers, compare_floats
 use value::{Error, Result, Value};
 
 // What comparing two values finds.
-#[derive(Drop)]
+#[derive(Clone, Copy)]
 pub enum Finding {
     Less,
     Equal,
@@ -23,7 +25,7 @@ pub enum Finding {
 }
 
 // Null is apart from the findings, and comes before kinds.
-#[derive(Drop)]
+#[derive(Clone, Copy)]
 pub enum Comparison {
     // one of the values is Null
     Null,

@@ -1,6 +1,8 @@
 // optimizer.rs, maybe_push_join: the conjuncts of a join's predicate, joined by And in order, by where they go. The predicate is in its working form (crate
 // cells); a conjunct is appended to another slice, behind those that stand there from word `from` up to `at`, with an And over both (and_vec), whose
 // origin the caller gives.
+#![tactic(auto)]
+
 ghost use Rattle.std.specs.Prelude.{◌≡◌, [], ◌∷◌, map, ◌-◌, ◌<◌};
 ghost use Rattle.sql.specs.Expression.{shift_column_down, ands};
 ghost use Rattle.sql.specs.Optimizer.{for_left, for_right, for_both};
@@ -8,7 +10,7 @@ ghost use Rattle.words.specs.Place.{ExpressionAt, Maps};
 ghost use Rattle.conjuncts.specs.Conjuncts.{GatheredAt, JoinableAt, Joins, Walks, goes, chosen, AppendsEach};
 
 // Where a conjunct goes: to one of the join's sources, or nowhere, and stays with the join.
-#[derive(Drop)]
+#[derive(Clone, Copy)]
 pub enum Destination {
     Left,
     Right,

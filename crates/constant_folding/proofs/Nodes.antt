@@ -11,7 +11,7 @@ use Rattle.sql.specs.Answer.{Answer, done, refused, ◌>>=◌}
 use Rattle.sql.specs.Optimizer.{fold_leaf, fold_over, fold_join, ConstantFolding}
 use Rattle.sheet.specs.Content.{row_cell}
 use Rattle.sheet_laws.specs.Fits.{All, Optional}
-use Rattle.sheet_laws.specs.Counts.{size_positive}
+use Rattle.sheet_laws.proofs.Counts.{size_positive}
 use Rattle.sound.specs.Answers.{answer_is}
 use Rattle.cells.specs.declared.Cell.{Cell}
 use Rattle.cells.specs.Cells.{cell_words, sized, cell_at, start_at, Part, Sized}

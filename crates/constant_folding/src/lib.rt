@@ -1,6 +1,8 @@
 // optimizer.rs, ConstantFolding of a plan in its working form: it is read from one slice, and what it folds to is written to another. In the Rust a node's own
 // parts are folded before its sources; in postfix order they stand behind them. Nothing but a refusal tells which came first: so the sources are folded first here,
 // to where they stand, and where one is refused the own parts are folded after all, as a refusal of theirs comes first.
+#![tactic(auto)]
+
 ghost use Rattle.std.specs.Prelude.{ℕ, ◌+◌, ◌-◌, ◌≤◌, ◌<◌, ◌≡◌, length};
 ghost use Rattle.cells.specs.Room.{Short};
 ghost use Rattle.fold_parts.specs.Own.{OwnAt};

@@ -15,15 +15,16 @@ use Rattle.sheet.specs.Parts.{edition, cells_at, cell_count, record_at}
 use Rattle.sheet.specs.Check.{Numbers, refusal, check}
 use Rattle.sheet_laws.specs.Accepted.{accepted}
 use Rattle.sheet_laws.specs.Bytes.{bytes_of_digits}
-use Rattle.sheet_laws.specs.Plan.{Bytes, parts_of}
+use Rattle.sheet_laws.specs.Plan.{Bytes}
+use Rattle.sheet_laws.proofs.Plan.{parts_of}
 use Rattle.sheet_laws.specs.Layout.{Parts, parts}
 use Rattle.checker.specs.Checker.{numbers, outcome}
 use Rattle.checker.specs.declared.Answer as Code
 use Rattle.editions.specs.Editions.{origin_bytes, with_origins, in_edition}
-use Rattle.editions.specs.Kept.{length_origins, origin_kept, cell_inside}
+use Rattle.editions.proofs.Kept.{length_origins, origin_kept, cell_inside}
 use Rattle.convert.specs.Convert.{origin_in, carried, other_edition, put_out, convert}
 use Rattle.convert.specs.Code.{Carryable}
-use Rattle.convert.specs.Accepted.{stands_for, sides, by_tests}
+use Rattle.convert.proofs.Accepted.{stands_for, sides, by_tests}
 
 -- ---- the target
 
@@ -150,13 +151,13 @@ module _ (s : List ℕ) (target : ℕ) (out : List ℕ) (b : Bytes s) (y : Carry
         (in_word (suc (suc at)) (omega arith) (omega arith) ∙ (ap (byte s) (sym e2) ∙ z2), in_word (suc (suc (suc at))) (omega arith) (omega arith) ∙ (ap (byte s) (sym e3) ∙ z3)),
       )
 
-  pub carry_done : (at count : ℕ) (d₁ d₂ : List ℕ) → at ≡ cells_at s → count ≡ cell_count s → d₁ ≡ take (length s) s ++ drop (length s) out
+  pub carry_done : (at count : ℕ) (d₁ d₂ : List ℕ) → at ≡ cells_at s → count ≡ cell_count s → d₁ ≡ s ++ drop (length s) out
       → d₂ ≡ with_origins (origin_in target) at 0 count d₁ → set d₂ (length s - 8) target ≡ carried target s ++ drop (length s) out
   unfolding in_edition
   carry_done at count d₁ d₂ ea ec e1 e2 =
       let x = drop (length s) out in
       let (za, (zb, zc)) = high_zero in
-      let copied : d₁ ≡ s ++ x = e1 ∙ ap (λ (l : List ℕ). l ++ x) (take-length s) in
+      let copied : d₁ ≡ s ++ x = e1 in
       let marked : d₂ ≡ w ++ x =
       e2 ∙ (cc (ea, ec, copied) ∙ origins_front (origin_in target) (cells_at s) 0 (cell_count s) s x (λ j i k. omega (arith, cell_inside s j (omega arith)))) in
       ap (λ (l : List ℕ). set l (length s - 8) target) marked

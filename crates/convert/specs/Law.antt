@@ -1,5 +1,5 @@
 -- The laws of `convert`, for every list of bytes and every output. Document 02, W-209: "Upward then downward returns the same bytes; downward then upward does so
--- exactly when each origin was its cell number." And what a sheet so carried is. Proved in Proof.antt.
+-- exactly when each origin was its cell number." And what a sheet so carried is. Proved in proofs/Proved.antt.
 use Rattle.std.specs.Prelude.{ℕ, ◌≤◌, ◌<◌, ◌≡◌, List, ◌++◌, length, drop}
 use Rattle.sql.specs.Answer.{done}
 use Rattle.sql.specs.Plan.{Node}

@@ -1,4 +1,6 @@
 // The operation `convert`: a sheet of one edition carried to the other. Upward each cell's origin is its number, downward 0.
+#![tactic(auto)]
+
 ghost use Rattle.std.specs.Prelude.{◌≡◌, ◌++◌, ◌+◌, ◌*◌, ◌≤◌, ◌<◌, length, drop};
 ghost use Rattle.std.proofs.lemmas.List.Edits.{sets};
 ghost use Rattle.checker.specs.Checker.{outcome};
@@ -51,13 +53,21 @@ fn put_origins(target: usize, cells: usize, out: &mut [u8], at: usize)
     }
 }
 
+// The bytes of s over the first of out.
+fn copy(s: &[u8], out: &mut [u8])
+    requires { length s.now ≤ length out.old }
+    ensures { out.new ≡ s.now ++ drop (length s.now) out.old }
+{
+    out[..s.len()].copy_from_slice(s);
+}
+
 // The sheet s in the target edition, over the first bytes of out. An edition's number is the first byte of its word; the other three are 0 in both.
 fn carry(s: &[u8], target: usize, out: &mut [u8])
     requires { Carryable s.now target out.old }
     ensures { out.new ≡ carried target s.now ++ drop (length s.now) out.old }
 {
     let cells = layout::parts_of(s).cells;
-    bytes::copy(s, out);
+    copy(s, out);
     put_origins(target, cells.count, out, cells.at);
     out[s.len() - 8] = target as u8;
 }

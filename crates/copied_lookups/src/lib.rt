@@ -1,6 +1,8 @@
 // optimizer.rs, maybe_push_join: what is pushed into a join's sources. Beside its own conjuncts a source gets, for each equijoin that stays with the join, the
 // last lookup of the other source's column, copied to its own column. The conjuncts of the other source are lent, gathered before (crate conjuncts), so that
 // no others are searched. The Ands over the conjuncts have the origin that the caller gives.
+#![tactic(auto)]
+
 ghost use Rattle.std.specs.Prelude.{◌≡◌, ◌-◌, ◌<◌};
 ghost use Rattle.sql.specs.Optimizer.{is_number};
 ghost use Rattle.words.specs.Place.{ExpressionAt};
@@ -9,14 +11,14 @@ ghost use Rattle.conjuncts.specs.Conjuncts.{OptionalAt, GatheredAt};
 ghost use Rattle.copied_lookups.specs.Copies.{IsLookupOf, ending, FindsLast, CopiesLast, CopiesPair, CopiesConjunct, CopiesEach, LeftAt, PushesLeft, RightAt, PushesRight};
 
 // A source of a join.
-#[derive(Drop)]
+#[derive(Clone, Copy)]
 pub enum Source {
     Left,
     Right,
 }
 
 // Where an expression stands, from a word up to another.
-#[derive(Drop)]
+#[derive(Clone, Copy)]
 pub enum Place {
     At(usize, usize),
     None,

@@ -16,7 +16,8 @@ use Rattle.sheet.specs.Cells.{cells}
 use Rattle.sheet.specs.Check.{text, cells_of, plan}
 use Rattle.sheet_laws.specs.Accepted.{accepted}
 use Rattle.sheet_laws.specs.Fits.{ExactCell}
-use Rattle.sheet_laws.specs.Plan.{Bytes, plan_cells, plan_exact}
+use Rattle.sheet_laws.specs.Plan.{Bytes}
+use Rattle.sheet_laws.proofs.Plan.{plan_cells, plan_exact}
 use Rattle.layout.specs.Layout.{Whole, Laid, IsCell, as_cell}
 use Rattle.layout.specs.declared.Cell.{Cell}
 use Rattle.layout.specs.declared.Parts.{Parts}

@@ -1,4 +1,6 @@
 // From a sheet to the working form: the cells of an accepted sheet, each over the trees that it asks for, in words.
+#![tactic(auto)]
+
 ghost use Rattle.std.specs.Prelude.{◌≡◌, ◌-◌, ◌≤◌, ◌<◌, get_or};
 ghost use Rattle.layout.specs.Layout.{as_cell};
 ghost use Rattle.nodes.specs.Trees.{trees_start};

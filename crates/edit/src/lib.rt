@@ -1,4 +1,6 @@
 // Edits of a plan in place: the whole plan stands in the first t words of x, the node that is worked on from lo up to t - tail.
+#![tactic(auto)]
+
 ghost use Rattle.std.specs.Prelude.{◌≡◌, ◌+◌, ◌-◌, ◌≤◌, length};
 ghost use Rattle.edit.specs.Edit.{moved, Replaces, Reseals, ReplacesOwn};
 ghost use Rattle.cells.specs.Cells.{cell_words};

@@ -1,4 +1,4 @@
--- The law between the editions, on bytes: for every list of bytes whose edition word is 2, every pass number and every output. Proved in Proof.antt.
+-- The law between the editions, on bytes: for every list of bytes whose edition word is 2, every pass number and every output. Proved in proofs/Proved.antt.
 use Rattle.std.specs.Prelude.{ℕ, ◌≡◌, List}
 use Rattle.sql.specs.Plan.{Node}
 use Rattle.sheet.specs.Parts.{edition}

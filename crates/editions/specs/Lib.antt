@@ -1,11 +1,3 @@
 pub mod Editions
 pub mod Law
-pub mod Kept
-pub mod Front
-pub mod Unseen
-pub mod Reading
-pub mod Plan
-pub mod Written
-pub mod Proof
-pub mod Again
 pub mod Examples

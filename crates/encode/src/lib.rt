@@ -1,4 +1,6 @@
 // From the working form to a sheet: the text and the records of the sheet handed in, the cells of the plan, and the trailer.
+#![tactic(auto)]
+
 ghost use Rattle.std.specs.Prelude.{◌≡◌, ◌+◌, ◌*◌, ◌≤◌, ◌<◌, length, take};
 ghost use Rattle.sheet.specs.Bytes.{bytes};
 ghost use Rattle.sheet.specs.Write.{cell_bytes, cells_bytes};

@@ -1,4 +1,6 @@
 // expression.rs, evaluate: the operators on constants, each by the tag of its cell; and a constant's cell as a value, and back.
+#![tactic(auto)]
+
 ghost use Rattle.std.specs.Prelude.{◌≡◌, List, ℕ, ◌≤◌, ◌<◌};
 ghost use Rattle.value.specs.Meaning.{meaning};
 ghost use Rattle.sheet.specs.Cell.{wide};

@@ -1,6 +1,8 @@
 // optimizer.rs, FilterPushdown, in place (crate edit): the whole plan stands in the first t words of x, the node that is worked on from lo up to t - tail. A
 // number of words past the end of x stands for refusal 14. y, z and w are scratch; tables are the table records (crate records). n bounds the nodes, as in
 // the definition (crate sql, Room).
+#![tactic(auto)]
+
 ghost use Rattle.sql.specs.Room;
 ghost use Rattle.kept.specs.Pass.{PassAt, Passes};
 ghost use Rattle.push_filters.specs.Buffers.{Buffers};

@@ -1,19 +1,21 @@
 // optimizer.rs, index_lookup: the first conjunct of a scan's filter that looks up a column with an index, and the conjuncts that remain. Which columns of the
 // table a lookup can go by, the marked ones, is read from what is lent: the table's primary key, and its columns' records as a sheet has them.
+#![tactic(auto)]
+
 ghost use Rattle.std.specs.Prelude.{◌≡◌, false, ◌-◌, ◌<◌, get_or};
 ghost use Rattle.words.specs.Place.{ExpressionAt};
 ghost use Rattle.conjuncts.specs.Conjuncts.{GatheredAt};
 ghost use Rattle.first_lookup.specs.First.{marks_in, FindsOne, FindsFirst, LeavesOne, Leaves};
 
 // Where a conjunct stands, from a word up to another, and the column that it looks up.
-#[derive(Drop)]
+#[derive(Clone, Copy)]
 pub enum FoundLookup {
     At(usize, usize, u32),
     None,
 }
 
 // The words written, and whether the lookup was met.
-#[derive(Drop)]
+#[derive(Clone, Copy)]
 pub struct Rest {
     pub at: usize,
     pub met: bool,

@@ -1,11 +1,13 @@
 // optimizer.rs, ConstantFolding: `fold` of one operator in its working form, whose operands are folded already and stand in the slice that is written.
+#![tactic(auto)]
+
 ghost use Rattle.std.specs.Prelude.{ℕ, ◌+◌, ◌≤◌, ◌<◌, ◌≡◌};
 ghost use Rattle.fold_operator.specs.Steps.{boolean_cell, OperandOf, Deciding, Neutral, Writes, UnaryAt, FoldsUnary, OperandsAt, Simplifies, BinaryAt, FoldsBinary, OperandAt, FoldsNeutral};
 
 use cells::Cell;
 use value::{Error, Result};
 
-#[derive(Drop)]
+#[derive(Clone, Copy)]
 pub enum Folded {
     // What is folded ends before this word.
     Done(usize),

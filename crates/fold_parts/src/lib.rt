@@ -1,5 +1,7 @@
 // optimizer.rs, ConstantFolding of a node's own parts in their working form: they are read from one slice, and what they fold to is appended to another.
 // The slice that is read holds the given sheet's plan from its first word on, so that a cell's number is a seventh of the word that it starts at.
+#![tactic(auto)]
+
 ghost use Rattle.std.specs.Prelude.{ℕ, ◌+◌, ◌-◌, ◌≤◌, ◌<◌, ◌≡◌, length};
 ghost use Rattle.cells.specs.Cells.{tag_at};
 ghost use Rattle.cells.specs.Room.{Short};

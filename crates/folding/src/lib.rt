@@ -1,4 +1,6 @@
 // optimizer.rs, ConstantFolding of an expression in its working form: it is read from one slice, and what it folds to is appended to another.
+#![tactic(auto)]
+
 ghost use Rattle.std.specs.Prelude.{ℕ, ◌+◌, ◌-◌, ◌≤◌, ◌<◌, ◌≡◌, length};
 ghost use Rattle.cells.specs.Room.{Short};
 ghost use Rattle.folding.specs.Folding.{Counts, FoldableAt, Folds, RightAt, FoldsRight};

@@ -13,10 +13,11 @@ use lib.Seq.{get_or-take, get_or-drop, take-append-add, take-suc}
 use Rattle.value.specs.Meaning.{bytes_at}
 use Rattle.sheet.specs.Bytes.{byte, word, bytes}
 use Rattle.sheet_laws.specs.Fits.{Word}
-use Rattle.sheet_laws.specs.Plan.{Bytes, word_bound}
+use Rattle.sheet_laws.specs.Plan.{Bytes}
+use Rattle.sheet_laws.proofs.Plan.{word_bound}
 use Rattle.sheet_laws.specs.Bytes.{next, word_next}
 use Rattle.compact.specs.Strings.{same}
-use Rattle.compact.specs.StringLaws.{same_true, same_self}
+use Rattle.compact.proofs.StringLaws.{same_true, same_self}
 use Rattle.gather.specs.Gather.{stretch, eight, mark_of, Begins}
 
 -- ---- a byte of a stretch

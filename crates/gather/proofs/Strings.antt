@@ -15,8 +15,8 @@ use Rattle.sheet.specs.Bytes.{word}
 use Rattle.sheet_laws.specs.Fits.{All}
 use Rattle.sound.specs.Lists.{all_append, get_d_of}
 use Rattle.compact.specs.Strings.{same, empty, among, add, keep, kept, joined, offset_in, reference_to}
-use Rattle.compact.specs.StringLaws.{Grows, Has, keep_grows, keep_has, has_grows, offset_stays, same_self}
-use Rattle.compact.specs.Blocks.{map_append}
+use Rattle.compact.proofs.StringLaws.{Grows, Has, keep_grows, keep_has, has_grows, offset_stays, same_self}
+use Rattle.compact.proofs.Blocks.{map_append}
 use Rattle.gather.specs.Gather.{stretch, eight, mark_of, Inside, index_in, starts, held, Holds, Room, Fits, Places, Gathers, Gathered}
 use Rattle.gather.specs.declared.Placed.{Placed}
 use Rattle.gather.specs.declared.Kept.{Kept}

@@ -1,5 +1,7 @@
 // The different strings that references refer to, each once, in order of first reference. Strings are compared by their first eight bytes as one number, then
 // by their length, by their last eight bytes, and then eight bytes at a time: a sheet can have 4,366 references.
+#![tactic(auto)]
+
 ghost use Rattle.std.specs.Prelude.{◌≡◌, Bool, true, false, ℕ, ◌+◌, ◌-◌, ◌*◌, ◌≤◌, ◌<◌, map, length, take};
 ghost use Rattle.value.specs.Meaning.{bytes_at};
 ghost use Rattle.sheet.specs.Bytes.{byte, word};
@@ -156,7 +158,7 @@ fn find(
 }
 
 // What one reference leads to: the strings held then, the bytes that they have together, and the new reference.
-#[derive(Drop)]
+#[derive(Clone, Copy)]
 pub struct Placed {
     pub count: usize,
     pub bytes: usize,
@@ -214,7 +216,7 @@ fn place(
 }
 
 // How many strings are kept, and how many bytes they have together.
-#[derive(Drop)]
+#[derive(Clone, Copy)]
 pub struct Kept {
     pub count: usize,
     pub bytes: usize,

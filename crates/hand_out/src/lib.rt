@@ -1,4 +1,6 @@
 // What an operation hands out: the sheet that a plan is written as, or a refusal, and then no byte of the output has changed.
+#![tactic(auto)]
+
 ghost use Rattle.hand_out.specs.HandOut.{Counted, WrittenAt, Writes, AnsweredAt, HandsOut};
 
 use checker::Answer;

@@ -1,5 +1,7 @@
 // optimizer.rs, HashJoin: a nested loop join on one column of each side becomes a hash join. The plan is read in one slice and written to another (crate
 // stream). No step needs more room than what it rewrites.
+#![tactic(auto)]
+
 ghost use Rattle.std.specs.Prelude.{◌≡◌};
 ghost use Rattle.sql.specs.Answer.{done};
 ghost use Rattle.sql.specs.Optimizer.{HashJoin};
@@ -11,7 +13,7 @@ ghost use Rattle.stream.specs.Stream.{StreamAt, Streams};
 ghost use Rattle.hash_join.specs.Hash.{sides, hash_sides, hash_cell, JoinAt, Rewrites, Writes};
 
 // The columns of a hash join.
-#[derive(Drop)]
+#[derive(Clone, Copy)]
 enum HashColumns {
     Pair(column_numbers::LeftColumn, column_numbers::RightColumn),
     None,
@@ -88,7 +90,7 @@ fn over_columns(x: &[u32], lo: usize, hi: usize, tables: &[u8], m: usize, n: usi
 }
 
 // A node that is written up to the word `end`, and how many columns it has.
-#[derive(Drop)]
+#[derive(Clone, Copy)]
 struct Written {
     pub end: usize,
     pub columns: usize,

@@ -1,4 +1,6 @@
 // The double nearest to an integer, and the one nearest to a double's square root, ties to even, worked out from bits.
+#![tactic(auto)]
+
 ghost use Rattle.std.specs.Prelude.{◌≡◌, ◌+◌, ◌*◌, ◌^◌, ◌<◌, nat_abs};
 ghost use Rattle.ieee754.specs.Ieee754.{one, units, Nearest, nearest_root, square_root_bits, Is, of_integer};
 ghost use Rattle.ieee754.specs.Converted.{Converted};

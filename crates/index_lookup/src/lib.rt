@@ -1,4 +1,6 @@
 // optimizer.rs, IndexLookup, as plan.rs's transform applies it: the plan is read in one slice, and what becomes of it is written to another (crate stream).
+#![tactic(auto)]
+
 ghost use Rattle.std.specs.Prelude.{◌≡◌, ◌-◌, ◌<◌, length};
 ghost use Rattle.sql.specs.Room.{IndexLookup};
 ghost use Rattle.stream.specs.Stream.{StreamAt, Streams};

@@ -1,4 +1,6 @@
 // optimizer.rs, is_empty of short_circuit: whether a node in its working form can't produce anything.
+#![tactic(auto)]
+
 ghost use Rattle.std.specs.Prelude.{◌≡◌};
 ghost use Rattle.cells.specs.Cells.{tag_at};
 ghost use Rattle.words.specs.Place.{NodeAt};

@@ -1,4 +1,6 @@
 // plan.rs, column_label: the label of a column of a node in its working form, traced through the plan.
+#![tactic(auto)]
+
 ghost use Rattle.std.specs.Prelude.{◌⊎◌, ◌&&◌, ◌≡◌, ◌≤◌, eqb};
 ghost use Rattle.sql.specs.Plan;
 ghost use Rattle.cells.specs.Cells.{tag_at, start_at};
@@ -10,7 +12,7 @@ ghost use Rattle.records.specs.Records.{RecordsAt};
 ghost use Rattle.labels.specs.Labels.{Labelled, ExpressionRoute, ExpressionEnds, ItemRoute, ItemEnds, RemapRoute, TargetsUp, Routes, alias_if, is_aliased, says_columns, LeafTraced, AskedCount, CountedAt, LeftColumns, Steps, Traces};
 
 // The label of a column: none, a name, or a name behind its qualifier, a table's name or alias; all are text references.
-#[derive(Drop)]
+#[derive(Clone, Copy)]
 pub enum Label {
     Unlabelled,
     Unqualified(u32),
@@ -18,21 +20,21 @@ pub enum Label {
 }
 
 // Where a node has the label of a column from: a column of its source, or what it says itself.
-#[derive(Drop)]
+#[derive(Clone, Copy)]
 pub enum Route {
     To(usize),
     Ends(Label),
 }
 
 // What a label comes from: a node that says it; or a table's column: the table, whether there is an alias, the alias, and the column.
-#[derive(Drop)]
+#[derive(Clone, Copy)]
 pub enum Traced {
     Said(Label),
     Column(usize, bool, u32, usize),
 }
 
 // A column of the node from lo to hi, which has so many columns; their number is right where they are those of its sources, and isn't asked for elsewhere.
-#[derive(Drop)]
+#[derive(Clone, Copy)]
 pub struct Spot {
     pub lo: usize,
     pub hi: usize,
@@ -41,7 +43,7 @@ pub struct Spot {
 }
 
 // One step of looking for a label: it is found, or it is that of another column.
-#[derive(Drop)]
+#[derive(Clone, Copy)]
 pub enum Next {
     Done(Traced),
     More(Spot),

@@ -1,5 +1,7 @@
 // A sheet's bytes read and checked where they lie: refusals 2 to 7 of document 01, each the answer that the definitions of crate `sheet` give.
 // Bytes, halves and words are read as `usize`: they are positions, counts and amounts, and a sum of two of them doesn't wrap.
+#![tactic(auto)]
+
 ghost use Rattle.std.specs.Prelude.{◌≡◌, Bool, true, false, ◌&&◌, ℕ, ◌+◌, ◌-◌, ◌*◌, ◌≤◌, ◌<◌, length};
 ghost use Rattle.sheet.specs.Bytes.{byte, half, word};
 ghost use Rattle.sheet.specs.Parts.{length_ok, edition_ok, records_ok, parts_ok, table_count, column_count, cell_count, columns_before, table_ok, bad_record};
@@ -137,14 +139,14 @@ pub fn parts_ok(s: &[u8]) -> bool
 }
 
 // Where a part of a sheet starts, and how many records it has.
-#[derive(Drop)]
+#[derive(Clone, Copy)]
 pub struct Part {
     pub at: usize,
     pub count: usize,
 }
 
 // The parts behind the text. The text is what stands before the tables, so its length is `tables.at`.
-#[derive(Drop)]
+#[derive(Clone, Copy)]
 pub struct Parts {
     pub tables: Part,
     pub columns: Part,
@@ -178,7 +180,7 @@ pub fn parts_of(s: &[u8]) -> Parts
 // ---- records
 
 // The number of a record or a cell that breaks its layout.
-#[derive(Drop)]
+#[derive(Clone, Copy)]
 pub enum Found {
     At(usize),
     Nothing,
@@ -199,7 +201,7 @@ pub fn inside(text: usize, r: usize) -> bool
 }
 
 // A table record: its name, its range of columns and its key, which counts in that range.
-#[derive(Drop)]
+#[derive(Clone, Copy)]
 pub struct Table {
     pub name: usize,
     pub first: usize,
@@ -254,7 +256,7 @@ fn table_ok(s: &[u8], p: Parts, i: usize) -> bool
 }
 
 // A column record: its name, its kind and its index mark.
-#[derive(Drop)]
+#[derive(Clone, Copy)]
 pub struct Column {
     pub name: usize,
     pub kind: usize,
@@ -337,7 +339,7 @@ pub fn bad_record(s: &[u8]) -> Found
 // ---- cells
 
 // A cell: tag, flag, origin, and the numbers a, b, c.
-#[derive(Drop)]
+#[derive(Clone, Copy)]
 pub struct Cell {
     pub tag: u32,
     pub flag: usize,

@@ -21,9 +21,11 @@ use Rattle.sheet_laws.specs.Accepted.{accepted}
 use Rattle.sheet_laws.specs.Content.{and_left, and_right}
 use Rattle.sheet_laws.specs.Plan.{Bytes}
 use Rattle.room.specs.Done.{after}
-use Rattle.sound.specs.Refusals.{RefusedBy, FromTo, refused_then, refused_weaker, plan_refused, optimize_refused}
-use Rattle.sound.specs.HandedOut.{optimize_handed_out}
-use Rattle.sound.specs.Operations.{sheet_of, all_five_sound}
+use Rattle.sound.specs.Refusals.{RefusedBy, FromTo}
+use Rattle.sound.proofs.Refusals.{refused_then, refused_weaker, plan_refused, optimize_refused}
+use Rattle.sound.proofs.HandedOut.{optimize_handed_out}
+use Rattle.sound.specs.Operations.{sheet_of}
+use Rattle.sound.proofs.Operations.{all_five_sound}
 use Rattle.layout.specs.Layout.{Whole}
 use Rattle.cells.specs.Room.{Wrote}
 use Rattle.cells.proofs.Laws.{fits_to}

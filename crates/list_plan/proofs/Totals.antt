@@ -11,10 +11,13 @@ use Rattle.sheet.specs.Check.{Numbers, plan, check, checked}
 use Rattle.sheet.specs.Operations.{all_five}
 use Rattle.sheet.specs.Listing.{listing}
 use Rattle.sheet_laws.specs.Accepted.{accepted}
-use Rattle.sheet_laws.specs.Plan.{Bytes, parts_of}
+use Rattle.sheet_laws.specs.Plan.{Bytes}
+use Rattle.sheet_laws.proofs.Plan.{parts_of}
 use Rattle.sheet_laws.specs.Tags.{tags_small}
-use Rattle.sound.specs.Refusals.{RefusedBy, FromTo, plan_refused}
-use Rattle.sound.specs.Operations.{sheet_of, all_five_sound}
+use Rattle.sound.specs.Refusals.{RefusedBy, FromTo}
+use Rattle.sound.proofs.Refusals.{plan_refused}
+use Rattle.sound.specs.Operations.{sheet_of}
+use Rattle.sound.proofs.Operations.{all_five_sound}
 use Rattle.listing.specs.ReadBack.{TotalsRight}
 use Rattle.listing.proofs.ReadBack.{totals_right}
 use Rattle.list_plan.specs.Listed.{blank, listed}

@@ -1,4 +1,6 @@
 // From the bytes of a sheet to the lines that the listing program prints: all five passes, and the listing of what they hand out, or the refusal's line.
+#![tactic(auto)]
+
 ghost use Rattle.std.specs.Prelude.{◌≤◌, length};
 ghost use Rattle.list_plan.specs.Listed.{Lines};
 

@@ -1,5 +1,7 @@
 // The listing of a sheet, as bytes in a lent slice: a header line, a line for each cell, and a line of totals, in unsigned decimal. What has no room ends past
 // the end of the slice (crate cells).
+#![tactic(auto)]
+
 ghost use Rattle.std.specs.Prelude.{◌≡◌, [], ◌∷◌, ◌++◌, ◌+◌, ◌*◌, ◌≤◌, ◌<◌, length};
 ghost use Rattle.sheet.specs.Check.{cells_of};
 ghost use Rattle.layout.specs.Layout.{Whole, as_cell};
@@ -103,7 +105,7 @@ fn header(cells: usize, bytes: usize, columns: usize, d: &mut [u8], at: usize) -
 }
 
 // How many cells there are of each kind.
-#[derive(Drop)]
+#[derive(Clone, Copy)]
 pub struct Kinds {
     pub expressions: usize,
     pub parts: usize,

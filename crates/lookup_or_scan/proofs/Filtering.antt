@@ -63,7 +63,7 @@ module _ (new : ℕ) {y₀ y y₁ : List ℕ} {at n end : ℕ} (p : Node) (k : l
 
 -- ---- the conjuncts that remain
 
-module _ (new : ℕ) {marks : List Bool} {w : List ℕ} {m : ℕ} {y : List ℕ} {n : ℕ} {q : Rest} {y₁ : List ℕ} (k₁ : length y₁ ≡ length y) (l : Leaves new marks false w 0 m y n n q y₁) where
+module _ (new : ℕ) (marks : List Bool) {w : List ℕ} {m : ℕ} {y : List ℕ} {n : ℕ} {q : Rest} {y₁ : List ℕ} (k₁ : length y₁ ≡ length y) (l : Leaves new marks false w 0 m y n n q y₁) where
   remained : (schema : Schema) (t : ℕ) → Marks schema t marks → (e : Expression) → ExpressionHere w 0 m e → (f : Found) → find_lookup schema t (ands e) ≡ some f
       → Wrote y n (optional_words (and_vec new f.remaining)) q.at y₁
   remained schema t mk e u f z =

@@ -1,5 +1,7 @@
 // optimizer.rs, index_lookup, of one Scan with a filter whose conjunctive normal form is known: the first conjunct that looks up a column with an index
 // becomes a lookup, and the others a Filter over it. Where there is none, the Scan stays as it was.
+#![tactic(auto)]
+
 ghost use Rattle.std.specs.Prelude.{◌≡◌, ◌≤◌, ◌<◌, length};
 ghost use Rattle.cells.specs.Room.{most_words};
 ghost use Rattle.words.specs.Place.{ExpressionAt};

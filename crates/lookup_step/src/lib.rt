@@ -1,5 +1,7 @@
 // optimizer.rs, index_lookup, as a step of the streamed pass (crate stream): a Scan whose filter has a conjunct that looks up a column with an index, or the
 // primary key, becomes a lookup. tables and columns are the schema's records (crate records).
+#![tactic(auto)]
+
 ghost use Rattle.std.specs.Prelude.{◌≡◌, ◌-◌, ◌≤◌, ◌<◌, length};
 ghost use Rattle.sql.specs.Room.{IndexLookup};
 ghost use Rattle.cells.specs.Room.{most_words};

@@ -37,14 +37,14 @@ module _ (t : ℕ) {s : List ℕ} where
       let z : m ≡ suc n = omega arith in
       rw (y, z) (last_cell e u n)
 
-  cells_among : {lo hi : ℕ} (e : Expression) → ExpressionHere s lo hi e → (n m : ℕ) → m ≡ size e + n → among t m s lo ≡ (contains_tag t e || among t n s hi)
+  cells_among : (e : Expression) {lo hi : ℕ} → ExpressionHere s lo hi e → (n m : ℕ) → m ≡ size e + n → among t m s lo ≡ (contains_tag t e || among t n s hi)
   cells_among (constant og v) u n m q = leaf_among (constant og v) u refl n m q
   cells_among (column og i) u n m q = leaf_among (column og i) u refl n m q
-  cells_among {lo} {hi} (unary og o x) u n m q =
+  cells_among (unary og o x) {lo} {hi} u n m q =
       cells_among x (here_operand og o x u) (suc n) m (omega arith)
       ∙ ap (λ (b : Bool). contains_tag t x || b) (last_cell (unary og o x) u n)
       ∙ sym (or_assoc (contains_tag t x) (eqb (unary_tag o) t) (among t n s hi))
-  cells_among {lo} {hi} (binary og o l r) u n m q =
+  cells_among (binary og o l r) {lo} {hi} u n m q =
       cells_among l (here_left refl og o l r u) (size r + suc n) m (omega arith)
       ∙ ap (λ (b : Bool). contains_tag t l || b)
       (cells_among r (here_right refl og o l r u) (suc n) (size r + suc n) refl

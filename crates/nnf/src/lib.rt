@@ -1,5 +1,7 @@
 // expression.rs, into_nnf: an expression in its working form is read from one slice, and its negation normal form appended to another. The result is
 // written directly, so that its size alone counts for room. Most predicates hold no Not, and are their own normal form: one pass over the cells tells.
+#![tactic(auto)]
+
 ghost use Rattle.std.specs.Prelude.{◌⊎◌, ◌≡◌, ℕ, ◌+◌, ◌-◌, ◌≤◌, ◌<◌, length};
 ghost use Rattle.sql.specs.Expression.{into_nnf, into_nnf_not, into_nnf_operands};
 ghost use Rattle.cells.specs.Cells.{tag_at};

@@ -1,5 +1,7 @@
 // What refusal 9 of document 01 asks of one node, and the node's number of columns. A node's own cells are those of its expressions and parts: they stand
 // between the node before it and its own cell.
+#![tactic(auto)]
+
 ghost use Rattle.std.specs.Prelude.{◌≡◌, ◌+◌, ◌≤◌, ◌<◌, max};
 ghost use Rattle.sheet.specs.Cell.{cell};
 ghost use Rattle.sheet.specs.Scope.{table_columns};

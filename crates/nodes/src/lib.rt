@@ -1,4 +1,6 @@
 // Nodes in their working form: where the sources and the parts of a node stand, and what columns it emits.
+#![tactic(auto)]
+
 ghost use Rattle.std.specs.Prelude.{◌⊎◌, ◌≡◌, ℕ, ◌+◌, ◌-◌, ◌≤◌, ◌<◌, max};
 ghost use Rattle.cells.specs.Cells.{tag_at};
 ghost use Rattle.words.specs.Place.{NodeAt};

@@ -12,8 +12,10 @@ use Rattle.sql.specs.Room
 use Rattle.sheet.specs.Check.{Numbers, refusal, schema, plan, check, checked}
 use Rattle.sheet.specs.Operations.{Outcome, refuse, hand_out, one_pass, all_five}
 use Rattle.sheet_laws.specs.Accepted.{accepted}
-use Rattle.sheet_laws.specs.Plan.{Bytes, parts_of, plan_size}
-use Rattle.sound.specs.Refusals.{RefusedBy, FromTo, plan_refused}
+use Rattle.sheet_laws.specs.Plan.{Bytes}
+use Rattle.sheet_laws.proofs.Plan.{parts_of, plan_size}
+use Rattle.sound.specs.Refusals.{RefusedBy, FromTo}
+use Rattle.sound.proofs.Refusals.{plan_refused}
 use Rattle.checker.specs.Checker.{numbers, outcome}
 use Rattle.checker.specs.declared.Answer as Code
 use Rattle.hand_out.specs.HandOut.{Counted}

@@ -1,5 +1,7 @@
 // The operations that hand out a sheet, one pass and all five, on any bytes. Most plans are small, and buffers take time to clear: small ones that hold the
 // plan are tried first, and what is refused there for want of room, by 14, is run again in larger ones, up to document 01's 2,048 cells.
+#![tactic(auto)]
+
 ghost use Rattle.std.specs.Prelude.{◌≡◌, ◌≤◌};
 ghost use Rattle.sheet.specs.Operations.{one_pass, all_five};
 ghost use Rattle.checker.specs.Checker.{outcome};

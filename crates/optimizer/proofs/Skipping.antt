@@ -18,7 +18,7 @@ use Rattle.kept.specs.Kept.{Kept}
 use Rattle.fold_operator.specs.declared.Folded.{Folded}
 use Rattle.passes.specs.Passes.{PlanIn, PlanAt, Leaves, Runs}
 use Rattle.predicates.specs.Predicates.{HasPredicate}
-use Rattle.predicates.specs.Idle.{push_idle, lookup_idle, hash_idle}
+use Rattle.predicates.proofs.Idle.{push_idle, lookup_idle, hash_idle}
 use Rattle.optimizer.specs.Settled.{from_pushdown, from_lookup, from_hash}
 
 pub plan_there : {G : Schema → List ℕ → Type 0} {x : List ℕ} {t : ℕ} → PlanAt G x t → NodeAt x 0 t

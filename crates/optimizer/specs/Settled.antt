@@ -8,7 +8,8 @@ use Rattle.sql.specs.Optimizer.{ConstantFolding, Optimizer, in_turn}
 use Rattle.sql.specs.Optimizer as Optimizer
 use Rattle.sql.specs.Room
 use Rattle.room.specs.Larger.{pass_larger, optimize_larger}
-use Rattle.sound.specs.Refusals.{RefusedBy, refused_then, pushdown_refused, lookup_refused, circuit_refused}
+use Rattle.sound.specs.Refusals.{RefusedBy}
+use Rattle.sound.proofs.Refusals.{refused_then, pushdown_refused, lookup_refused, circuit_refused}
 
 -- not refused by 14
 abbrev pub Settled : Answer Node → Type 0

@@ -1,4 +1,6 @@
 // optimizer.rs, OPTIMIZERS: one pass by its number, and the five in turn, on plans in their working form (crate passes).
+#![tactic(auto)]
+
 ghost use Rattle.std.specs.Prelude.{◌≡◌, ◌≤◌, length};
 ghost use Rattle.sql.specs.Optimizer.{in_turn};
 ghost use Rattle.sql.specs.Room;
@@ -125,7 +127,7 @@ pub fn optimize(
 }
 
 // Which passes: one by its number, or all five.
-#[derive(Drop)]
+#[derive(Clone, Copy)]
 pub enum Chosen {
     One(usize),
     All,

@@ -1,4 +1,4 @@
--- The passes carry origins and don't read or make them. Proved in Proof.antt, as `passes_commute`, `five_commute`, `passes_keep` and `five_keep`.
+-- The passes carry origins and don't read or make them. Proved in proofs/Proved.antt, as `passes_commute`, `five_commute`, `passes_keep` and `five_keep`.
 use Rattle.std.specs.Prelude.{ℕ, ◌≡◌}
 use Rattle.sql.specs.Schema.{Schema}
 use Rattle.sql.specs.Plan.{Node}

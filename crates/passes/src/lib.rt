@@ -1,6 +1,8 @@
 // The five optimizers of optimizer.rs on plans in their working form, under one contract: the plan is the first t words of x, and what becomes of it is left in
 // the first words of y, or refused. x, y, z and w have the same length, seven words for each cell that there is room for. What the schema says is lent in
 // its records (crate records).
+#![tactic(auto)]
+
 ghost use Rattle.std.specs.Prelude.{◌≡◌, length};
 ghost use Rattle.sql.specs.Answer.{done};
 ghost use Rattle.sql.specs.Optimizer as Optimizer;

@@ -1,3 +1,2 @@
 pub mod Predicates
-pub mod Idle
 pub mod Examples

@@ -1,5 +1,7 @@
 // Whether a plan has a predicate at all: a Filter, a Scan with a filter, or a NestedLoopJoin with a predicate. FilterPushdown, IndexLookup and HashJoin look for
 // nothing else, and leave a plan without one as it is: one look at each cell's tag and flag is less than three walks over the plan and its copies.
+#![tactic(auto)]
+
 ghost use Rattle.std.specs.Prelude.{◌≡◌, ◌&&◌, ◌||◌, ◌%◌, eqb};
 ghost use Rattle.sheet.specs.Tags;
 ghost use Rattle.words.specs.Place.{NodeAt};

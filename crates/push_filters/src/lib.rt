@@ -5,6 +5,8 @@
 // A run of Filters can be as long as the plan. So a Filter that is merged into one is only gathered: its predicate is the first `at` words of y, its source
 // ends at `end` in x, and the words from there up to t - tail are gone once it is placed. With at = 0 nothing is gathered, and the node is no Filter. `origin`
 // is the origin of the Filter that is gathered, which is that of the lowest one in it; each And has that of the upper Filter, the one that is merged.
+#![tactic(auto)]
+
 ghost use Rattle.std.specs.Prelude.{◌≡◌, ◌+◌, ◌≤◌, length};
 ghost use Rattle.sql.specs.Room;
 ghost use Rattle.kept.specs.Pass.{PassAt, Passes};

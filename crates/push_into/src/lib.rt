@@ -1,5 +1,7 @@
 // optimizer.rs, push_into: a predicate goes into a node that can take one, before the predicate that the node has. The plan is edited in place (crate edit):
 // only the words that change are written.
+#![tactic(auto)]
+
 ghost use Rattle.std.specs.Prelude.{◌≡◌, ◌+◌, ◌≤◌, length};
 ghost use Rattle.words.specs.Place.{NodeAt};
 ghost use Rattle.push_into.specs.Push.{Takes, TakerAt, PredicateWritten, Pushes, PushesInPlace};

@@ -20,13 +20,15 @@ use Rattle.sheet.specs.Cell.{Cell}
 use Rattle.sheet.specs.Content.{Content, cell_of, marked, constant_cell, column_cell, unary_cell, binary_cell, label_cell, item_cell, key_cell, target_cell, agg_cell, row_cell, aggregate_cell, filter_cell, hash_join_cell, index_lookup_cell, key_lookup_cell, limit_cell, offset_cell, nested_loop_join_cell, nothing_cell, order_cell, projection_cell, remap_cell, scan_cell, values_cell}
 use Rattle.sheet.specs.Cells.{present}
 use Rattle.sheet_laws.specs.Fits.{All, Optional}
-use Rattle.sheet_laws.specs.Counts.{most_columns, all_map}
+use Rattle.sheet_laws.specs.Counts.{most_columns}
+use Rattle.sheet_laws.proofs.Counts.{all_map}
 use Rattle.sound.specs.Lists.{all_append, all_both, map_of, optional_map}
 use Rattle.sound.specs.Expressions.{MadeOf, moved, weaker, nnf, distributed, ands_of, and_vec_of, pair_of}
 use Rattle.sound.specs.Columns.{Right, shifted_down}
 use Rattle.sound.specs.Sound.{Fitting, Sound, Emits}
 use Rattle.sound.specs.Widest.{sound_few}
-use Rattle.sound.specs.Numbers.{NumbersBelow, optional_below, sound_below}
+use Rattle.sound.specs.Numbers.{NumbersBelow}
+use Rattle.sound.proofs.Numbers.{optional_below, sound_below}
 use Rattle.sound.specs.Pushdown.{Across, left_of, right_of, across_of, push_left_of, push_right_of, part_keeps, split_keeps}
 use Rattle.cells.specs.declared.Cell as Word
 use Rattle.cells.specs.Cells.{cell_words, Part}

@@ -1,5 +1,7 @@
 // optimizer.rs, maybe_push_join: one split of a join's predicate (crate split_join), as a step of a pass. The plan is edited in place (crate edit): it stands in
 // the first t words of x, the node from lo up to t - tail.
+#![tactic(auto)]
+
 ghost use Rattle.std.specs.Prelude.{◌≡◌, length};
 ghost use Rattle.sql.specs.Room;
 ghost use Rattle.words.specs.Place.{NodeAt};

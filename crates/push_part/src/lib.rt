@@ -1,6 +1,8 @@
 // optimizer.rs, maybe_push_join: one of a join's sources with the part of the predicate that is for it, and what comes back from a source that takes none. The
 // predicate's normal form stands in a slice of its own, `cnf`, up to word `end`; the conjuncts for the other source are gathered into the lent slice g. Each And
 // that is put together here has the origin that is given, the join's.
+#![tactic(auto)]
+
 ghost use Rattle.std.specs.Prelude.{◌≡◌, length};
 ghost use Rattle.words.specs.Place.{ExpressionAt, NodeAt};
 ghost use Rattle.nodes.specs.Own.{OwnStart};

@@ -1,4 +1,6 @@
 // Tables as a sheet has them, in records of 16 bytes each: the passes are lent the records as they stand, and read what they ask for.
+#![tactic(auto)]
+
 ghost use Rattle.std.specs.Prelude.{◌≡◌, ◌≤◌};
 ghost use Rattle.layout.specs.Layout.{Number};
 ghost use Rattle.records.specs.Records as Records;

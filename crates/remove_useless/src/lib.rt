@@ -1,5 +1,7 @@
 // optimizer.rs, the first part of short_circuit: what is always true, or changes nothing, is removed from a node. The node stands in y from lo to hi, and
 // what becomes of it stands there from lo to the number that is handed back.
+#![tactic(auto)]
+
 ghost use Rattle.std.specs.Prelude.{◌&&◌, ◌≡◌};
 ghost use Rattle.cells.specs.Cells.{tag_at};
 ghost use Rattle.words.specs.Place.{NodeAt};

@@ -63,7 +63,7 @@ read_join false f n left right = keep_each f (joined_rows left right)
 read_join true f n left right = outer_rows f n left right
 
 -- ---- A lookup takes a row if a listed constant is Null and so is the row's value, both are NaN, or the two are found equal, which is where Equal is true
--- (Lookups.antt). It never fails.
+-- (proofs/Lookups.antt). It never fails.
 
 abbrev pub is_null_value : Value → Bool
 is_null_value (truth t) = is_unknown t

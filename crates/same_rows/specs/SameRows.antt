@@ -1,4 +1,4 @@
--- Point 3: the passes change no row. Proved in Proof.antt as `same_rows`; crate theorems states it from bytes to rows, and has a sheet and tables that meet it.
+-- Point 3: the passes change no row. Proved in proofs/Proved.antt as `same_rows`; crate theorems states it from bytes to rows, and has a sheet and tables that meet it.
 --
 -- Document 01                                                        here
 -- tables as wide as declared, with figures of any kind               database: its tables

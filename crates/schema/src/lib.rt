@@ -1,4 +1,6 @@
 // schema.rs: tables and columns, read from the records of a sheet; and the records themselves, which the passes are lent (crate records).
+#![tactic(auto)]
+
 ghost use Rattle.std.specs.Prelude.{◌≡◌, ◌<◌};
 ghost use Rattle.sheet.specs.Parts.{table_count, column_count, kind_of};
 ghost use Rattle.sheet.specs.Check as Sheet;
@@ -42,7 +44,7 @@ pub fn column_records<'a>(s: &'a [u8]) -> &'a [u8]
 // ---- one record, by schema.rs's fields: for who asks for one. The passes are lent the records.
 
 // The kinds of columns, the Rust's DataType.
-#[derive(Drop)]
+#[derive(Clone, Copy)]
 pub enum Kind {
     Boolean,
     Integer,

@@ -10,8 +10,9 @@ use Rattle.sheet.specs.Cells.{cells}
 use Rattle.sheet.specs.Tree.{node_tree, stack, read}
 use Rattle.sheet.specs.Check.{text, schema, cells_of}
 use Rattle.sheet_laws.specs.Fits.{Each, ExactCell}
-use Rattle.sheet_laws.specs.Reading.{sound, read_runs}
-use Rattle.sheet_laws.specs.Plan.{Bytes, cells_pass}
+use Rattle.sheet_laws.proofs.Reading.{sound, read_runs}
+use Rattle.sheet_laws.specs.Plan.{Bytes}
+use Rattle.sheet_laws.proofs.Plan.{cells_pass}
 use Rattle.scope.specs.declared.Scope.{Scope}
 use Rattle.scope.specs.Scope.{Judges}
 use Rattle.scope.proofs.Node.{Indexed}

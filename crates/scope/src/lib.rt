@@ -1,5 +1,7 @@
 // Refusal 9 of document 01: a plan's columns are in scope. The cells are walked once, from the first to the last. A node's own cells are looked at when the
 // node's cell is met, since only then it is known which sources it has. Each cell belongs to one node's own cells, so the work is linear in the sheet.
+#![tactic(auto)]
+
 ghost use Rattle.std.specs.Prelude.{◌≡◌, ◌≤◌, length};
 ghost use Rattle.sheet.specs.Parts.{cell_count};
 ghost use Rattle.layout.specs.Layout.{Whole};
@@ -9,7 +11,7 @@ use layout::{Found, cell_at, parts_of};
 use node_scope::{columns_read, node_columns, node_outside, sources};
 
 // What the scope check of a plan says: the lowest cell out of scope, or the plan's number of columns.
-#[derive(Drop)]
+#[derive(Clone, Copy)]
 pub enum Scope {
     Outside(usize),
     Within(usize),

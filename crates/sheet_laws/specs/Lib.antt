@@ -3,13 +3,11 @@ pub mod Fits
 pub mod Content
 pub mod Reading
 pub mod Exact
-pub mod Complete
 pub mod Counts
 pub mod Accepted
 pub mod Layout
 pub mod Plan
 pub mod Bytes
-pub mod Same
 pub mod Handed
 pub mod Widest
 pub mod Examples

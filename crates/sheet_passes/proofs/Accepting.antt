@@ -10,10 +10,11 @@ use Rattle.sheet.specs.Parts.{table_count}
 use Rattle.sheet.specs.Cell.{origins}
 use Rattle.sheet.specs.Check.{text, schema, cells_of, plan}
 use Rattle.sheet_laws.specs.Accepted.{accepted}
-use Rattle.sheet_laws.specs.Plan.{Bytes, parts_of, text_length, plan_cells, plan_fits, plan_origins, origins_some}
+use Rattle.sheet_laws.specs.Plan.{Bytes}
+use Rattle.sheet_laws.proofs.Plan.{parts_of, text_length, plan_cells, plan_fits, plan_origins, origins_some}
 use Rattle.sheet_laws.specs.Fits.{OriginsBelow}
 use Rattle.origins.specs.Origins.{map_node_origins}
-use Rattle.origins.specs.Proof.{passes_keep, five_keep}
+use Rattle.origins.proofs.Proved.{passes_keep, five_keep}
 use Rattle.sound.specs.Origins.{below_left, left_below}
 use Rattle.sound.specs.Sound.{Sound}
 use Rattle.sound.specs.HandedOut.{names_inside}

@@ -1,4 +1,6 @@
 // The chosen passes on a sheet that is accepted: from bytes to words, the passes, and to bytes again. The buffers x, y, z and w are lent.
+#![tactic(auto)]
+
 ghost use Rattle.optimizer.specs.Choices.{Choice};
 ghost use Rattle.hand_out.specs.HandOut.{Counted};
 ghost use Rattle.sheet_passes.specs.SheetPasses.{RunAt, RunsOn};

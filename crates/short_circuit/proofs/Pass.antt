@@ -15,7 +15,7 @@ use Rattle.sql.specs.Plan.{Leaf, scan, Over, Join, Node, leaf, over, join, over_
 use Rattle.sql.specs.Answer.{done, ◌>>=◌}
 use Rattle.sql.specs.Optimizer as Optimizer
 use Rattle.sql.specs.Room.{if_room, short_circuit, ShortCircuit}
-use Rattle.sheet_laws.specs.Counts.{size_positive}
+use Rattle.sheet_laws.proofs.Counts.{size_positive}
 use Rattle.sound.specs.Sound.{Named}
 use Rattle.sound.specs.Keeps.{keeps_next}
 use Rattle.sound.specs.Circuit.{one_keeps}
@@ -52,7 +52,7 @@ fitted_step {room = room} {rest = rest} q i s k a =
     (lt_or_ge room (rest + node_size q))
 
 -- The node q, in whose place p was, has been written.
-module _ {records columns' : List ℕ} {schema : Schema} {text : List ℕ} {tables : ℕ} (g : Records records columns' schema)
+module _ {records columns' : List ℕ} {schema : Schema} (text : List ℕ) {tables : ℕ} (g : Records records columns' schema)
     {y : List ℕ} {at tail v : ℕ} {y₁ : List ℕ} (p q : Node) (h : at ≤ length y) (k : length y₁ ≡ length y)
     (s : Streamed (Kept schema text tables p) y at tail v y₁ (done q)) where
   pub written_at : length y ≤ most_words → ColumnsAt records y₁ at v
@@ -126,7 +126,7 @@ module _ {records columns' x : List ℕ} {lo hi tail : ℕ} {y : List ℕ} {at :
   ready : {v : ℕ} {y₁ : List ℕ} (p q : Node) → at ≤ length y → length y₁ ≡ length y
       → Streamed (Kept d.stream.schema d.stream.text d.stream.tables p) y at tail v y₁ (done q)
       → ColumnsAt records y₁ at v × ((v + tail ≤ length y₁) × (length y₁ ≤ most_words))
-  ready p q h k s = (written_at d.stream.lent p q h k s d.stream.short_out, (s.is.0, omega (arith, d.stream.short_out)))
+  ready p q h k s = (written_at d.stream.text d.stream.lent p q h k s d.stream.short_out, (s.is.0, omega (arith, d.stream.short_out)))
 
   pub leaf_ready : SourceCount x lo hi 0 → {v : ℕ} {y₁ : List ℕ} → length y₁ ≡ length y → Copies x lo hi y at v y₁
       → ColumnsAt records y₁ at v × ((v + tail ≤ length y₁) × (length y₁ ≤ most_words))
@@ -191,7 +191,7 @@ module _ {records columns' x : List ℕ} {lo hi tail : ℕ} {y : List ℕ} {at :
   unfolding ShortCircuit
   leaf_circuits c {v} {y₁} k a {n} {y₂} k₂ f schema text tables g named room rest p h =
       by_leaf (λ p. Reading schema text tables x lo hi tail y at room rest p → Streamed (Kept schema text tables p) y at tail n y₂ (ShortCircuit room schema rest p))
-      (λ og l h. written_next g (leaf og l) (leaf og l) (omega (arith, h.fits)) k (copied_done (leaf og l) h k a) named k₂ h.shares f) p (sym (c p h.here)) h
+      (λ og l h. written_next text g (leaf og l) (leaf og l) (omega (arith, h.fits)) k (copied_done (leaf og l) h k a) named k₂ h.shares f) p (sym (c p h.here)) h
 
   -- a Scan without a filter stays as it is
   pub scan_circuits : hi - lo ≡ cell_words → tag_at x hi ≡ 62 → {n : ℕ} {y₁ : List ℕ} → length y₁ ≡ length y → Copies x lo hi y at n y₁ → Circuits records columns' x lo hi tail y at n y₁
@@ -223,7 +223,7 @@ module _ {records columns' x : List ℕ} {lo hi tail : ℕ} {y : List ℕ} {at :
         by_over (λ p. Reading schema text tables x lo hi tail y at room rest p → Streamed (Kept schema text tables p) y at tail n y₃ (ShortCircuit room schema rest p))
         (λ og o i h. streamed_go (ShortCircuit room schema (rest + over_size o) i) (a schema text tables g named room (rest + over_size o) i (source_reading own og o i h))
         (λ q. short_circuit room schema rest (over og o q)) z
-        (λ q s. written_next g (over og o i) (over og o q) (omega (arith, h.fits)) (k₂ ∙ k₁) (over_done own og o i h k₁ q s k₂ e) named k₃ h.shares f))
+        (λ q s. written_next text g (over og o i) (over og o q) (omega (arith, h.fits)) (k₂ ∙ k₁) (over_done own og o i h k₁ q s k₂ e) named k₃ h.shares f))
         p (sym (c p h.here)) h
 
   module _ (c : SourceCount x lo hi 2) {m : ℕ} (own : OwnStart x lo hi m) {mid : ℕ} (st : mid ≡ start_at x m) {u : ℕ} {y₁ : List ℕ}
@@ -265,7 +265,7 @@ module _ {records columns' x : List ℕ} {lo hi tail : ℕ} {y : List ℕ} {at :
       join_circuits k₂ i k₃ e k₄ f schema text tables g named room rest p h =
           left_went schema text tables g named room rest
           (λ og outer j l r h p s t. streamed_go (ShortCircuit room schema (rest + (node_size p + join_size j)) r) t (λ q. short_circuit room schema rest (join og outer j p q)) i
-          (λ q t. written_next g (join og outer j l r) (join og outer j p q) (omega (arith, h.fits)) (k₃ ∙ k₂ ∙ k₁)
+          (λ q t. written_next text g (join og outer j l r) (join og outer j p q) (omega (arith, h.fits)) (k₃ ∙ k₂ ∙ k₁)
           (join_done own st og outer j l r h k₁ p s k₂ q t k₃ e) named k₄ h.shares f)) p h
 
 -- ---- bounds

@@ -1,5 +1,7 @@
 // optimizer.rs, pass 5: ShortCircuit. The plan is read in x, and what becomes of it is written to y, sources before the node (crate stream). z is a
 // scratch for labels. tables and columns are the schema's records (crate records).
+#![tactic(auto)]
+
 ghost use Rattle.std.specs.Prelude.{◌≡◌, ◌+◌, ◌≤◌, length};
 ghost use Rattle.cells.specs.Room.{most_words};
 ghost use Rattle.nodes.specs.Columns.{ColumnsAt};

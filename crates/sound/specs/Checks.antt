@@ -10,7 +10,7 @@ use Rattle.sheet.specs.Content.{Content}
 use Rattle.sheet.specs.Scope.{first_of, unless, in_each, column_outside, optional_outside, expressions_outside, equally_long, table_columns, leaf_outside, over_outside, join_outside, outside, member, repeated, over_repeated, target_repeated}
 use Rattle.sheet_laws.specs.Fits.{All, Optional, EachExpression, EachItem, EachKey, EachAgg, EachRow, EachLeaf, EachOver, EachJoin, ContentFits, Fits}
 use Rattle.sheet_laws.specs.Content.{and_left, and_right, and_true}
-use Rattle.sheet_laws.specs.Counts.{first_of_none, unless_none, all_map}
+use Rattle.sheet_laws.proofs.Counts.{first_of_none, unless_none, all_map}
 use Rattle.sound.specs.Lists.{all_both}
 use Rattle.sound.specs.Columns.{none_outside}
 use Rattle.sound.specs.Sound.{Fitting, Within, RowOf, SoundLeaf, SoundOver, SoundJoin, Sound}

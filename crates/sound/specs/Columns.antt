@@ -6,7 +6,7 @@ use Rattle.value.specs.Value.{Value}
 use Rattle.sql.specs.Expression.{Expression, constant, column, unary, binary, size, map_columns, replace_column, shift_column_down, shift_column_up, is_column_lookup}
 use Rattle.sql.specs.Optimizer.{ref_left}
 use Rattle.sheet.specs.Scope.{first_of, unless, column_outside}
-use Rattle.sheet_laws.specs.Counts.{first_of_none, unless_none}
+use Rattle.sheet_laws.proofs.Counts.{first_of_none, unless_none}
 use Rattle.sound.specs.Expressions.{MadeOf, moved, without, replaced, only_lookup}
 
 -- a property of columns alone

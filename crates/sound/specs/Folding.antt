@@ -10,7 +10,7 @@ use Rattle.sql.specs.Answer.{Answer, done, refused, ◌>>=◌}
 use Rattle.sql.specs.Optimizer.{Operand, deciding, neutral, undetermined, operand, simplify_logical, simplify, fold_by, fold, fold_expression, fold_each, fold_optional, fold_row, fold_part, fold_leaf, fold_over, fold_join, ConstantFolding}
 use Rattle.sheet.specs.Scope.{table_columns}
 use Rattle.sheet_laws.specs.Fits.{All, Optional, LabelFits}
-use Rattle.sheet_laws.specs.Counts.{all_map}
+use Rattle.sheet_laws.proofs.Counts.{all_map}
 use Rattle.sound.specs.Answers.{valued_bind, Answered, answered_then, answered_place}
 use Rattle.sound.specs.Expressions.{MadeOf}
 use Rattle.sound.specs.Values.{evaluate_fits}

@@ -12,9 +12,9 @@ use Rattle.sheet.specs.Cell.{Cell}
 use Rattle.sheet.specs.Content.{Content, marked, unary_cell, binary_cell, item_cell, key_cell, agg_cell, filter_cell, row_cell, nothing_cell, order_cell, projection_cell, remap_cell, values_cell, aggregate_cell, scan_cell, nested_loop_join_cell}
 use Rattle.sheet.specs.Cells.{all_cells, alone, expression_cells, optional_cells, present, constant_cells, label_cells, target_cells, item_cells, key_cells, agg_cells, row_cells, lookup_content, leaf_cells, other_cells, over_cells, join_cells, cells}
 use Rattle.sheet_laws.specs.Fits.{All, OriginsBelow}
-use Rattle.sheet_laws.specs.Counts.{all_map}
+use Rattle.sheet_laws.proofs.Counts.{all_map}
 use Rattle.origins.specs.Origins.{map_origins, map_mark, map_row, map_part, map_aggregate, map_leaf, map_other, map_over, map_join, map_node_origins}
-use Rattle.origins.specs.Lists.{map_append}
+use Rattle.origins.proofs.Lists.{map_append}
 
 -- a cell with its origin put through a function
 abbrev pub remarked : (ℕ → ℕ) → Cell → Cell

@@ -12,7 +12,7 @@ use Rattle.sql.specs.Plan.{scan, lookup, nothing, values, filter, other, nested_
 use Rattle.sql.specs.Optimizer.{map_sources, and_with, push_into, pushed_or_back, push_part, ref_left, ref_right, for_left, for_right, for_both, equijoin, is_number, is_lookup_of, last_lookup, copied, copy_up, copy_down, flat_map, push_left, push_right, map_optional, split, go_on, maybe_push_join, maybe_push_filter, push_filters, push_filters_from, FilterPushdown}
 use Rattle.sheet_laws.specs.Fits.{All, Optional}
 use Rattle.sheet_laws.specs.Content.{and_left, and_right}
-use Rattle.sheet_laws.specs.Counts.{all_map}
+use Rattle.sheet_laws.proofs.Counts.{all_map}
 use Rattle.sound.specs.Lists.{all_append, keep_of, flat_map_of, map_of, optional_map, or_else_of}
 use Rattle.sound.specs.Expressions.{MadeOf, without, weaker, replaced, cnf_of, and_vec_of, only_lookup, pair_of}
 use Rattle.sound.specs.Columns.{Right, shifted_up, shifted_down, right_only}

@@ -10,10 +10,13 @@ use Rattle.sql.specs.Room
 use Rattle.sheet.specs.Parts.{table_count}
 use Rattle.sheet.specs.Check.{text, schema, plan}
 use Rattle.sheet_laws.specs.Accepted.{accepted}
-use Rattle.sheet_laws.specs.Counts.{most_columns, columns_bound}
+use Rattle.sheet_laws.specs.Counts.{most_columns}
+use Rattle.sheet_laws.proofs.Counts.{columns_bound}
 use Rattle.sheet_laws.specs.Layout.{tables_good}
-use Rattle.sheet_laws.specs.Plan.{Bytes, parts_of}
-use Rattle.sheet_laws.specs.Widest.{Few, few}
+use Rattle.sheet_laws.specs.Plan.{Bytes}
+use Rattle.sheet_laws.proofs.Plan.{parts_of}
+use Rattle.sheet_laws.specs.Widest.{Few}
+use Rattle.sheet_laws.proofs.Widest.{few}
 use Rattle.room.specs.Done.{done_same, after}
 use Rattle.room.specs.Same.{pass_same}
 use Rattle.room.specs.Fits.{pass_fits}

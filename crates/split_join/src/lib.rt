@@ -2,6 +2,8 @@
 // them. The plan is edited in place (crate edit): it stands in the first t words of x, the join from lo up to t - tail. What stands before the first word that
 // changes stays where it is; what comes behind that word, up to the join's end, is written to the scratch y and takes its place at once. So where the join
 // is as long as before, which it often is, the words behind it stay where they are too. `origin` is the join's; each And that is put together has it.
+#![tactic(auto)]
+
 ghost use Rattle.std.specs.Prelude.{◌≡◌, ◌-◌, ◌≤◌, length};
 ghost use Rattle.words.specs.Place.{ExpressionAt, NodeAt};
 ghost use Rattle.nodes.specs.Own.{OwnStart};

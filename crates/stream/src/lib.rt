@@ -1,4 +1,6 @@
 // Streamed passes: the plan is read in one slice, and what becomes of it is written to another, a node's sources before its own words and its cell.
+#![tactic(auto)]
+
 ghost use Rattle.std.specs.Prelude.{◌+◌, ◌≤◌, length};
 ghost use Rattle.stream.specs.Stream.{Finishes, InRoom};
 ghost use Rattle.cells.specs.Cells.{cell_words};

@@ -3,7 +3,7 @@
 use Prim.Native.Nat.{ℕ, suc, ◌+◌, ◌-◌, ◌*◌, ◌≤◌, ◌<◌}
 use native.Mathlib.Omega.{arith}
 use native.Mathlib.Numerals.{add-one}
-use mathlib.Core.Path.{◌≡◌, refl, sym, ap, ◌∙◌}
+use mathlib.Core.Path.{subst, ◌≡◌, refl, sym, ap, ◌∙◌}
 use mathlib.Core.List.{List, [], ◌∷◌, map}
 use mathlib.Core.Option.{Option, none, some}
 use lib.ListN.{length, get_or}
@@ -80,7 +80,7 @@ module _ {s a : List ℕ} {height i : ℕ} (g : Going s a height i) {p : Parts} 
     unfolding read rest
     cell_read =
         let e : cell_count s - i ≡ suc (cell_count s - suc i) = omega (arith, cells_are l) in
-        rw is (rw e at g.same)
+        subst (λ (x : Sheet.Cell). onward (text s) i rest (after (text s) x g.trees) ≡ read (text s) 0 (cells_of s) []) (sym is) (rw e at g.same)
 
     module _ {b : List ℕ} {r : Found} (d : Reduces a height k r b) where
       left_sorts : sorted (after (text s) (as_cell k) g.trees) ≡ left b r

@@ -1,4 +1,6 @@
 // Refusal 8: a sheet's cells are read by a stack, as the definition reads them, but a sort stands there for each tree.
+#![tactic(auto)]
+
 ghost use Rattle.std.specs.Prelude.{◌≡◌, Bool, ◌≤◌, ◌<◌, length};
 ghost use Rattle.std.proofs.Math.Option.{none};
 ghost use Rattle.sheet.specs.Parts.{cell_count};

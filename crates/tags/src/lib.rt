@@ -1,4 +1,5 @@
 // The tags of cells, by document 01's names, in a sheet and in the working form of plans alike. The definitions have them in crate sheet (Tags.antt).
+#![tactic(auto)]
 
 // ---- expressions: constants, a column, operators of two operands and of one
 pub const NULL: u32 = 1;

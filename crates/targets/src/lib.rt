@@ -1,5 +1,7 @@
 // Refusal 10 of document 01: no two Targets of one Remap have the same number. The cells are walked once, from the first to the last. A Remap's Targets stand
 // behind the last node before it.
+#![tactic(auto)]
+
 ghost use Rattle.std.specs.Prelude.{◌≡◌};
 ghost use Rattle.layout.specs.Layout.{Whole, as_cell};
 ghost use Rattle.scope.specs.Scope.{OnePlan};

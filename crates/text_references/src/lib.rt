@@ -1,4 +1,6 @@
 // The text references of a sheet, in order: the names of tables and columns, then those in cells.
+#![tactic(auto)]
+
 ghost use Rattle.std.specs.Prelude.{◌≡◌, ◌+◌, ◌*◌, ◌≤◌, length};
 ghost use Rattle.sheet.specs.Cell.{tag_of};
 ghost use Rattle.compact.specs.Slots.{record_slots, cell_slots, in_each, slots};

@@ -12,8 +12,8 @@ use Rattle.sql.specs.Plan.{Leaf, scan, lookup, nothing, values, limit, offset, o
 use Rattle.sql.specs.Optimizer.{map_optional, keep, flat_map}
 use Rattle.sql.specs.Room.{max_cells}
 use Rattle.origins.specs.Origins.{map_origins, map_mark, map_row, map_part, map_aggregate, map_leaf, map_over, map_join, map_node_origins, map_answer}
-use Rattle.origins.specs.Unseen.{evaluate_unseen, is_column_unseen, columns_unseen}
-use Rattle.origins.specs.Proof.{passes_commute}
+use Rattle.origins.proofs.Unseen.{evaluate_unseen, is_column_unseen, columns_unseen}
+use Rattle.origins.proofs.Proved.{passes_commute}
 use Rattle.rows.specs.Database.{unmarked, unmarked_aggregate, Database}
 use Rattle.rows.specs.Reading.{each, keep_each, kept, holds, optional_holds, join_holds, joined_rows, read_join, takes, looked_up, lookup_column, evaluate_all, fit, values_row, pick_all, optional_value, remap_row, expressions, read_leaf, read_over, read}
 use Rattle.rows.specs.Equalities.{Compared, of_columns, of_binary, of_expression, of_optional, of_join, of_list, of_over, in_rows, of_leaf, equalities, of_one_kind, all}

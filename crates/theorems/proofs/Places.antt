@@ -20,8 +20,9 @@ use Rattle.sheet.specs.Scope.{first_of, unless, in_each, column_outside, optiona
 use Rattle.sheet.specs.Check.{text, schema, cells_of, test, unfound, cells_checked, one_plan, in_scope, plan}
 use Rattle.sheet.specs.Cells.{cells}
 use Rattle.sheet_laws.specs.Size.{node_length}
-use Rattle.sheet_laws.specs.Reading.{sound, read_runs}
-use Rattle.sheet_laws.specs.Plan.{Bytes, cells_pass, length_cells_of}
+use Rattle.sheet_laws.proofs.Reading.{sound, read_runs}
+use Rattle.sheet_laws.specs.Plan.{Bytes}
+use Rattle.sheet_laws.proofs.Plan.{cells_pass, length_cells_of}
 use Rattle.theorems.specs.Theorems.{places}
 
 -- ---- findings

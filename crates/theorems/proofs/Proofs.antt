@@ -20,13 +20,17 @@ use Rattle.sheet.specs.Parts.{cells_at, cell_count}
 use Rattle.sheet.specs.Check.{Numbers, text, schema, plan, checked, check}
 use Rattle.sheet.specs.Write.{write}
 use Rattle.sheet.specs.Operations.{Outcome, refuse, written, hand_out, one_pass, all_five}
-use Rattle.sheet_laws.specs.Plan.{Bytes, plan_size}
+use Rattle.sheet_laws.specs.Plan.{Bytes}
+use Rattle.sheet_laws.proofs.Plan.{plan_size}
 use Rattle.literal.proofs.Law.{pass_literal, five_literal}
 use Rattle.room.specs.Done.{After, after}
-use Rattle.same_rows.specs.Proof.{same_rows}
-use Rattle.sound.specs.Refusals.{RefusedBy, FromTo, refused_then, refused_weaker, plan_refused, pass_refused, optimize_refused}
-use Rattle.sound.specs.HandedOut.{success, HandedOut, plan_room, pass_handed_out, optimize_handed_out}
-use Rattle.sound.specs.Operations.{sheet_of, all_five_sound}
+use Rattle.same_rows.proofs.Proved.{same_rows}
+use Rattle.sound.specs.Refusals.{RefusedBy, FromTo}
+use Rattle.sound.proofs.Refusals.{refused_then, refused_weaker, plan_refused, pass_refused, optimize_refused}
+use Rattle.sound.specs.HandedOut.{success, HandedOut, plan_room}
+use Rattle.sound.proofs.HandedOut.{pass_handed_out, optimize_handed_out}
+use Rattle.sound.specs.Operations.{sheet_of}
+use Rattle.sound.proofs.Operations.{all_five_sound}
 use Rattle.theorems.specs.Sizes
 use Rattle.theorems.specs.Theorems.{Checked, is_accepted, is_refused, Success, Answered, is_success, is_refusal, CheckAnswers, OnePassAnswers, NoSuchPass, AllFiveAnswers, with_room, needed, HandsOut, Gives, OnePassGives, AllFiveGives, FoldingRefuses, NeverLarger, BoundEnough, IsTheRust, PassesInTurn, SameRowsInTurn, SameRowsAllFive}
 use Rattle.theorems.proofs.Sized.{left_out, folding_fits, bound_sized, hash_fits, pass_sized, optimize_sized}

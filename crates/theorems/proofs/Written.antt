@@ -23,7 +23,8 @@ use Rattle.sheet_laws.specs.Size.{node_length}
 use Rattle.sheet_laws.specs.Content.{and_left, and_right}
 use Rattle.sheet_laws.specs.Accepted.{accepted}
 use Rattle.sheet_laws.specs.Layout.{none_failing}
-use Rattle.sheet_laws.specs.Plan.{Bytes, parts_of}
+use Rattle.sheet_laws.specs.Plan.{Bytes}
+use Rattle.sheet_laws.proofs.Plan.{parts_of}
 use Rattle.sheet_laws.specs.Tags.{tag_small}
 use Rattle.sheet_laws.specs.Bytes.{byte_after, half_after, length_cell_bytes}
 use Rattle.rows.specs.Equalities.{all}

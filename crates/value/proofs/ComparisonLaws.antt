@@ -10,11 +10,11 @@ use lib.Dec.{ltb}
 use lib.IntN.{ℤ}
 use lib.Signed.{lt_z}
 use lib.Ieee as Ieee
-use lib.Ieee.{Float, is_nan}
+use lib.Ieee.{Float}
 use borrow.Author.Tests.{ltb-true, lt-ltb, le-ltb}
 use Rattle.value.specs.Value.{False, Unknown, True, Datum, integer, float, string, Value, truth, datum, null, boolean, Result, ok, err}
 use Rattle.value.specs.Comparison.{Finding, Comparison, Null, Found, Less, Equal, Greater, Unordered, NotComparable, order, then, rounded, number_of, compare_integers, compare_floats, compare_bytes, compare_data, compare, is_less, is_equal, is_greater, answer, equal, greater_than, less_than}
-use Rattle.value.specs.Undefined.{is_nan}
+use Rattle.value.specs.Undefined as Undefined
 use Rattle.value.specs.ComparisonLaws.{turned, swapped, Family, booleans, numbers, strings, family, Before, prefix, differ, Finds, ComparisonLaws}
 use Rattle.value.proofs.Laws.{false≢true}
 use Rattle.value.proofs.Comparison.{is_unordered, by_tests, between, unordered_floats, rounded_is_number, swapped_floats, less_integers, greater_integers, equal_integers, same_integers, swapped_integers, swapped_bytes, equal_bytes, same_bytes}
@@ -313,30 +313,30 @@ number (datum (float a)) h = a_float a
 number (datum (string r t)) h = absurd (false≢true (ap (λ f. apart f (some strings)) h))
 
 abbrev Nan : Value → Type 0
-Nan v = is_nan v ≡ ok (boolean true)
+Nan v = Undefined.is_nan v ≡ ok (boolean true)
 
-float_nan : (a : ℕ) → Nan (datum (float a)) → is_nan (number_of a) ≡ true
-float_nan a h = sym (said (is_nan (number_of a))) ∙ ap is_true h
+float_nan : (a : ℕ) → Nan (datum (float a)) → Ieee.is_nan (number_of a) ≡ true
+float_nan a h = sym (said (Ieee.is_nan (number_of a))) ∙ ap is_true h
 
-nan_float : (a : ℕ) → is_nan (number_of a) ≡ true → Nan (datum (float a))
+nan_float : (a : ℕ) → Ieee.is_nan (number_of a) ≡ true → Nan (datum (float a))
 nan_float a h = ap (λ b. ok (boolean b)) h
 
-no_nan : {A : Type 0} (a : ℤ) → is_nan (rounded a) ≡ true → A
+no_nan : {A : Type 0} (a : ℤ) → Ieee.is_nan (rounded a) ≡ true → A
 no_nan a h = absurd (false≢true (sym (rounded_is_number a) ∙ h))
 
 -- of two doubles, by their own laws: a NaN among them is what makes them unordered
-either : (x y : Float) → is_unordered (Found (compare_floats x y)) ≡ true → (is_nan x ≡ true) ⊎ (is_nan y ≡ true)
-either x y h = go (is_nan x) (is_nan y) (sym (unordered_floats x y) ∙ h)
+either : (x y : Float) → is_unordered (Found (compare_floats x y)) ≡ true → (Ieee.is_nan x ≡ true) ⊎ (Ieee.is_nan y ≡ true)
+either x y h = go (Ieee.is_nan x) (Ieee.is_nan y) (sym (unordered_floats x y) ∙ h)
   where
     go : (a b : Bool) → (a || b) ≡ true → (a ≡ true) ⊎ (b ≡ true)
     go true b k = inl refl
     go false b k = inr k
 
-left_nan : (x y : Float) → is_nan x ≡ true → is_unordered (Found (compare_floats x y)) ≡ true
-left_nan x y h = unordered_floats x y ∙ ap (λ b. b || is_nan y) h
+left_nan : (x y : Float) → Ieee.is_nan x ≡ true → is_unordered (Found (compare_floats x y)) ≡ true
+left_nan x y h = unordered_floats x y ∙ ap (λ b. b || Ieee.is_nan y) h
 
-right_nan : (x y : Float) → is_nan y ≡ true → is_unordered (Found (compare_floats x y)) ≡ true
-right_nan x y h = unordered_floats x y ∙ (ap (λ b. is_nan x || b) h ∙ or-true (is_nan x))
+right_nan : (x y : Float) → Ieee.is_nan y ≡ true → is_unordered (Found (compare_floats x y)) ≡ true
+right_nan x y h = unordered_floats x y ∙ (ap (λ b. Ieee.is_nan x || b) h ∙ or-true (Ieee.is_nan x))
 
 abbrev NanMet : Value → Value → Type 0
 NanMet v w = (family v ≡ some numbers) × (family w ≡ some numbers) × (Nan v ⊎ Nan w)

@@ -13,7 +13,6 @@ use lib.Signed.{mag}
 use mir.Val.{has_key, of_z, to_z}
 use mir.Syntax.{w64}
 use mir.ValLaws.{to_z-of_z}
-use types.Run.{OneOf, miss}
 use denote.Enum.Declared.{tag_of}
 use borrow.Author.Tests.{lt-ltb, le-ltb}
 use Rattle.value.specs.contracts.Value.{the_type}
@@ -42,28 +41,20 @@ differs (fin s m e) = rw (is_true (eqb (m * up e * down e) (m * up e * down e)) 
     same true = refl
     same false = refl
 
--- a number that is one of the keys passes their test
-pub key : (places : List ℕ) (k : ℕ) → OneOf places k → T (has_key places k)
-key places k h = by_test (has_key places k) refl
-  where
-    by_test : (t : Bool) → has_key places k ≡ t → T (has_key places k)
-    by_test true e = subst T (sym e) tt
-    by_test false e = absurd (miss places k (subst (λ u. T (not u)) (sym e) tt) h)
-
--- An arm `_` of a match on a Value, or one of several patterns: it is told that the variant's place is one of `places`. To show P there, show it of
--- each variant whose place is one.
-pub at_places : (places : List ℕ) (P : Value → Type 0)
-    → (T (has_key places 0) → P Null)
-    → (T (has_key places 1) → (b : Bool) → P (Boolean b))
-    → (T (has_key places 2) → (i : ℤ) → P (Integer i))
-    → (T (has_key places 3) → (x : Ieee.Float) → P (Float x))
-    → (T (has_key places 4) → (r : ℕ) → P (String r))
-    → (v : Value) → OneOf places (tag_of the_type v) → P v
-at_places places P n b i x s Null h = n (key places 0 h)
-at_places places P n b i x s (Boolean y) h = b (key places 1 h) y
-at_places places P n b i x s (Integer y) h = i (key places 2 h) y
-at_places places P n b i x s (Float y) h = x (key places 3 h) y
-at_places places P n b i x s (String y) h = s (key places 4 h) y
+-- An arm `_` of a match on a Value, or one of several patterns: it is told which variants the value isn't. To show P of it, show it of each variant that is
+-- left.
+pub each_variant : (P : Value → Type 0) (v : Value)
+    → (v ≡ Null → P Null)
+    → ((b : Bool) → v ≡ Boolean b → P (Boolean b))
+    → ((i : ℤ) → v ≡ Integer i → P (Integer i))
+    → ((x : Ieee.Float) → v ≡ Float x → P (Float x))
+    → ((r : ℕ) → v ≡ String r → P (String r))
+    → P v
+each_variant P Null n b i x s = n refl
+each_variant P (Boolean y) n b i x s = b y refl
+each_variant P (Integer y) n b i x s = i y refl
+each_variant P (Float y) n b i x s = x y refl
+each_variant P (String y) n b i x s = s y refl
 
 -- the code's test for NaN
 pub nan_test : (x : Ieee.Float) → Ieee.fits binary64 x ≡ true → Ieee.ne x x ≡ Ieee.is_nan (Ieee.of_bits binary64 (Ieee.to_bits binary64 x))
@@ -84,8 +75,8 @@ number_pattern bits h = subst (λ b. T (not b)) (sym (nan_bits_above binary64 bi
 
 -- `_` after arms for Null and Boolean: what is left is a datum
 pub data_left : {R : Type 0} (y : R) (f : Defined.Value → R) → ((d : Datum) → y ≡ f (datum d))
-    → (text : List ℕ) (v : Value) → OneOf (2 ∷ 3 ∷ 4 ∷ []) (tag_of the_type v) → y ≡ f (meaning text v)
-data_left y f e text = at_places (2 ∷ 3 ∷ 4 ∷ []) (λ v. y ≡ f (meaning text v)) (λ h. absurd h) (λ h b. absurd h) (λ h i. e _) (λ h x. e _) (λ h r. e _)
+    → (text : List ℕ) (v : Value) → (v ≡ Null → ⊥) → ((b : Bool) → v ≡ Boolean b → ⊥) → y ≡ f (meaning text v)
+data_left y f e text v null boolean = each_variant (λ v. y ≡ f (meaning text v)) v (λ h. absurd (null h)) (λ b h. absurd (boolean b h)) (λ i h. e _) (λ x h. e _) (λ r h. e _)
 
 -- ---- logic
 

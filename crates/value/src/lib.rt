@@ -1,4 +1,6 @@
 // value.rs: the values of expressions, and what And, Or, Not, Is Null and Is NaN give of them. The other operators are in crates arithmetic and comparison.
+#![tactic(auto)]
+
 ghost use Rattle.std.specs.Prelude.{ℕ, ◌≡◌, List};
 ghost use Rattle.std.specs.Float.Ieee as Ieee;
 ghost use Rattle.std.specs.Float.{binary64};
@@ -9,7 +11,7 @@ ghost use Rattle.value.specs.Undefined.{is_undefined, is_null, is_nan};
 pub mod logic;
 
 // A value of an expression.
-#[derive(Drop)]
+#[derive(Clone, Copy)]
 pub enum Value {
     // An unknown value of unknown type, SQL's NULL.
     Null,
@@ -21,7 +23,7 @@ pub enum Value {
 }
 
 // Why an operator has no value.
-#[derive(Drop)]
+#[derive(Clone, Copy)]
 pub enum Error {
     // an Integer outside 64 bits
     Overflow,
@@ -31,7 +33,7 @@ pub enum Error {
     Mismatch,
 }
 
-#[derive(Drop)]
+#[derive(Clone, Copy)]
 pub enum Result {
     Ok(Value),
     Err(Error),

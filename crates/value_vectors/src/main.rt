@@ -4,41 +4,39 @@
 // second is 0 where there is one operand), the tag of its result or the number of its refusal, the lengths of the operands that are Strings, two
 // zeros, and 8 bytes each for the first operand, the second and the result: a Boolean's 0 or 1, an Integer's or Float's 64 bits, a String's bytes.
 // tools/value_vectors makes them.
+#![tactic(auto)]
+
 ghost use Rattle.std.specs.Prelude.{◌+◌, ◌≤◌};
 
+use std::io::{self, ErrorKind, Read};
 use value::{Error, Result, Value};
 
-const STDIN: i32 = 0;
-
-const STDOUT: i32 = 1;
-
-fn main() {
+fn main(rt: HostRuntime) -> io::Result<()> {
+    let mut input = rt.reader();
     let mut count: u64 = 0;
     let mut different: u64 = 0;
     while count < 1000000000 {
         let mut vector = [0u8; 32];
-        if io::read_full(STDIN, &mut vector) < 32 {
-            break;
+        match input.read_exact(&mut vector) {
+            Ok(()) => {}
+            Err(e) if e.kind() == ErrorKind::UnexpectedEof => break,
+            Err(e) => return Err(e),
         }
         count += 1;
         if !agrees(&vector) {
             different += 1;
-            report(count, different);
+            report(&rt, count, different)?;
         }
     }
-    io::print_decimal(STDOUT, count);
-    io::write_all(STDOUT, b" vectors, ");
-    io::print_decimal(STDOUT, different);
-    io::write_all(STDOUT, b" different\n");
+    println!(rt; "{count} vectors, {different} different")
 }
 
 // Names the first few vectors that differ, counted from 1.
-fn report(vector: u64, different: u64) {
+fn report(rt: &impl Print, vector: u64, different: u64) -> io::Result<()> {
     if different <= 10 {
-        io::write_all(STDOUT, b"vector ");
-        io::print_decimal(STDOUT, vector);
-        io::write_all(STDOUT, b" differs\n");
+        println!(rt; "vector {vector} differs")?;
     }
+    Ok(())
 }
 
 // Whether an operator gives a vector's result.

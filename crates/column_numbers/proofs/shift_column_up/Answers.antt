@@ -1,0 +1,8 @@
+use Rattle.column_numbers.proofs.Steps.{up}
+use Rattle.column_numbers.proofs.shift_column_up.Goals as goal
+
+pub map_columns-requires : goal.map_columns-requires
+map_columns-requires c = up c.args.n c.requires
+
+pub returns : goal.returns
+returns c = c.map_columns.ensures

@@ -1,0 +1,9 @@
+pub mod StringLaws
+pub mod Unseen
+pub mod Reading
+pub mod Cells
+pub mod Agree
+pub mod Blocks
+pub mod Moved
+pub mod Accepts
+pub mod Proved

@@ -1,0 +1,11 @@
+-- `comparison::is_less` meets its contract.
+use mathlib.Core.Path.{◌≡◌, refl}
+use mathlib.Core.Bool.{false}
+use mathlib.Core.List.{[], ◌∷◌}
+use Rattle.value.specs.Comparison.{Found, is_less}
+use Rattle.comparison.specs.Findings.{finding}
+use Rattle.comparison.proofs.Laws.{each_finding}
+use Rattle.comparison.proofs.is_less.Goals as goal
+
+pub returns-in_default : goal.returns-in_default
+returns-in_default c = rw c.in-Found.is (each_finding (λ f. false ≡ is_less (Found (finding f))) c.in-Found.f (λ h. absurd (c.in_default.not-Less h)) (λ h. refl) (λ h. refl) (λ h. refl) (λ h. refl))

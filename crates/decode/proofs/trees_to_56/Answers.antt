@@ -1,0 +1,28 @@
+use Rattle.layout.specs.Layout.{as_cell}
+use Rattle.decode.specs.Decode.{node_trees}
+use Rattle.decode.proofs.Trees.{said_at}
+use Prim.Native.Nat.{◌-◌}
+use native.Mathlib.Omega.{arith}
+use mathlib.Core.Path.{refl}
+use Rattle.decode.proofs.trees_to_56.Goals as goal
+
+pub returns-in-50 : goal.returns-in-50
+returns-in-50 c = said_at 50 (node_trees (as_cell c.args.k)) 50 c.args.k.tag (omega arith) refl
+
+pub returns-in-51 : goal.returns-in-51
+returns-in-51 c = said_at 51 (node_trees (as_cell c.args.k)) 50 c.args.k.tag (omega arith) refl
+
+pub returns-in-52 : goal.returns-in-52
+returns-in-52 c = said_at 52 (node_trees (as_cell c.args.k)) 50 c.args.k.tag (omega arith) refl
+
+pub returns-in-53 : goal.returns-in-53
+returns-in-53 c = said_at 53 (node_trees (as_cell c.args.k)) 50 c.args.k.tag (omega arith) refl
+
+pub returns-in-54 : goal.returns-in-54
+returns-in-54 c = said_at 54 (node_trees (as_cell c.args.k)) 50 c.args.k.tag (omega arith) refl
+
+pub returns-in-55 : goal.returns-in-55
+returns-in-55 c = said_at 55 (node_trees (as_cell c.args.k)) 50 c.args.k.tag (omega arith) refl
+
+pub returns-in_default : goal.returns-in_default
+returns-in_default c = said_at 56 (node_trees (as_cell c.args.k)) 50 c.args.k.tag (omega arith) refl

@@ -1,0 +1,11 @@
+use Prim.Native.Nat.{◌-◌}
+use native.Mathlib.Omega.{arith}
+use mathlib.Core.Path.{◌∙◌}
+use Rattle.gather.proofs.Laws.{byte_behind, byte_in}
+use Rattle.gather.proofs.nth.Goals as goal
+
+pub returns-then-n-i : goal.returns-then-n-i
+returns-then-n-i c = (byte_behind c.args.s.now c.args.at c.args.n c.args.i (omega arith) (omega arith), omega arith)
+
+pub returns : goal.returns
+returns c = (c.wide.ensures.0 ∙ byte_in c.args.s.now c.args.at c.args.n c.args.i (omega arith), c.wide.ensures.1)

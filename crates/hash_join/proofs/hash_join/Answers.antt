@@ -1,0 +1,28 @@
+use Rattle.hash_join.proofs.Joining.{none_told, pair_told, join_in, predicate_at, rewrites_alone, rewrites_nested, rewrites_hash}
+use Prim.Native.Nat.{◌-◌}
+use native.Mathlib.Omega.{arith}
+use Rattle.hash_join.proofs.hash_join.Goals as goal
+
+pub overflow_sub-end : goal.overflow_sub-end
+overflow_sub-end c = let (h, k) = join_in c.requires in omega arith
+
+pub finish-requires : goal.finish-requires
+finish-requires c = join_in c.requires
+
+pub returns-then-m-end : goal.returns-then-m-end
+returns-then-m-end c = rewrites_alone c.args.n c.if-m-end.true c.finish.ensures
+
+pub equijoin-columns-requires : goal.equijoin-columns-requires
+equijoin-columns-requires c = predicate_at c.requires c.if-m-end.false
+
+pub finish-requires-in_default : goal.finish-requires-in_default
+finish-requires-in_default c = join_in c.requires
+
+pub returns-in_default : goal.returns-in_default
+returns-in_default c = rewrites_nested c.args.n c.if-m-end.false c.equijoin-columns.ensures (none_told c.in_default.is c.one_on_each_side.ensures) c.finish-in_default.ensures
+
+pub cell_at-requires : goal.cell_at-requires
+cell_at-requires c = let (h, k) = join_in c.requires in (omega arith, k)
+
+pub returns : goal.returns
+returns c = rewrites_hash c.args.n c.if-m-end.false c.equijoin-columns.ensures (pair_told c.in-Pair.is c.one_on_each_side.ensures) c.cell_at.ensures c.hash_join_cell-cell.ensures c.put.ensures.0

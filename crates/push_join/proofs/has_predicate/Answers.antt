@@ -1,0 +1,12 @@
+use Rattle.push_into.proofs.Taking.{node_at_in}
+use Rattle.push_join.proofs.Passing.{another, nested}
+use Rattle.push_join.proofs.has_predicate.Goals as goal
+
+pub cell_at-c-requires : goal.cell_at-c-requires
+cell_at-c-requires c = node_at_in c.requires
+
+pub returns-then-c-eq-NESTED_LOOP_JOIN : goal.returns-then-c-eq-NESTED_LOOP_JOIN
+returns-then-c-eq-NESTED_LOOP_JOIN c = nested c.cell_at-c.ensures c.if-c-eq-NESTED_LOOP_JOIN.true
+
+pub returns : goal.returns
+returns c = another c.cell_at-c.ensures c.if-c-eq-NESTED_LOOP_JOIN.false

@@ -1,0 +1,17 @@
+pub mod Booleans
+pub mod Floats
+pub mod Normal
+pub mod Comparing
+pub mod Lookups
+pub mod TotalRows
+pub mod Split
+pub mod Pushdown
+pub mod Lookup
+pub mod Hash
+pub mod Circuit
+pub mod Agree
+pub mod Folding
+pub mod NoOuter
+pub mod Proved
+pub mod Values
+pub mod Columns

@@ -1,0 +1,4 @@
+pub mod Refusals
+pub mod HandedOut
+pub mod Numbers
+pub mod Operations
