@@ -21,13 +21,13 @@ docdir = $(PREFIX)/share/doc/reqshabu
 VERSION := $(shell sed -n 's/^\#define REQSHABU_VERSION "\(.*\)"/\1/p' include/reqshabu.h)
 BUILT := target/install
 PROVED := target/staticlib/libreqshabu.a
-CRATES := crates.txt $(shell find crates -name '*.rt' -o -name '*.antt')
+CRATES := crates.txt $(shell find crates -name out -prune -o \( -name '*.rt' -o -name '*.antt' \) -print)
 
 .PHONY: all install uninstall test
 all: $(BUILT)/libreqshabu.a $(BUILT)/reqshabu $(BUILT)/reqshabu.1
 
 $(PROVED): $(CRATES)
-	@tools/build-library
+	@tools/build reqshabu
 	@touch $@
 
 # The proved archive, and beside its one object another that says the version.

@@ -21,7 +21,7 @@ extern "C" {
  * others doesn't raise it, the version says that: plan_convert is there from 0.3.0 on, plan_compact from 0.4.0 on. */
 #define REQSHABU_INTERFACE 1
 
-/* The version of the archive that is linked, to be compared with the header's. Archives made by `make` have it; the bare one of `rt staticlib` hasn't. */
+/* The version of the archive that is linked, to be compared with the header's. Archives made by `make` have it; the bare one of `rt lib` hasn't. */
 extern const char reqshabu_version[];
 
 /* The bytes of the largest sheet: an output of so many is always enough. */

@@ -1,4 +1,4 @@
-//! Links libreqshabu.a, which `rt staticlib reqshabu` writes to target/staticlib in the repository's root (or the archive in the folder that
+//! Links libreqshabu.a, which `tools/build reqshabu` puts into target/staticlib in the repository's root (or the archive in the folder that
 //! REQSHABU_LIB_DIR names), and takes the version from the header, which is the one place that says it: cargo wants it in Cargo.toml too, and the two must agree.
 use std::path::{Path, PathBuf};
 use std::{env, fs};
