@@ -7,12 +7,15 @@ use mathlib.Core.Bool.{Bool, true, false, ◌&&◌}
 use mathlib.Core.List.{List, map}
 use mathlib.Core.Option.{Option, none, some}
 use lib.Dec.{eqb}
+use Rattle.std.proofs.Math.Decide.{dec_lt}
 use lib.ListN.{get_or, get_or-map, get_or-eq_default}
 use Rattle.sql.specs.Plan.{up_to}
 use Rattle.sql.specs.Ranges.{same_in}
 use Rattle.sheet.specs.Cell.{Cell, Tag, unknown, not_carried, carried, tags, tag_of, fields_ok, float_ok, cell_ok}
 use Rattle.sheet.specs.Content.{Content, Reader, readers, content_of, bit}
-use Rattle.arity.specs.Arity.{sort_of, asking, children_of, Sorted, Asked}
+use Rattle.std.specs.Prelude.{Option as Answer, None}
+use Rattle.arity.specs.declared.Sort.{Sort}
+use Rattle.arity.specs.Arity.{sort_of, childless, children_of, Sorted, Asked}
 use Rattle.arity.specs.declared.Children.{Children}
 
 -- for a tag past the list of readers
@@ -28,25 +31,31 @@ bit0_is flag = go (flag % 2) (omega arith)
     go (suc zero) h = refl
     go (suc (suc n)) h = absurd (omega arith)
 
+-- a number is below another, or it is not
+pub by_below : {G : Type 0} (i n : ℕ) → (i < n → G) → (n ≤ i → G) → G
+by_below {G} i n f g = go (dec_lt i n)
+  where
+    go : Dec (i < n) → G
+    go (yes h) = f h
+    go (no h) = g (omega arith)
+
 -- ---- sorts
 
 module _ {tag : ℕ} where
   -- The sort of the tags from one on is what a function says.
-  pub sorted_by : (f : ℕ → ℕ) (from n : ℕ) → ((text : List ℕ) (x : Cell) → map (λ t. sort_of (get_or readers t no_cell text x)) (up_to from n) ≡ map f (up_to from n))
-      → from ≤ tag → tag < from + n → f tag < 10 → Sorted tag (f tag)
+  pub sorted_by : (f : ℕ → Answer Sort) (from n : ℕ) → ((text : List ℕ) (x : Cell) → map (λ t. sort_of (get_or readers t no_cell text x)) (up_to from n) ≡ map f (up_to from n))
+      → from ≤ tag → tag < from + n → Sorted tag (f tag)
   unfolding content_of
-  sorted_by f from n e h j k =
+  sorted_by f from n e h j =
       record {
         is = λ text x q. sym (ap (λ (t : ℕ). sort_of (get_or readers t no_cell text x)) q ∙ same_in (λ t. sort_of (get_or readers t no_cell text x)) f from n (e text x) tag h j);
-        small = k;
       }
 
-  pub unsorted : 64 ≤ tag → Sorted tag 0
+  pub unsorted : 64 ≤ tag → Sorted tag None
   unfolding content_of
   unsorted h =
       record {
         is = λ text x q. sym (ap (λ (r : Reader). sort_of (r text x)) (ap (λ (t : ℕ). get_or readers t no_cell) q ∙ get_or-eq_default readers no_cell {n = tag} h));
-        small = omega arith;
       }
 
 -- ---- children
@@ -70,7 +79,7 @@ module _ {tag flag a b c : ℕ} where
       }
 
   -- no cell has a tag past the readers
-  pub unasked : 64 ≤ tag → {r : Children} → r ≡ asking 0 0 0 0 → Asked tag flag a b c r
+  pub unasked : 64 ≤ tag → {r : Children} → r ≡ childless → Asked tag flag a b c r
   unfolding content_of
   unasked h q =
       record {

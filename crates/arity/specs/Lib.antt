@@ -1,2 +1,1 @@
-pub mod Sort
 pub mod Arity

@@ -13,19 +13,21 @@ pub struct CellView<'a> {
     pub number: usize,
 }
 
-// The view of cell `number` of a sheet.
-pub fn view<'a>(sheet: &'a [u8], number: usize) -> CellView<'a>
-    ensures { (result.sheet ≡ sheet.entry) × (result.number ≡ number) }
-{
-    CellView { sheet, number }
-}
+impl<'a> CellView<'a> {
+    // The view of cell `number` of a sheet.
+    pub fn new(sheet: &'a [u8], number: usize) -> CellView<'a>
+        ensures { (result.sheet ≡ sheet.entry) × (result.number ≡ number) }
+    {
+        CellView { sheet, number }
+    }
 
-// The cell that is viewed.
-pub fn cell<'a>(v: CellView<'a>) -> layout::Cell
-    requires { Whole v.sheet.now × (v.number < cell_count v.sheet.now) }
-    ensures { IsCell (Sheet.cell v.entry.sheet.now v.entry.number) result }
-{
-    layout::cell_at(v.sheet, v.number)
+    // The cell that is viewed.
+    pub fn cell(&self) -> layout::Cell
+        requires { Whole self.now.sheet.now × (self.now.number < cell_count self.now.sheet.now) }
+        ensures { IsCell (Sheet.cell self.now.sheet.now self.now.number) result }
+    {
+        layout::cell_at(self.sheet, self.number)
+    }
 }
 
 // Cell `number` of a sheet, read through a view.
@@ -33,5 +35,5 @@ pub fn cell_of(sheet: &[u8], number: usize) -> layout::Cell
     requires { Whole sheet.now × (number < cell_count sheet.now) }
     ensures { IsCell (Sheet.cell sheet.now number) result }
 {
-    cell(view(sheet, number))
+    CellView::new(sheet, number).cell()
 }

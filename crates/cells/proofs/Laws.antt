@@ -10,7 +10,7 @@ use lib.ListN.{length, take, drop, get_or, set, length-append, length-set}
 use lib.Seq.{get_or-append-add, take-suc, take-suc-set, take_at, drop_at}
 use Rattle.cells.specs.declared.Cell.{Cell}
 use Rattle.cells.specs.Cells.{cell_words, words, sized, cell_at, tag_at, start_at, Part, Sized}
-use Rattle.cells.specs.Room.{Short, Wrote, Seals, Copies}
+use Rattle.cells.specs.Room.{Short, Wrote, Seals}
 
 -- parts
 module _ {s : List ℕ} {lo hi : ℕ} (u v : List ℕ) (p : Part s lo hi (u ++ v)) where
@@ -141,23 +141,12 @@ put7 d at o t f a b c n g =
     ∙ ap (λ (l : List ℕ). (((((l ++ (t ∷ [])) ++ (f ∷ [])) ++ (a ∷ [])) ++ (b ∷ [])) ++ (c ∷ [])) ++ (n ∷ [])) (one_more d at (at + 1) o refl (omega arith))
     ∙ simp append_assoc
 
--- the ways out of put
-module _ (k : Cell) {d : List ℕ} {lo at : ℕ} where
-  -- past the end, since the words below are less than at, the cell doesn't fit, or its size doesn't
-  pub seals_not : {n : ℕ} {d' : List ℕ} → (at < lo) ⊎ ((length d < at + cell_words) ⊎ (4294967288 < at - lo)) → length d < n → Seals d lo at k n d'
-  seals_not {n} h j d₀ b q w = record {
-    is = λ f. absurd (omega arith);
-    room = λ s f.
-        let l = length-append b (words k (length b + cell_words)) in
-        let (e, _) = fits_to w (omega arith) (omega arith) in
-        absurd (⊎_elim (λ (z : at < lo). omega arith) (⊎_elim (λ (z : length d < at + cell_words). omega arith) (λ (z : 4294967288 < at - lo). omega arith)) h);
-  }
-
-  pub seals : {d' : List ℕ} → lo ≤ at → at + cell_words ≤ length d → take (at + cell_words) d' ≡ take at d ++ words k (at - lo + cell_words) → Seals d lo at k (at + cell_words) d'
-  seals {d'} h j e d₀ b q w =
-      let y = wrote_up w (omega arith) in
-      let z : at - lo ≡ length b = omega arith in
-      then q w (done (omega arith) refl (subst (λ (n : ℕ). take (at + cell_words) d' ≡ take at d ++ words k (n + cell_words)) z e))
+-- what put writes where there is room
+pub seals : (k : Cell) {d : List ℕ} {lo at : ℕ} {d' : List ℕ} → lo ≤ at → at + cell_words ≤ length d → take (at + cell_words) d' ≡ take at d ++ words k (at - lo + cell_words) → Seals d lo at k (at + cell_words) d'
+seals k {d} {lo} {at} {d'} h j e d₀ b q w =
+    let y = wrote_up w (omega arith) in
+    let z : at - lo ≡ length b = omega arith in
+    then q w (done (omega arith) refl (subst (λ (n : ℕ). take (at + cell_words) d' ≡ take at d ++ words k (n + cell_words)) z e))
 
 -- a turn of the copy
 pub copied : (s d₀ d : List ℕ) (at i : ℕ) → i < length s → at + i < length d → take (at + i) d ≡ take at d₀ ++ take i s
@@ -165,9 +154,6 @@ pub copied : (s d₀ d : List ℕ) (at i : ℕ) → i < length s → at + i < le
 copied s d₀ d at i h k e =
     let j : at + (i + 1) ≡ suc (at + i) = omega arith in
     rw (j, take-suc-set d (at + i) (get_or s i 0) k, add-one, take-suc s i 0 h, e) (append_assoc (take at d₀) (take i s) (get_or s i 0 ∷ []))
-
-pub copies : {s : List ℕ} {lo hi : ℕ} {d : List ℕ} {at n : ℕ} {d' : List ℕ} → Wrote d at (take (hi - lo) (drop lo s)) n d' → Copies s lo hi d at n d'
-copies {d} {at} {n} {d'} w v p = subst (λ (l : List ℕ). Wrote d at l n d') (part_is p) w
 
 pub full_already : {d : List ℕ} {at : ℕ} {w d' : List ℕ} → length d < at → Wrote d at w at d'
 full_already h = no_room (omega arith) h

@@ -7,6 +7,10 @@ use Rattle.cells.specs.declared.Cell.{Cell}
 abbrev pub cell_words : ℕ
 cell_words = 7
 
+-- the cell that says no more than its tag and its origin
+abbrev pub plain : (origin tag : ℕ) → Cell
+plain origin tag = record { origin = origin; tag = tag; flag = 0; a = 0; b = 0; c = 0 }
+
 abbrev pub words : Cell → ℕ → List ℕ
 words k n = k.origin ∷ k.tag ∷ k.flag ∷ k.a ∷ k.b ∷ k.c ∷ n ∷ []
 

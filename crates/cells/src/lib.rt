@@ -2,7 +2,7 @@
 #![tactic(auto)]
 
 ghost use Rattle.std.specs.Prelude.{◌≡◌, List, [], ◌∷◌, ◌++◌, ℕ, ◌+◌, ◌-◌, ◌≤◌, ◌<◌, length, take, drop};
-ghost use Rattle.cells.specs.Cells.{cell_words, cell_at, start_at, tag_at, origin_at, Part, Sized};
+ghost use Rattle.cells.specs.Cells.{cell_words, plain, cell_at, start_at, tag_at, origin_at, Part, Sized};
 ghost use Rattle.cells.specs.Room.{Wrote, Puts, Copies};
 
 #[derive(Clone, Copy)]
@@ -13,6 +13,22 @@ pub struct Cell {
     pub a: u32,
     pub b: u32,
     pub c: u32,
+}
+
+impl Cell {
+    // The cell that says no more than its tag and its origin.
+    pub fn new(tag: u32, origin: u32) -> Cell
+        ensures { result ≡ plain origin tag }
+    {
+        Cell {
+            origin,
+            tag,
+            flag: 0,
+            a: 0,
+            b: 0,
+            c: 0,
+        }
+    }
 }
 
 // The words of a cell, and which of them is what: its origin stands first, then its tag, its flag, its numbers a, b and c, and its size, which is the number of
@@ -90,23 +106,14 @@ pub fn start(s: &[u32], hi: usize) -> usize
     requires { Sized s.now hi }
     ensures { result ≡ start_at s.now hi }
 {
-    hi - wide(s[hi - 1])
+    hi - s[hi - 1] as usize
 }
 
 // The cell k over the words of d from lo up to at.
 pub fn put(d: &mut [u32], lo: usize, at: usize, k: Cell) -> usize
     ensures { Puts d.old lo at k result d.new }
 {
-    if at < lo {
-        return FULL;
-    }
-    if d.len() < at {
-        return FULL;
-    }
-    if d.len() - at < CELL_WORDS {
-        return FULL;
-    }
-    if LONGEST < at - lo {
+    if at < lo || d.len() < at || d.len() - at < CELL_WORDS || LONGEST < at - lo {
         return FULL;
     }
     d[at] = k.origin;
@@ -123,18 +130,12 @@ pub fn put(d: &mut [u32], lo: usize, at: usize, k: Cell) -> usize
 pub fn copy_all(s: &[u32], d: &mut [u32], at: usize) -> usize
     ensures { Wrote d.old at s.now result d.new × (at + length s.now ≤ length d.old → result ≤ length d.old) }
 {
-    if d.len() < at {
+    if d.len() < at || d.len() - at < s.len() {
         return FULL;
     }
-    if d.len() - at < s.len() {
-        return FULL;
-    }
-    let mut i = 0;
-    while i < s.len() {
-        d[at + i] = s[i];
-        i += 1;
-    }
-    at + i
+    let end = at + s.len();
+    d[at..end].copy_from_slice(s);
+    end
 }
 
 // The words of s from lo up to hi after the first `at` words of d.

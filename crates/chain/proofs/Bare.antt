@@ -99,14 +99,6 @@ module _ {s : List ℕ} {lo hi end : ℕ} (b : Bare s lo hi end) where
       one_more (λ p u. sym one ∙ c p (back p u)) (λ p u. none_own c one f z p (back p u)) (subst (Bare s lo hi) e b)
 
   -- a node that is not bare
-  pub several_sources : {g : ℕ} → SourceCount s lo end g → (g ≡ 1 → ⊥) → GoesBelow s lo hi end
-  several_sources c z = record { down = b; last = λ p u. go p (λ e. z (c p u ∙ e)) }
-    where
-      go : (p : Node) → (source_count p ≡ 1 → ⊥) → is_bare p ≡ false
-      go (leaf og l) h = refl
-      go (over og o n) h = absurd (h refl)
-      go (join og outer j l r) h = refl
-
   pub own_left : {g n : ℕ} → SourceCount s lo end g → g ≡ 1 → OwnTrees s lo end n → (n ≡ 0 → ⊥) → GoesBelow s lo hi end
   own_left c one f z = record { down = b; last = λ p u. go p (some_own c one f z p u) }
     where

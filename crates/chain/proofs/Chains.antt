@@ -1,7 +1,9 @@
 -- Laws on chains: going down through one, its words, and its words over another node.
 use Prim.Native.Nat.{ℕ, ◌+◌, ◌-◌, ◌*◌, ◌≤◌, ◌<◌}
 use native.Mathlib.Omega.{arith}
-use mathlib.Core.Bool.{Bool, true, false}
+use borrow.Author.Tests.{eq-eqb}
+use lib.Dec.{eqb}
+use mathlib.Core.Bool.{Bool, true, false, not}
 use mathlib.Core.Path.{◌≡◌, refl, sym, ap, ◌∙◌}
 use mathlib.Core.List.{List, [], ◌∷◌, ◌++◌, append_assoc, append-nil}
 use mathlib.Core.Option.{Option, none, some}
@@ -35,8 +37,8 @@ other_tag (aggregate es gs) h = absurd (omega arith)
 pub tag_in : {s : List ℕ} {lo hi : ℕ} → NodeAt s lo hi → (cell_words ≤ hi) × (hi ≤ length s)
 tag_in g = let (h, k) = node_in g.p g.here in (omega arith, k)
 
-pub a_filter : {s : List ℕ} {lo hi tag : ℕ} → tag ≡ tag_at s hi → tag ≡ 51 → IsOther s lo hi false
-a_filter {s} {lo} {hi} e z p u = go p (sym (tagged p) ∙ sym (node_tag p u) ∙ sym e ∙ z)
+pub a_filter : {s : List ℕ} {lo hi tag : ℕ} → tag ≡ tag_at s hi → tag ≡ 51 → IsOther s lo hi (not (eqb tag 51))
+a_filter {s} {lo} {hi} {tag} e z p u = ap not (eq-eqb tag 51 z) ∙ go p (sym (tagged p) ∙ sym (node_tag p u) ∙ sym e ∙ z)
   where
     go : (p : Node) → tag_of p ≡ 51 → false ≡ is_other p
     go (leaf og l) h = refl
@@ -44,22 +46,13 @@ a_filter {s} {lo} {hi} e z p u = go p (sym (tagged p) ∙ sym (node_tag p u) ∙
     go (over og (other o) n) h = absurd (other_tag o h)
     go (join og outer j l r) h = refl
 
-pub an_other : {s : List ℕ} {lo hi tag count : ℕ} → tag ≡ tag_at s hi → (tag ≡ 51 → ⊥) → SourceCount s lo hi count → count ≡ 1 → IsOther s lo hi true
-an_other {s} {lo} {hi} e y c z p u = go p (λ k. y (e ∙ node_tag p u ∙ tagged p ∙ k)) (sym (c p u) ∙ z)
+pub one_source : {s : List ℕ} {lo hi tag count : ℕ} → tag ≡ tag_at s hi → (tag ≡ 51 → ⊥) → SourceCount s lo hi count → IsOther s lo hi (eqb count 1)
+one_source {s} {lo} {hi} e y c p u = ap (λ (n : ℕ). eqb n 1) (c p u) ∙ go p (λ k. y (e ∙ node_tag p u ∙ tagged p ∙ k))
   where
-    go : (p : Node) → (tag_of p ≡ 51 → ⊥) → source_count p ≡ 1 → true ≡ is_other p
-    go (leaf og l) h k = absurd (omega arith)
-    go (over og (filter e) n) h k = absurd (h refl)
-    go (over og (other o) n) h k = refl
-    go (join og outer j l r) h k = absurd (omega arith)
-
-pub no_other : {s : List ℕ} {lo hi count : ℕ} → SourceCount s lo hi count → (count ≡ 1 → ⊥) → IsOther s lo hi false
-no_other {s} {lo} {hi} c z p u = go p (λ k. z (c p u ∙ k))
-  where
-    go : (p : Node) → (source_count p ≡ 1 → ⊥) → false ≡ is_other p
+    go : (p : Node) → (tag_of p ≡ 51 → ⊥) → eqb (source_count p) 1 ≡ is_other p
     go (leaf og l) h = refl
-    go (over og (filter e) n) h = refl
-    go (over og (other o) n) h = absurd (h refl)
+    go (over og (filter e) n) h = absurd (h refl)
+    go (over og (other o) n) h = refl
     go (join og outer j l r) h = refl
 
 -- ---- going down
@@ -74,12 +67,6 @@ pub record Passed (s : List ℕ) (n lo left end : ℕ) (p : Node) : Type 0 where
 
 abbrev pub Passes : List ℕ → ℕ → ℕ → ℕ → ℕ → ℕ → Type 0
 Passes s n lo hi left end = (p : Node) → NodeHere s lo hi p → Passed s n lo left end p
-
-pub down_none : (s : List ℕ) (n lo hi : ℕ) → Passes s n lo hi n hi
-down_none s n lo hi p u = record { above = []; q = p; is = refl; count = omega arith; here = u }
-
-pub down_at : {s : List ℕ} {n lo hi left end : ℕ} → Passes s n lo hi left end → NodeAt s lo hi → NodeAt s lo end
-down_at d g = let r = d g.p g.here in record { p = r.q; here = r.here }
 
 no_true : {A : Type 0} → false ≡ true → A
 no_true h = let y : ◌≡◌ {A = ℕ} 0 1 = ap bit h in absurd (omega arith)
@@ -103,18 +90,6 @@ down_next {s} {n} {lo} {hi} {left} {end} {m} d c z own k p u =
       here = record { part = source_part (over og (other o) q) h (own (over og (other o) q) h) };
     })
     r.q (sym (c r.q r.here) ∙ z) r.is r.here
-
-module _ {s : List ℕ} {n lo hi left end : ℕ} (d : Passes s n lo hi left end) where
-  through : ((q : Node) → NodeHere s lo end q → is_other q ≡ true → left ≡ 0) → GoesDown s n lo hi left end
-  through f p u = let r = d p u in record { above = r.above; q = r.q; is = r.is; count = r.count; here = r.here; last = f r.q r.here }
-
-  -- the node below is none of a chain
-  pub down_last : {b : Bool} → IsOther s lo end b → b ≡ false → GoesDown s n lo hi left end
-  down_last c z = through (λ q u h. no_true (sym z ∙ c q u ∙ h))
-
-  -- nothing is left
-  pub down_out : left ≡ 0 → GoesDown s n lo hi left end
-  down_out z = through (λ q u h. z)
 
 -- ---- a chain's words
 

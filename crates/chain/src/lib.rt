@@ -13,13 +13,7 @@ fn is_other(s: &[u32], lo: usize, hi: usize) -> bool
     requires { NodeAt s.now lo hi }
     ensures { IsOther s.now lo hi result }
 {
-    if cells::tag_at(s, hi) == tags::FILTER {
-        return false;
-    }
-    if nodes::source_count(s, lo, hi) == 1 {
-        return true;
-    }
-    false
+    cells::tag_at(s, hi) != tags::FILTER && nodes::source_count(s, lo, hi) == 1
 }
 
 // Where the node below a chain ends, and what is left of a number that is one lower for each node of the chain.
@@ -36,13 +30,9 @@ pub fn descend(s: &[u32], n: usize, lo: usize, hi: usize) -> Below
 {
     let mut left = n;
     let mut end = hi;
-    while 0 < left {
-        if is_other(s, lo, end) {
-            end = nodes::own_start(s, lo, end);
-            left -= 1;
-            continue;
-        }
-        return Below { end, left };
+    while 0 < left && is_other(s, lo, end) {
+        end = nodes::own_start(s, lo, end);
+        left -= 1;
     }
     Below { end, left }
 }
@@ -53,25 +43,17 @@ pub fn descend_bare(s: &[u32], lo: usize, hi: usize) -> usize
     ensures { GoesBelow s.now lo hi result }
 {
     let mut end = hi;
-    loop {
-        if nodes::source_count(s, lo, end) != 1 {
-            return end;
-        }
-        if nodes::own_trees(s, lo, end) != 0 {
-            return end;
-        }
+    while nodes::source_count(s, lo, end) == 1 && nodes::own_trees(s, lo, end) == 0 {
         end -= cells::CELL_WORDS;
     }
+    end
 }
 
 // The size in a cell of a chain: the cells of nodes, whose tags are from 50 up, get the new one, those of their parts keep theirs.
 fn size(tag: u32, new: u32, old: u32) -> u32
     ensures { result ≡ new_size tag new old }
 {
-    if tags::NODES <= tag {
-        return new;
-    }
-    old
+    if tags::NODES <= tag { new } else { old }
 }
 
 // The plan stands in the first t words of x, and all but the last `tail` of the words behind `from` are those of a chain: its cells say how long its nodes

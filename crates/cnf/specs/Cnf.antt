@@ -6,8 +6,8 @@ use Rattle.words.specs.Words.{expression_words}
 use Rattle.words.specs.Place.{ExpressionHere}
 
 -- f of two expressions, each where it stands, is appended or has no room
-abbrev pub MapsTwo : (Expression → Expression → Expression) → List ℕ → ℕ → ℕ → ℕ → ℕ → List ℕ → ℕ → ℕ → List ℕ → Type 0
-MapsTwo f s a x b z d at n d' = (e g : Expression) → ExpressionHere s a x e → ExpressionHere s b z g → Wrote d at (expression_words (f e g)) n d'
+abbrev pub MapsTwo : (Expression → Expression → Expression) → List ℕ → ℕ → ℕ → List ℕ → ℕ → ℕ → List ℕ → ℕ → ℕ → List ℕ → Type 0
+MapsTwo f s a x t b z d at n d' = (e g : Expression) → ExpressionHere s a x e → ExpressionHere t b z g → Wrote d at (expression_words (f e g)) n d'
 
 -- Or(x, z) spread over the Ands of both, and over those of z alone
 abbrev pub spread : ℕ → Expression → Expression → Expression

@@ -3,153 +3,91 @@
 #![tactic(auto)]
 
 ghost use Rattle.std.specs.Prelude.{◌≡◌, ℕ, ◌+◌, ◌-◌, ◌≤◌, ◌<◌, length};
-ghost use Rattle.sql.specs.Expression;
+ghost use Rattle.sql.specs.Expression as Defined;
 ghost use Rattle.cells.specs.Cells.{tag_at};
 ghost use Rattle.words.specs.Words.{map_operands};
 ghost use Rattle.words.specs.Place.{ExpressionAt, Maps};
 ghost use Rattle.cnf.specs.Cnf.{MapsTwo, spread, spread_right};
 
-// distribute of the expression from lo to hi, which is its words as they are if it holds no Or.
-pub fn distribute(s: &[u32], lo: usize, hi: usize, d: &mut [u32], at: usize) -> usize
-    requires { ExpressionAt s.now lo hi }
-    ensures { Maps Expression.distribute s.now lo hi d.old at result d.new }
+use cells::Cell;
+use words::Expression;
+
+// distribute of the expression, which is its words as they are if it holds no Or.
+pub fn distribute(e: Expression, d: &mut [u32], at: usize) -> usize
+    ensures { Maps Defined.distribute e.entry.words.now e.entry.lo e.entry.hi d.old at result d.new }
 {
-    if nnf::contains_tag(s, lo, hi, tags::OR) {
-        return distribute_expression(s, lo, hi, d, at);
+    if nnf::contains_tag(e, tags::OR) {
+        return distribute_expression(e, d, at);
     }
-    cells::copy(s, lo, hi, d, at)
+    cells::copy(e.words, e.lo, e.hi, d, at)
 }
 
-// distribute of the expression from lo to hi, cell by cell.
+// distribute of the expression, cell by cell.
 #[cycle(distribute_expression_distribute_operands_or_both_or_right)]
-fn distribute_expression(s: &[u32], lo: usize, hi: usize, d: &mut [u32], at: usize) -> usize
-    requires { ExpressionAt s.now lo hi }
-    ensures { Maps Expression.distribute s.now lo hi d.old at result d.new }
+fn distribute_expression(e: Expression, d: &mut [u32], at: usize) -> usize
+    ensures { Maps Defined.distribute e.entry.words.now e.entry.lo e.entry.hi d.old at result d.new }
 {
     if d.len() < at {
         return at;
     }
-    if cells::tag_at(s, hi) == tags::OR {
-        let k = hi - cells::CELL_WORDS;
-        let mid = cells::start(s, k);
-        return or_both(s, lo, mid, mid, k, d, at, cells::origin_at(s, hi));
+    if e.tag() == tags::OR {
+        let (left, right) = e.operands();
+        return or_both(left, right, d, at, e.origin());
     }
-    distribute_operands(s, lo, hi, d, at)
+    distribute_operands(e, d, at)
 }
 
-// The expression from lo to hi with distribute of its operands.
+// The expression with distribute of its operands.
 #[cycle(distribute_expression_distribute_operands_or_both_or_right)]
-fn distribute_operands(s: &[u32], lo: usize, hi: usize, d: &mut [u32], at: usize) -> usize
-    requires { ExpressionAt s.now lo hi }
-    ensures { Maps (map_operands Expression.distribute) s.now lo hi d.old at result d.new }
+fn distribute_operands(e: Expression, d: &mut [u32], at: usize) -> usize
+    ensures { Maps (map_operands Defined.distribute) e.entry.words.now e.entry.lo e.entry.hi d.old at result d.new }
 {
-    let c = cells::cell_at(s, hi);
-    if c.tag < tags::BINARY {
-        return cells::put(d, at, at, c);
+    let cell = e.cell();
+    if cell.tag < tags::BINARY {
+        return cells::put(d, at, at, cell);
     }
-    let k = hi - cells::CELL_WORDS;
-    if tags::UNARY <= c.tag {
-        let m = distribute_expression(s, lo, k, d, at);
-        return cells::put(d, at, m, c);
+    if tags::UNARY <= cell.tag {
+        let m = distribute_expression(e.operand(), d, at);
+        return cells::put(d, at, m, cell);
     }
-    let mid = cells::start(s, k);
-    let m = distribute_expression(s, lo, mid, d, at);
-    let j = distribute_expression(s, mid, k, d, m);
-    cells::put(d, at, j, c)
+    let (left, right) = e.operands();
+    let m = distribute_expression(left, d, at);
+    let end = distribute_expression(right, d, m);
+    cells::put(d, at, end, cell)
 }
 
-// Or, with that origin, of the expressions from a to x and from b to z, spread over the Ands at the top of both. What it puts together has the Or's origin.
+// Or, with that origin, of two expressions, spread over the Ands at the top of both. What it puts together has the Or's origin.
 #[cycle(distribute_expression_distribute_operands_or_both_or_right)]
-fn or_both(
-    s: &[u32],
-    a: usize,
-    x: usize,
-    b: usize,
-    z: usize,
-    d: &mut [u32],
-    at: usize,
-    origin: u32,
-) -> usize
-    requires expression_at { ExpressionAt s.now a x }
-    requires expression_at_2 { ExpressionAt s.now b z }
-    ensures { MapsTwo (spread origin) s.now a x b z d.old at result d.new }
+fn or_both(left: Expression, right: Expression, d: &mut [u32], at: usize, origin: u32) -> usize
+    ensures { MapsTwo (spread origin) left.entry.words.now left.entry.lo left.entry.hi right.entry.words.now right.entry.lo right.entry.hi d.old at result d.new }
 {
     if d.len() < at {
         return at;
     }
-    if cells::tag_at(s, x) == tags::AND {
-        let k = x - cells::CELL_WORDS;
-        let mid = cells::start(s, k);
-        let m = or_both(s, a, mid, b, z, d, at, origin);
-        let j = or_both(s, mid, k, b, z, d, m, origin);
-        return cells::put(
-            d,
-            at,
-            j,
-            cells::Cell {
-                origin: origin,
-                tag: tags::AND,
-                flag: 0,
-                a: 0,
-                b: 0,
-                c: 0,
-            },
-        );
+    if left.tag() == tags::AND {
+        let (first, second) = left.operands();
+        let m = or_both(first, right, d, at, origin);
+        let n = or_both(second, right, d, m, origin);
+        return cells::put(d, at, n, Cell::new(tags::AND, origin));
     }
-    or_right(s, a, x, b, z, d, at, origin)
+    or_right(left, right, d, at, origin)
 }
 
 // The same where the left one is no And.
 #[cycle(distribute_expression_distribute_operands_or_both_or_right)]
-fn or_right(
-    s: &[u32],
-    a: usize,
-    x: usize,
-    b: usize,
-    z: usize,
-    d: &mut [u32],
-    at: usize,
-    origin: u32,
-) -> usize
-    requires expression_at { ExpressionAt s.now a x }
-    requires expression_at_2 { ExpressionAt s.now b z }
-    ensures { MapsTwo (spread_right origin) s.now a x b z d.old at result d.new }
+fn or_right(left: Expression, right: Expression, d: &mut [u32], at: usize, origin: u32) -> usize
+    ensures { MapsTwo (spread_right origin) left.entry.words.now left.entry.lo left.entry.hi right.entry.words.now right.entry.lo right.entry.hi d.old at result d.new }
 {
     if d.len() < at {
         return at;
     }
-    if cells::tag_at(s, z) == tags::AND {
-        let k = z - cells::CELL_WORDS;
-        let mid = cells::start(s, k);
-        let m = or_right(s, a, x, b, mid, d, at, origin);
-        let j = or_right(s, a, x, mid, k, d, m, origin);
-        return cells::put(
-            d,
-            at,
-            j,
-            cells::Cell {
-                origin: origin,
-                tag: tags::AND,
-                flag: 0,
-                a: 0,
-                b: 0,
-                c: 0,
-            },
-        );
+    if right.tag() == tags::AND {
+        let (first, second) = right.operands();
+        let m = or_right(left, first, d, at, origin);
+        let n = or_right(left, second, d, m, origin);
+        return cells::put(d, at, n, Cell::new(tags::AND, origin));
     }
-    let m = distribute_expression(s, a, x, d, at);
-    let j = distribute_expression(s, b, z, d, m);
-    cells::put(
-        d,
-        at,
-        j,
-        cells::Cell {
-            origin: origin,
-            tag: tags::OR,
-            flag: 0,
-            a: 0,
-            b: 0,
-            c: 0,
-        },
-    )
+    let m = distribute_expression(left, d, at);
+    let n = distribute_expression(right, d, m);
+    cells::put(d, at, n, Cell::new(tags::OR, origin))
 }

@@ -13,7 +13,7 @@ use Rattle.sql.specs.Expression.{Marked}
 use Rattle.sql.specs.Plan.{Label, unlabelled, nothing, limit, offset, order, projection, remap, aggregate, Over, filter, other, Join, Node, leaf, over, join, up_to, columns, column_label, column_labels}
 use Rattle.sheet.specs.Content.{label_cell}
 use Rattle.cells.specs.declared.Cell.{Cell}
-use Rattle.cells.specs.Cells.{cell_words, sized, tag_at, start_at}
+use Rattle.cells.specs.Cells.{cell_words, sized, tag_at, start_at, plain}
 use Rattle.cells.specs.Room.{Wrote, Seals}
 use Rattle.cells.proofs.Laws.{then, done, no_more, nothing as none_written}
 use Rattle.words.specs.Words.{cell, all_words, label_words}
@@ -213,17 +213,18 @@ module _ (new : ℕ) {records columns' s : List ℕ} {lo hi : ℕ} where
       p (sym (c p u)) u
 
 -- the cell of a label in the code
-pub cell_none : (new : ℕ) (l : CodeLabel) → l ≡ Unlabelled → record { origin = new; tag = 40; flag = 0; a = 0; b = 0; c = 0 } ≡ cell new (label_cell (label l))
-unfolding cell
-cell_none new l e = ap (λ (x : CodeLabel). cell new (label_cell (label x))) (sym e)
+module _ (new : ℕ) {k : Cell} (q : k ≡ plain new 40) (l : CodeLabel) where
+  pub cell_none : l ≡ Unlabelled → k ≡ cell new (label_cell (label l))
+  unfolding cell
+  cell_none e = q ∙ ap (λ (x : CodeLabel). cell new (label_cell (label x))) (sym e)
 
-pub cell_name : (new : ℕ) (l : CodeLabel) (n : ℕ) → l ≡ Unqualified n → record { origin = new; tag = 40; flag = 1; a = n; b = 0; c = 0 } ≡ cell new (label_cell (label l))
-unfolding cell
-cell_name new l n e = ap (λ (x : CodeLabel). cell new (label_cell (label x))) (sym e)
+  pub cell_name : (n : ℕ) → l ≡ Unqualified n → record k { flag = 1; a = n } ≡ cell new (label_cell (label l))
+  unfolding cell
+  cell_name n e = ap (λ (k : Cell). record k { flag = 1; a = n }) q ∙ ap (λ (x : CodeLabel). cell new (label_cell (label x))) (sym e)
 
-pub cell_both : (new : ℕ) (l : CodeLabel) (q n : ℕ) → l ≡ Qualified q n → record { origin = new; tag = 40; flag = 2; a = q; b = n; c = 0 } ≡ cell new (label_cell (label l))
-unfolding cell
-cell_both new l q n e = ap (λ (x : CodeLabel). cell new (label_cell (label x))) (sym e)
+  pub cell_both : (t n : ℕ) → l ≡ Qualified t n → record k { flag = 2; a = t; b = n } ≡ cell new (label_cell (label l))
+  unfolding cell
+  cell_both t n e = ap (λ (k : Cell). record k { flag = 2; a = t; b = n }) q ∙ ap (λ (x : CodeLabel). cell new (label_cell (label x))) (sym e)
 
 pub label_put : (new : ℕ) (l : CodeLabel) {k : Cell} → k ≡ cell new (label_cell (label l)) → {d : List ℕ} {at n : ℕ} {d' : List ℕ} → Seals d at at k n d'
     → Wrote d at (label_words (label l, new)) n d'

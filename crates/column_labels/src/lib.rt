@@ -15,30 +15,19 @@ ghost use Rattle.column_labels.specs.ColumnLabels.{LabelsUp, Marks, WritesLabels
 fn label_cell(l: labels::Label, origin: u32) -> cells::Cell
     ensures { result ≡ cell origin (label_cell (label l)) }
 {
+    let cell = cells::Cell::new(tags::LABEL, origin);
     match l {
-        labels::Label::Unlabelled => cells::Cell {
-            origin: origin,
-            tag: tags::LABEL,
-            flag: 0,
-            a: 0,
-            b: 0,
-            c: 0,
-        },
+        labels::Label::Unlabelled => cell,
         labels::Label::Unqualified(name) => cells::Cell {
-            origin: origin,
-            tag: tags::LABEL,
             flag: 1,
             a: name,
-            b: 0,
-            c: 0,
+            ..cell
         },
         labels::Label::Qualified(table, name) => cells::Cell {
-            origin: origin,
-            tag: tags::LABEL,
             flag: 2,
             a: table,
             b: name,
-            c: 0,
+            ..cell
         },
     }
 }
@@ -47,8 +36,7 @@ fn label_cell(l: labels::Label, origin: u32) -> cells::Cell
 fn put_label(d: &mut [u32], at: usize, l: labels::Label, origin: u32) -> usize
     ensures { Wrote d.old at (label_words (label l, origin)) result d.new }
 {
-    let k = label_cell(l, origin);
-    cells::put(d, at, at, k)
+    cells::put(d, at, at, label_cell(l, origin))
 }
 
 // The labels of the node from lo to hi, column by column, each with the given origin. An Aggregate, a Projection or a Remap says no more labels than it has
@@ -69,11 +57,9 @@ fn each_label(
 {
     let n = nodes::columns(s, lo, hi, tables);
     let mut end = at;
-    let mut i: usize = 0;
-    while i < n {
+    for i in 0..n {
         let l = labels::column_label(s, lo, hi, i, n, tables, columns);
         end = put_label(d, end, l, origin);
-        i += 1;
     }
     end
 }
@@ -87,10 +73,8 @@ fn marked_labels(s: &[u32], lo: usize, hi: usize, d: &mut [u32], at: usize, orig
     if d.len() < end {
         return end;
     }
-    let mut i = at;
-    while i < end {
+    for i in (at..end).step_by(cells::CELL_WORDS) {
         d[i] = origin;
-        i += cells::CELL_WORDS;
     }
     end
 }
@@ -138,8 +122,7 @@ pub fn write_labels(
     }
     let m = nodes::own_start(s, lo, hi);
     if n == 1 {
-        let t = cells::tag_at(s, hi);
-        if labels::says_columns(t) {
+        if labels::says_columns(cells::tag_at(s, hi)) {
             return each_label(s, lo, hi, d, at, tables, columns, origin);
         }
         return write_labels(s, lo, m, d, at, tables, columns, origin);

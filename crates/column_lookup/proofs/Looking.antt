@@ -13,27 +13,26 @@ use Rattle.cells.specs.Cells.{cell_words, cell_at, tag_at, start_at}
 use Rattle.words.specs.Words.{cell, root}
 use Rattle.words.specs.Place.{ExpressionHere}
 use Rattle.words.proofs.Expressions.{tag, tag_cell, constant_tag, unary_range, binary_range, by_unary, by_binary, by_or, by_equal, root_is, root_tag, here_operand, here_left, here_right}
-use Rattle.column_lookup.specs.declared.Lookup.{Lookup}
-use Rattle.column_lookup.specs.declared.Lookup.TheVariants as Lookup
-use Rattle.column_lookup.specs.declared.ColumnPair.{ColumnPair}
-use Rattle.column_lookup.specs.declared.ColumnPair.TheVariants as ColumnPair
+use Rattle.std.specs.Prelude as code
+use Rattle.std.specs.Prelude.{Some, None}
+use Rattle.column_numbers.specs.declared.JoinedColumn.{JoinedColumn}
 use Rattle.column_lookup.specs.Lookup.{found, pair, column_in, equal_cells, LooksUp, SetsEqual}
 
 -- ---- of cells
 
-no_column : (k : Cell) → (k.tag ≡ 6 → ⊥) → column_in k ≡ Lookup.None
+no_column : (k : Cell) → (k.tag ≡ 6 → ⊥) → column_in k ≡ None
 no_column k h = simp (ne_eqb _ _ h)
 
 constant_first : (k j : Cell) → k.tag < 6 → equal_cells k j ≡ column_in j
 constant_first k j h = simp (lt-ltb _ _ h)
 
-column_first : (k j : Cell) → k.tag ≡ 6 → j.tag < 6 → equal_cells k j ≡ Lookup.Column k.a
+column_first : (k j : Cell) → k.tag ≡ 6 → j.tag < 6 → equal_cells k j ≡ Some k.a
 column_first k j h g = simp (le-ltb k.tag 6 (omega arith), eq-eqb _ _ h, lt-ltb _ _ g)
 
-no_constant : (k j : Cell) → k.tag ≡ 6 → 6 ≤ j.tag → equal_cells k j ≡ Lookup.None
+no_constant : (k j : Cell) → k.tag ≡ 6 → 6 ≤ j.tag → equal_cells k j ≡ None
 no_constant k j h g = simp (le-ltb k.tag 6 (omega arith), eq-eqb _ _ h, le-ltb j.tag 6 g)
 
-neither : (k j : Cell) → 6 < k.tag → equal_cells k j ≡ Lookup.None
+neither : (k j : Cell) → 6 < k.tag → equal_cells k j ≡ None
 neither k j h = simp (le-ltb k.tag 6 (omega arith), ne_eqb k.tag 6 (λ z. omega arith))
 
 root_column : (e : Expression) → found (column_in (cell (origin e) (root e))) ≡ is_column e
@@ -100,19 +99,19 @@ no_equal (binary og (function f) l r) h = refl
 
 module _ {s : List ℕ} {lo hi : ℕ} where
   module _ {mid : ℕ} (st : mid ≡ start_at s (hi - cell_words)) where
-    pub looks_or : tag_at s hi ≡ 11 → (a b q : Lookup) → LooksUp s lo mid a → LooksUp s mid (hi - cell_words) b → found q ≡ same_column (found a) (found b) → LooksUp s lo hi q
+    pub looks_or : tag_at s hi ≡ 11 → (a b q : code.Option ℕ) → LooksUp s lo mid a → LooksUp s mid (hi - cell_words) b → found q ≡ same_column (found a) (found b) → LooksUp s lo hi q
     looks_or h a b q f g w e u = by_binary (λ e. ExpressionHere s lo hi e → tag (root e) ≡ 11 → found q ≡ is_column_lookup e)
         (λ og o l r t k. by_or (λ p. found q ≡ is_column_lookup (binary og p l r)) (w ∙ ap₂ same_column (f l (here_left st og o l r t)) (g r (here_right st og o l r t))) o k)
         e (omega (arith, root_tag e u)) (omega (arith, root_tag e u)) u (sym (root_tag e u) ∙ h)
 
     module _ (h : tag_at s hi ≡ 12) {c j : Cell} (at_c : c ≡ cell_at s mid) (at_j : j ≡ cell_at s (hi - cell_words)) where
-      pub looks_equal : {q : Lookup} → q ≡ equal_cells c j → LooksUp s lo hi q
+      pub looks_equal : {q : code.Option ℕ} → q ≡ equal_cells c j → LooksUp s lo hi q
       looks_equal {q} w e u = by_binary (λ e. ExpressionHere s lo hi e → tag (root e) ≡ 12 → found q ≡ is_column_lookup e)
           (λ og o l r t k. by_equal (λ p. found q ≡ is_column_lookup (binary og p l r))
           (ap found (w ∙ ap₂ equal_cells (at_c ∙ root_is l (here_left st og o l r t)) (at_j ∙ root_is r (here_right st og o l r t))) ∙ root_equal l r) o k)
           e (omega (arith, root_tag e u)) (omega (arith, root_tag e u)) u (sym (root_tag e u) ∙ h)
 
-      pub sets_equal : {x y : Lookup} → x ≡ column_in c → y ≡ column_in j → (q : ColumnPair) → pair q ≡ ordered (found x) (found y) → SetsEqual s lo hi q
+      pub sets_equal : {x y : code.Option ℕ} → x ≡ column_in c → y ≡ column_in j → (q : code.Option (JoinedColumn × JoinedColumn)) → pair q ≡ ordered (found x) (found y) → SetsEqual s lo hi q
       sets_equal {x} {y} in_c in_j q w e u = by_binary (λ e. ExpressionHere s lo hi e → tag (root e) ≡ 12 → pair q ≡ equijoin e)
           (λ og o l r t k. by_equal (λ p. pair q ≡ equijoin (binary og p l r))
           (w ∙ ap₂ ordered
@@ -120,16 +119,16 @@ module _ {s : List ℕ} {lo hi : ℕ} where
           (ap found (in_j ∙ ap column_in (at_j ∙ root_is r (here_right st og o l r t))) ∙ root_column r)) o k)
           e (omega (arith, root_tag e u)) (omega (arith, root_tag e u)) u (sym (root_tag e u) ∙ h)
 
-  pub looks_is : 31 ≤ tag_at s hi → tag_at s hi ≤ 32 → {c : Cell} → c ≡ cell_at s (hi - cell_words) → {q : Lookup} → q ≡ column_in c → LooksUp s lo hi q
+  pub looks_is : 31 ≤ tag_at s hi → tag_at s hi ≤ 32 → {c : Cell} → c ≡ cell_at s (hi - cell_words) → {q : code.Option ℕ} → q ≡ column_in c → LooksUp s lo hi q
   looks_is h k {c} at_c {q} w e u = by_unary (λ e. ExpressionHere s lo hi e → 31 ≤ tag (root e) → tag (root e) ≤ 32 → found q ≡ is_column_lookup e)
       (λ og o x t h₁ k₁. ap found (w ∙ ap column_in (at_c ∙ root_is x (here_operand og o x t))) ∙ (root_column x ∙ sym (is_test og o x h₁ k₁)))
       e (omega (arith, root_tag e u)) u (omega (arith, root_tag e u)) (omega (arith, root_tag e u))
 
-  pub looks_none : (tag_at s hi ≡ 11 → ⊥) → (tag_at s hi ≡ 12 → ⊥) → tag_at s hi < 31 → LooksUp s lo hi Lookup.None
+  pub looks_none : (tag_at s hi ≡ 11 → ⊥) → (tag_at s hi ≡ 12 → ⊥) → tag_at s hi < 31 → LooksUp s lo hi None
   looks_none f g h e u = sym (no_lookup e (λ z. f (root_tag e u ∙ z)) (λ z. g (root_tag e u ∙ z)) (omega (arith, root_tag e u)))
 
-  pub looks_other : 32 < tag_at s hi → LooksUp s lo hi Lookup.None
+  pub looks_other : 32 < tag_at s hi → LooksUp s lo hi None
   looks_other h e u = sym (no_is_test e (omega (arith, root_tag e u)))
 
-  pub sets_none : (tag_at s hi ≡ 12 → ⊥) → SetsEqual s lo hi ColumnPair.None
+  pub sets_none : (tag_at s hi ≡ 12 → ⊥) → SetsEqual s lo hi None
   sets_none h e u = sym (no_equal e (λ z. h (root_tag e u ∙ z)))

@@ -22,7 +22,7 @@ use Rattle.cells.specs.Room.{Wrote, Seals}
 use Rattle.cells.proofs.Laws.{then, nothing, lt_or_ge}
 use Rattle.words.specs.Words.{cell, root, all_words, constant_words}
 use Rattle.words.specs.Place.{ExpressionHere}
-use Rattle.words.proofs.Expressions.{tag, tag_cell, constant_tag, unary_range, binary_range, by_leaf, by_binary, by_equal, root_is, root_tag, root_origin, here_left, here_right}
+use Rattle.words.proofs.Expressions.{tag, tag_cell, constant_tag, unary_range, binary_range, by_binary, by_equal, root_is, root_tag, root_origin, here_left, here_right}
 use Rattle.column_lookup.specs.Values.{Gathers, is_number, is_defined, value_words, is_words}
 
 all_append : {A : Type 0} (f : A → List ℕ) (xs ys : List A) → all_words f (xs ++ ys) ≡ all_words f xs ++ all_words f ys
@@ -103,24 +103,28 @@ by_logical P f (function Divide) h = absurd (omega arith)
 by_logical P f (function Subtract) h = absurd (omega arith)
 by_logical P f (function Multiply) h = absurd (omega arith)
 
-other_values : (e : Expression) → 12 < tag (root e) → is_words (tag (root e)) (origin e) ≡ all_words constant_words (into_column_values e)
-other_values (constant og v) h = absurd (omega (arith, constant_tag v))
-other_values (column og i) h = absurd (omega arith)
-other_values (unary og Not x) h = refl
-other_values (unary og (function IsNull) x) h = refl
-other_values (unary og (function IsNaN) x) h = refl
-other_values (unary og (function Identity) x) h = refl
-other_values (unary og (function Negate) x) h = refl
-other_values (unary og (function SquareRoot) x) h = refl
-other_values (binary og (logical And) l r) h = absurd (omega arith)
-other_values (binary og (logical Or) l r) h = absurd (omega arith)
-other_values (binary og Equal l r) h = absurd (omega arith)
-other_values (binary og (function GreaterThan) l r) h = refl
-other_values (binary og (function LessThan) l r) h = refl
-other_values (binary og (function Add) l r) h = refl
-other_values (binary og (function Divide) l r) h = refl
-other_values (binary og (function Subtract) l r) h = refl
-other_values (binary og (function Multiply) l r) h = refl
+no_is : (t new : ℕ) → (t ≡ 31 → ⊥) → (t ≡ 32 → ⊥) → is_words t new ≡ []
+no_is t new f g = simp (ne_eqb t 31 f, ne_eqb t 32 g)
+
+other_values : (e : Expression) → (tag (root e) ≡ 10 → ⊥) → (tag (root e) ≡ 11 → ⊥) → (tag (root e) ≡ 12 → ⊥)
+    → is_words (tag (root e)) (origin e) ≡ all_words constant_words (into_column_values e)
+other_values (constant og v) f g h = no_is (tag (constant_cell v)) og (λ z. omega (arith, constant_tag v)) (λ z. omega (arith, constant_tag v))
+other_values (column og i) f g h = refl
+other_values (unary og Not x) f g h = refl
+other_values (unary og (function IsNull) x) f g h = refl
+other_values (unary og (function IsNaN) x) f g h = refl
+other_values (unary og (function Identity) x) f g h = refl
+other_values (unary og (function Negate) x) f g h = refl
+other_values (unary og (function SquareRoot) x) f g h = refl
+other_values (binary og (logical And) l r) f g h = absurd (f refl)
+other_values (binary og (logical Or) l r) f g h = absurd (g refl)
+other_values (binary og Equal l r) f g h = absurd (h refl)
+other_values (binary og (function GreaterThan) l r) f g h = refl
+other_values (binary og (function LessThan) l r) f g h = refl
+other_values (binary og (function Add) l r) f g h = refl
+other_values (binary og (function Divide) l r) f g h = refl
+other_values (binary og (function Subtract) l r) f g h = refl
+other_values (binary og (function Multiply) l r) f g h = refl
 
 -- ---- what the functions have written
 
@@ -139,17 +143,11 @@ module _ {d : List ℕ} {at n : ℕ} {d' : List ℕ} where
 pub no_value_written : {d : List ℕ} {at : ℕ} (k : Cell) {b : Bool} → b ≡ is_defined k → b ≡ false → Wrote d at (value_words k) at d
 no_value_written {d} {at} k f z = subst (λ (t : Bool). Wrote d at (cond t (sized [] k) []) at d) (sym z ∙ f) (nothing d at)
 
-pub no_is_written : {d : List ℕ} {at : ℕ} (t new : ℕ) → (t ≡ 31 → ⊥) → (t ≡ 32 → ⊥) → Wrote d at (is_words t new) at d
-no_is_written {d} {at} t new f g = simp (ne_eqb _ _ f, ne_eqb _ _ g) (nothing d at)
-
 module _ {s : List ℕ} {lo hi : ℕ} where
-  pub gathers_leaf : {d : List ℕ} {at : ℕ} → tag_at s hi < 10 → Gathers s lo hi d at at d
-  gathers_leaf {d} {at} h e u = by_leaf (λ e. Wrote d at (all_words constant_words (into_column_values e)) at d) (λ og v. nothing d at) (λ og i. nothing d at)
-      e (omega (arith, root_tag e u))
-
-  pub gathers_other : {d : List ℕ} {at n : ℕ} {d' : List ℕ} {t : ℕ} → t ≡ tag_at s hi → 12 < t → {new : ℕ} → new ≡ origin_at s hi → Wrote d at (is_words t new) n d' → Gathers s lo hi d at n d'
-  gathers_other {d} {at} {n} {d'} {t} q h o w e u = subst (λ (l : List ℕ). Wrote d at l n d')
-      (ap₂ is_words (q ∙ root_tag e u) (o ∙ root_origin e u) ∙ other_values e (omega (arith, root_tag e u))) w
+  pub gathers_other : {d : List ℕ} {at n : ℕ} {d' : List ℕ} {t : ℕ} → t ≡ tag_at s hi → (t ≡ 10 → ⊥) → (t ≡ 11 → ⊥) → (t ≡ 12 → ⊥)
+      → {new : ℕ} → new ≡ origin_at s hi → Wrote d at (is_words t new) n d' → Gathers s lo hi d at n d'
+  gathers_other {d} {at} {n} {d'} {t} q f g h o w e u = let p : t ≡ tag (root e) = q ∙ root_tag e u in subst (λ (l : List ℕ). Wrote d at l n d')
+      (ap₂ is_words p (o ∙ root_origin e u) ∙ other_values e (λ z. f (p ∙ z)) (λ z. g (p ∙ z)) (λ z. h (p ∙ z))) w
 
   module _ {mid : ℕ} (st : mid ≡ start_at s (hi - cell_words)) {d : List ℕ} {at m n : ℕ} {d₁ d₂ : List ℕ} (e₁ : length d₁ ≡ length d) where
     pub gathers_both : 10 ≤ tag_at s hi → tag_at s hi < 12 → Gathers s lo mid d at m d₁ → Gathers s mid (hi - cell_words) d₁ m n d₂ → Gathers s lo hi d at n d₂

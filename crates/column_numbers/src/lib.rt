@@ -7,7 +7,7 @@ ghost use Rattle.std.specs.Prelude.{◌≡◌, ◌+◌, ◌-◌, ◌<◌};
 ghost use Rattle.sql.specs.Expression.{map_columns, replace_column, shift_column_down, shift_column_up};
 ghost use Rattle.words.specs.Place.{ExpressionAt, Maps};
 ghost use Rattle.column_numbers.specs.Columns.{source_of, changed, Room, CellsAt, Rewrites, Changeable, SmallAt};
-ghost use Rattle.column_numbers.specs.References.{column_refers, together, RefersTo};
+ghost use Rattle.column_numbers.specs.References.{RefersLeft, RefersRight};
 
 // A column of a join's left source.
 #[derive(Clone, Copy)]
@@ -51,11 +51,7 @@ impl JoinedColumn {
     pub fn right(self, n: usize) -> RightColumn
         ensures { result.0 ≡ self.0 - n }
     {
-        let c = self.0 as usize;
-        if c < n {
-            return RightColumn(0);
-        }
-        RightColumn((c - n) as u32)
+        RightColumn((self.0 as usize).saturating_sub(n) as u32)
     }
 
     // The source's column that it is, if the left source has n columns.
@@ -86,36 +82,22 @@ fn changed(k: Change, c: u32) -> u32
     ensures { result ≡ changed k c }
 {
     match k {
-        Change::Down(n) => {
-            let moved = JoinedColumn(c).right(n);
-            moved.0
-        }
-        Change::Up(n) => {
-            let moved = RightColumn(c).joined(n);
-            moved.0
-        }
-        Change::Replace(from, to) => {
-            if c == from {
-                return to;
-            }
-            c
-        }
+        Change::Down(n) => JoinedColumn(c).right(n).0,
+        Change::Up(n) => RightColumn(c).joined(n).0,
+        Change::Replace(from, to) => { if c == from { to } else { c } }
     }
 }
 
 // The columns among the cells of d from `at` up to n, rewritten where they stand: no cell changes its size.
-fn change_columns(d: &mut [u32], at: usize, n: usize, k: Change) -> usize
+fn change_columns(d: &mut [u32], at: usize, n: usize, k: Change)
     requires { CellsAt k d.old at n }
-    ensures { (result ≡ n) × Rewrites k d.old at n d.new }
+    ensures { Rewrites k d.old at n d.new }
 {
-    let mut i = at;
-    while i < n {
+    for i in (at..n).step_by(cells::CELL_WORDS) {
         if d[i + cells::TAG] == tags::COLUMN {
             d[i + cells::A] = changed(k, d[i + cells::A]);
         }
-        i += cells::CELL_WORDS;
     }
-    n
 }
 
 // The expression from lo to hi with its columns rewritten.
@@ -127,7 +109,8 @@ pub fn map_columns(s: &[u32], lo: usize, hi: usize, d: &mut [u32], at: usize, k:
     if d.len() < n {
         return n;
     }
-    change_columns(d, at, n, k)
+    change_columns(d, at, n, k);
+    n
 }
 
 // shift_column by −n: from the joined row to the right source's row.
@@ -168,61 +151,20 @@ pub fn replace_column(
     map_columns(s, lo, hi, d, at, Change::Replace(from, to))
 }
 
-// The sources of a join that an expression refers to.
-#[derive(Clone, Copy)]
-pub enum References {
-    Neither,
-    Left,
-    Right,
-    Both,
-}
-
-// What a column refers to, where the left source has n columns.
-fn column_refers(c: u32, n: usize) -> References
-    ensures { result ≡ column_refers n c }
-{
-    if (c as usize) < n {
-        return References::Left;
-    }
-    References::Right
-}
-
-// What two parts of an expression refer to together.
-fn together(a: References, b: References) -> References
-    ensures { result ≡ together a b }
-{
-    match a {
-        References::Neither => b,
-        References::Left => match b {
-            References::Neither => References::Left,
-            References::Left => References::Left,
-            References::Right => References::Both,
-            References::Both => References::Both,
-        },
-        References::Right => match b {
-            References::Neither => References::Right,
-            References::Left => References::Both,
-            References::Right => References::Right,
-            References::Both => References::Both,
-        },
-        References::Both => References::Both,
-    }
-}
-
-// ref_left and ref_right of the expression from lo to hi, where the left source has n columns.
-pub fn refers(s: &[u32], lo: usize, hi: usize, n: usize) -> References
+// ref_left of the expression from lo to hi: whether it refers to a column of a join's left source, which has n columns.
+pub fn refers_left(s: &[u32], lo: usize, hi: usize, n: usize) -> bool
     requires { ExpressionAt s.now lo hi }
-    ensures { RefersTo n s.now lo hi result }
+    ensures { RefersLeft n s.now lo hi result }
 {
-    let mut r = References::Neither;
-    let mut i = lo;
-    while i < hi {
-        i += cells::CELL_WORDS;
-        let c = cells::cell_at(s, i);
-        if c.tag == tags::COLUMN {
-            // The column stands first: it is on one side, so only two cases of `together` are left.
-            r = together(column_refers(c.a, n), r);
-        }
-    }
-    r
+    let (all, _) = s[lo..hi].as_chunks::<{ cells::CELL_WORDS }>();
+    all.iter().any(|cell| cell[cells::TAG] == tags::COLUMN && (cell[cells::A] as usize) < n)
+}
+
+// ref_right of it: whether it refers to a column of the right source.
+pub fn refers_right(s: &[u32], lo: usize, hi: usize, n: usize) -> bool
+    requires { ExpressionAt s.now lo hi }
+    ensures { RefersRight n s.now lo hi result }
+{
+    let (all, _) = s[lo..hi].as_chunks::<{ cells::CELL_WORDS }>();
+    all.iter().any(|cell| cell[cells::TAG] == tags::COLUMN && n <= cell[cells::A] as usize)
 }

@@ -3,9 +3,9 @@
 use Prim.Native.Nat.{ℕ, zero, suc, ◌+◌, ◌-◌, ◌*◌, ◌/◌, ◌%◌, ◌≤◌, ◌<◌}
 use native.Mathlib.Omega.{arith}
 use borrow.Author.Tests.{le-ltb, leb-true}
-use mathlib.Core.Path.{◌≡◌, refl, sym, ap, ap₂, ◌∙◌, subst}
-use mathlib.Core.Bool.{Bool, true, false, ◌&&◌, cond}
-use mathlib.Core.List.{List, [], ◌∷◌, ◌++◌, map}
+use mathlib.Core.Path.{◌≡◌, sym, ap, ◌∙◌, subst}
+use mathlib.Core.Bool.{Bool, true, false, cond}
+use mathlib.Core.List.{List, [], ◌∷◌, ◌++◌}
 use mathlib.Core.Option.{none}
 use lib.Dec.{leb, ltb, eqb}
 use lib.ListN.{length, take, drop, length-drop, take-append-drop}
@@ -13,17 +13,17 @@ use lib.Seq.{drop-append-le, take-append-le, length-take-le}
 use Rattle.value.specs.Meaning.{bytes_at}
 use Rattle.sql.specs.Answer.{done}
 use Rattle.sql.specs.Plan.{Node}
-use Rattle.sheet.specs.Bytes.{byte, word}
-use Rattle.sheet.specs.Parts.{tables_at, columns_at, cells_at, table_count, column_count, cell_count, columns_before, table_name, column_name, inside, table_ok, column_ok, record_ok, bad_record}
+use Rattle.sheet.specs.Bytes.{byte}
+use Rattle.sheet.specs.Parts.{tables_at, columns_at, cells_at, table_count, column_count, cell_count, columns_before, column_name, inside, table_ok, column_ok, record_ok, bad_record}
 use Rattle.sheet.specs.Cell.{Cell, cell_from, cell, Field, unused, any, bit, table, text, small, Tag, unknown, not_carried, carried, tag_of, field_ok, fields_ok, float_ok, cell_ok, origins, bad_cell}
 use Rattle.sheet.specs.Check as Check
 use Rattle.sheet.specs.Check.{plan}
 use Rattle.sheet_laws.specs.Fits.{All, Word}
 use Rattle.sheet_laws.specs.Content.{and_left, and_right}
-use Rattle.sheet_laws.specs.Layout.{Parts, none_failing, table_facts}
+use Rattle.sheet_laws.specs.Layout.{none_failing, table_facts}
 use Rattle.sheet_laws.specs.Plan.{Bytes}
-use Rattle.sheet_laws.proofs.Plan.{word_bound, parts_of}
-use Rattle.sheet_laws.specs.Accepted.{Accepted, accepted}
+use Rattle.sheet_laws.proofs.Plan.{word_bound}
+use Rattle.sheet_laws.specs.Accepted.{accepted}
 use Rattle.sound.specs.Lists.{all_append}
 use Rattle.compact.specs.Slots.{Slot, number, reference, references, field_slot, field_slots, record_slots, cell_slots, in_each, slots}
 use Rattle.compact.proofs.Cells.{Refers}

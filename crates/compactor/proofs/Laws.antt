@@ -1,21 +1,20 @@
 -- Laws on what is written: bytes copied, strings, records and cells one after the other.
 -- Assumes nothing.
-use Prim.Native.Nat.{ℕ, zero, suc, ◌+◌, ◌-◌, ◌*◌, ◌/◌, ◌%◌, ◌≤◌, ◌<◌}
+use Prim.Native.Nat.{ℕ, zero, suc, ◌+◌, ◌*◌, ◌/◌, ◌%◌, ◌≤◌, ◌<◌}
 use native.Mathlib.Omega.{arith}
 use native.Mathlib.Numerals.{add-one}
-use mathlib.Core.Path.{◌≡◌, refl, sym, ap, ap₂, ◌∙◌, subst}
-use mathlib.Core.Bool.{Bool, true, false, cond}
+use mathlib.Core.Path.{◌≡◌, refl, sym, ap, ap₂, ◌∙◌}
+use mathlib.Core.Bool.{Bool, true, false}
 use mathlib.Core.List.{List, [], ◌∷◌, ◌++◌, map, append_assoc, append-nil}
-use lib.ListN.{length, take, drop, get_or, set, length-append, length-take, length-drop, length-set, take-append-drop}
-use lib.Seq.{set_split, take-suc, get_or-drop, drop-drop, take-append-add, drop-append_seam, get_or-append_seam, length-take-le}
+use lib.ListN.{length, take, drop, get_or, length-append, take-append-drop}
+use lib.Seq.{take-suc, get_or-drop, drop-drop}
 use Rattle.value.specs.Meaning.{bytes_at}
 use Rattle.sheet.specs.Bytes.{byte, word, bytes}
-use Rattle.sheet.specs.Cell.{Cell, cell_from, tag_of}
-use Rattle.sheet_laws.specs.Fits.{All}
+use Rattle.sheet.specs.Cell.{cell_from, tag_of}
 use Rattle.sheet_laws.specs.Plan.{Bytes}
 use Rattle.sheet_laws.specs.Bytes.{word_next}
 use Rattle.compact.specs.Strings.{joined}
-use Rattle.compact.specs.Slots.{Slot, number, reference, references, value, redirect, record_slots, cell_slots, in_each, slots, slot_bytes}
+use Rattle.compact.specs.Slots.{Slot, number, reference, references, redirect, record_slots, cell_slots, in_each, slot_bytes}
 use Rattle.compact.proofs.Blocks.{slot_bytes_append, length_slot_bytes, map_append}
 use Rattle.layout.specs.Layout.{IsCell}
 use Rattle.layout.specs.declared.Cell as Code
@@ -23,23 +22,13 @@ use Rattle.encode.specs.Encode.{written}
 use Rattle.encode.proofs.Written.{written_none, chain, length_bytes}
 use Rattle.gather.specs.Gather.{stretch, held, Inside}
 use Rattle.gather.proofs.Laws.{length_stretch}
-use Rattle.text_references.specs.Asks.{asks_a, asks_b, if_refers}
-use Rattle.text_references.proofs.Laws.{references_append, in_each_last, cell_slots_are}
+use Rattle.gather.specs.declared.Kept.{Kept}
+use Rattle.gather.proofs.Strings.{nothing}
+use Rattle.text_references.specs.Asks.{asks_a, asks_b, if_refers, slot_of, Fields}
+use Rattle.text_references.specs.declared.Slot as Field
+use Rattle.text_references.specs.declared.Slot.TheVariants as Variants
+use Rattle.text_references.proofs.Laws.{references_append, in_each_last, cell_slots_are, fields_from}
 use Rattle.compactor.specs.Compactor.{fill}
-
--- ---- one byte, and bytes copied
-
-written_one : (d : List ℕ) (m v : ℕ) → m < length d → set d m v ≡ written d m (v ∷ [])
-written_one d m v h = set_split d m v h ∙ ap (λ (k : ℕ). take m d ++ (v ∷ drop k d)) (sym (add-one m))
-
-pub copy_on : (d₀ d s : List ℕ) (from at i : ℕ) → at ≤ length d₀ → length d ≡ length d₀ → at + i < length d₀ → from + i < length s
-    → d ≡ written d₀ at (stretch s from i) → set d (at + i) (get_or s (from + i) 0) ≡ written d₀ at (stretch s from (i + 1))
-copy_on d₀ d s from at i h l room inside e =
-    let b = get_or s (from + i) 0 in
-    let size : length (stretch s from i) ≡ i = length_stretch s from i (omega arith) in
-    let last : stretch s from (i + 1) ≡ stretch s from i ++ (b ∷ []) =
-    ap (λ (k : ℕ). take k (drop from s)) (add-one i) ∙ take-suc (drop from s) i 0 (omega (arith, length-drop from s)) ∙ ap (λ (x : ℕ). stretch s from i ++ (x ∷ [])) (get_or-drop from s i 0) in
-    chain d₀ at {m = at + i} (stretch s from i) (b ∷ []) h (omega (arith, size)) e (written_one d (at + i) b (omega arith)) ∙ ap (written d₀ at) (sym last)
 
 -- ---- strings
 
@@ -47,39 +36,45 @@ joined_last : (ks : List (List ℕ)) (t : List ℕ) → joined (ks ++ (t ∷ [])
 joined_last [] t = append-nil t
 joined_last (k ∷ ks) t = ap (λ (l : List ℕ). k ++ l) (joined_last ks t) ∙ sym (append_assoc k (joined ks) t)
 
-held_last : (s olds : List ℕ) (j : ℕ) → j < length olds → held s olds (j + 1) ≡ held s olds j ++ (bytes_at s (get_or olds j 0) ∷ [])
-held_last s olds j h = ap (λ (k : ℕ). held s olds k) (add-one j) ∙ ap (map (bytes_at s)) (take-suc olds j 0 h) ∙ map_append (bytes_at s) (take j olds) (get_or olds j 0 ∷ [])
+joined_append : (ks ls : List (List ℕ)) → joined (ks ++ ls) ≡ joined ks ++ joined ls
+joined_append [] ls = refl
+joined_append (k ∷ ks) ls = ap (λ (l : List ℕ). k ++ l) (joined_append ks ls) ∙ sym (append_assoc k (joined ks) (joined ls))
 
-joined_upto : (s olds : List ℕ) (i k : ℕ) → i + k ≤ length olds → length (joined (held s olds i)) ≤ length (joined (held s olds (i + k)))
-joined_upto s olds i zero h = let e : i ≡ i + 0 = omega arith in subst (λ (j : ℕ). length (joined (held s olds i)) ≤ length (joined (held s olds j))) e (omega arith)
-joined_upto s olds i (suc k) h =
-    let e : i + k + 1 ≡ i + suc k = omega arith in
-    let t = bytes_at s (get_or olds (i + k) 0) in
-    let l : length (joined (held s olds (i + suc k))) ≡ length (joined (held s olds (i + k))) + length t =
-    ap (λ (j : ℕ). length (joined (held s olds j))) (sym e) ∙ ap (λ (x : List (List ℕ)). length (joined x)) (held_last s olds (i + k) (omega arith))
-    ∙ ap length (joined_last (held s olds (i + k)) t) ∙ length-append (joined (held s olds (i + k))) t in
-    omega (arith, l, joined_upto s olds i k (omega arith))
+held_last : (s : List ℕ) (ks : List Kept) (j : ℕ) → j < length ks → held s (take (j + 1) ks) ≡ held s (take j ks) ++ (bytes_at s (get_or ks j nothing).reference ∷ [])
+held_last s ks j h =
+    ap (λ (k : ℕ). held s (take k ks)) (add-one j) ∙ ap (held s) (take-suc ks j nothing h)
+    ∙ map_append (λ (k : Kept). bytes_at s k.reference) (take j ks) (get_or ks j nothing ∷ [])
+
+next_joined : (s : List ℕ) (ks : List Kept) (j : ℕ) → j < length ks → joined (held s (take (j + 1) ks)) ≡ joined (held s (take j ks)) ++ bytes_at s (get_or ks j nothing).reference
+next_joined s ks j h = ap joined (held_last s ks j h) ∙ joined_last (held s (take j ks)) (bytes_at s (get_or ks j nothing).reference)
 
 -- Room for the next string.
-pub text_room : (s olds : List ℕ) (count j : ℕ) → j < count → count ≤ length olds → Inside s (get_or olds j 0)
-    → length (joined (held s olds j)) + get_or olds j 0 / 65536 ≤ length (joined (held s olds count))
-text_room s olds count j l h i =
-    let r = get_or olds j 0 in
-    let k = count - (j + 1) in
-    let e : j + 1 + k ≡ count = omega arith in
-    let up = subst (λ (m : ℕ). length (joined (held s olds (j + 1))) ≤ length (joined (held s olds m))) e (joined_upto s olds (j + 1) k (omega arith)) in
-    let n : length (joined (held s olds (j + 1))) ≡ length (joined (held s olds j)) + length (bytes_at s r) =
-    ap (λ (x : List (List ℕ)). length (joined x)) (held_last s olds j (omega arith)) ∙ ap length (joined_last (held s olds j) (bytes_at s r)) ∙ length-append (joined (held s olds j)) (bytes_at s r) in
-    omega (arith, up, n, length_stretch s (r % 65536) (r / 65536) i.within)
+pub text_room : (s : List ℕ) (ks : List Kept) (j : ℕ) → j < length ks → Inside s (get_or ks j nothing).reference
+    → length (joined (held s (take j ks))) + (get_or ks j nothing).reference / 65536 ≤ length (joined (held s ks))
+text_room s ks j l i =
+    let r = (get_or ks j nothing).reference in
+    let split : joined (held s ks) ≡ joined (held s (take (j + 1) ks)) ++ joined (held s (drop (j + 1) ks)) =
+    ap (λ (x : List Kept). joined (held s x)) (sym (take-append-drop (j + 1) ks))
+    ∙ ap joined (map_append (λ (k : Kept). bytes_at s k.reference) (take (j + 1) ks) (drop (j + 1) ks)) ∙ joined_append (held s (take (j + 1) ks)) (held s (drop (j + 1) ks)) in
+    omega (
+      arith,
+      ap length split,
+      length-append (joined (held s (take (j + 1) ks))) (joined (held s (drop (j + 1) ks))),
+      ap length (next_joined s ks j l),
+      length-append (joined (held s (take j ks))) (bytes_at s r),
+      length_stretch s (r % 65536) (r / 65536) i.within,
+    )
 
-pub text_on : (s olds d₀ d d' : List ℕ) (j to r : ℕ) → j < length olds → Inside s (get_or olds j 0) → to ≡ length (joined (held s olds j)) → d ≡ written d₀ 0 (joined (held s olds j))
-    → (r ≡ to + get_or olds j 0 / 65536) × (d' ≡ written d to (bytes_at s (get_or olds j 0)))
-    → (r ≡ length (joined (held s olds (j + 1)))) × (d' ≡ written d₀ 0 (joined (held s olds (j + 1))))
-text_on s olds d₀ d d' j to r l i e w x =
-    let t = bytes_at s (get_or olds j 0) in
-    let k : joined (held s olds (j + 1)) ≡ joined (held s olds j) ++ t = ap joined (held_last s olds j l) ∙ joined_last (held s olds j) t in (
-      omega (arith, x.0, e, ap length k, length-append (joined (held s olds j)) t, length_stretch s (get_or olds j 0 % 65536) (get_or olds j 0 / 65536) i.within),
-      chain d₀ 0 (joined (held s olds j)) t (omega arith) (e ∙ omega arith) w x.1 ∙ ap (written d₀ 0) (sym k),
+pub text_on : (s : List ℕ) (ks : List Kept) (d₀ d d' : List ℕ) (j to r : ℕ) → j < length ks → Inside s (get_or ks j nothing).reference
+    → to ≡ length (joined (held s (take j ks))) → d ≡ written d₀ 0 (joined (held s (take j ks)))
+    → (r ≡ to + (get_or ks j nothing).reference / 65536) × (d' ≡ written d to (bytes_at s (get_or ks j nothing).reference))
+    → (r ≡ length (joined (held s (take (j + 1) ks)))) × (d' ≡ written d₀ 0 (joined (held s (take (j + 1) ks))))
+text_on s ks d₀ d d' j to r l i e w x =
+    let v = (get_or ks j nothing).reference in
+    let t = bytes_at s v in
+    let k = next_joined s ks j l in (
+      omega (arith, x.0, e, ap length k, length-append (joined (held s (take j ks))) t, length_stretch s (v % 65536) (v / 65536) i.within),
+      chain d₀ 0 (joined (held s (take j ks))) t (omega arith) (e ∙ omega arith) w x.1 ∙ ap (written d₀ 0) (sym k),
     )
 
 -- ---- words
@@ -177,25 +172,19 @@ unfolding slot_bytes
 field_number d d₁ fresh v j at e = e ∙ ap (written d at) (sym (append-nil (bytes v)))
 
 -- A cell's four words, filled, in turn.
-pub cell_put : (s : List ℕ) → Bytes s → (p : ℕ) (k : Code.Cell) (fresh d d₁ d₂ d₃ d₄ : List ℕ) (j at : ℕ) {x i m y : ℕ} {a b : Bool} → IsCell (cell_from s p) k
-    → a ≡ asks_a (tag_of k.tag) k.flag → b ≡ asks_b (tag_of k.tag) k.flag → p + 16 ≤ length s → at + 16 ≤ length d
+pub cell_put : (s : List ℕ) → Bytes s → (p : ℕ) (k : Code.Cell) (fresh d d₁ d₂ d₃ d₄ : List ℕ) (j at : ℕ) {x i m y : ℕ} {a b : Field.Slot} → IsCell (cell_from s p) k
+    → Fields k a b → p + 16 ≤ length s → at + 16 ≤ length d
     → (x ≡ at + 4) × (d₁ ≡ written d at (stretch s p 4))
-    → (i ≡ j + length (references (if_refers a k.a))) × (d₂ ≡ written d₁ x (slot_bytes (fill (if_refers a k.a) (drop j fresh))))
-    → (m ≡ i + length (references (if_refers b k.b))) × (d₃ ≡ written d₂ (x + 4) (slot_bytes (fill (if_refers b k.b) (drop i fresh))))
+    → (i ≡ j + length (references (slot_of a ∷ []))) × (d₂ ≡ written d₁ x (slot_bytes (fill (slot_of a ∷ []) (drop j fresh))))
+    → (m ≡ i + length (references (slot_of b ∷ []))) × (d₃ ≡ written d₂ (x + 4) (slot_bytes (fill (slot_of b ∷ []) (drop i fresh))))
     → (y ≡ x + 8 + 4) × (d₄ ≡ written d₃ (x + 8) (stretch s (p + 12) 4))
     → (m ≡ j + length (references (cell_slots s p))) × (d₄ ≡ written d at (slot_bytes (fill (cell_slots s p) (drop j fresh))))
 unfolding slot_bytes
-cell_put s bs p k fresh d d₁ d₂ d₃ d₄ j at {x = x} {i = i} {m = m} {a = a} {b = b} c ea eb h room q0 q1 q2 q3 =
-    let is = c.is in
-    let tag : k.tag ≡ byte s p = ap (λ (z : Cell). z.tag) is in
-    let flag : k.flag ≡ byte s (p + 1) = ap (λ (z : Cell). z.flag) is in
-    let va : k.a ≡ word s (p + 4) = ap (λ (z : Cell). z.a) is in
-    let vb : k.b ≡ word s (p + 8) = ap (λ (z : Cell). z.b) is in
-    let fa : if_refers a k.a ≡ if_refers (asks_a (tag_of (byte s p)) (byte s (p + 1))) (word s (p + 4)) = ap₂ if_refers (ea ∙ ap₂ (λ (t g : ℕ). asks_a (tag_of t) g) tag flag) va in
-    let fb : if_refers b k.b ≡ if_refers (asks_b (tag_of (byte s p)) (byte s (p + 1))) (word s (p + 8)) = ap₂ if_refers (eb ∙ ap₂ (λ (t g : ℕ). asks_b (tag_of t) g) tag flag) vb in
+cell_put s bs p k fresh d d₁ d₂ d₃ d₄ j at {x = x} {i = i} {m = m} {a = a} {b = b} c f h room q0 q1 q2 q3 =
+    let (fa, fb) = fields_from s p k c f in
     let first = number (word s p) ∷ [] in
-    let ra = if_refers a k.a in
-    let rb = if_refers b k.b in
+    let ra = slot_of a ∷ [] in
+    let rb = slot_of b ∷ [] in
     let last = number (word s (p + 12)) ∷ [] in
     let fs = drop j fresh in
     let na = length (references ra) in
@@ -252,12 +241,13 @@ cells_on s fresh d₀ d d' from at i first j h n w x =
           ∙ ap (λ (l : List Slot). written d₀ at (slot_bytes (fill l (drop first fresh)))) (sym last),
     )
 
-pub put_reference : (refers : Bool) (d d₁ fresh : List ℕ) (v j at : ℕ) → refers ≡ true → d₁ ≡ written d at (bytes (get_or fresh j 0))
-    → (j + 1 ≡ j + length (references (if_refers refers v))) × (d₁ ≡ written d at (slot_bytes (fill (if_refers refers v) (drop j fresh))))
-put_reference true d d₁ fresh v j at e w = (refl, field_reference d d₁ fresh v j at w)
-put_reference false d d₁ fresh v j at e w = absurd (let z : ◌≡◌ {A = ℕ} 0 1 = cc in omega arith)
+-- One field, by what it holds.
+pub put_reference : (d d₁ fresh : List ℕ) (r j at : ℕ) → d₁ ≡ written d at (bytes (get_or fresh j 0)) → d₁ ≡ written d at (slot_bytes (fill (reference r ∷ []) (drop j fresh)))
+put_reference d d₁ fresh r j at w = field_reference d d₁ fresh r j at w
 
-pub put_number : (refers : Bool) (d d₁ fresh : List ℕ) (v j at : ℕ) → refers ≡ false → d₁ ≡ written d at (bytes v)
-    → (j ≡ j + length (references (if_refers refers v))) × (d₁ ≡ written d at (slot_bytes (fill (if_refers refers v) (drop j fresh))))
-put_number false d d₁ fresh v j at e w = (omega arith, field_number d d₁ fresh v j at w)
-put_number true d d₁ fresh v j at e w = absurd (let z : ◌≡◌ {A = ℕ} 0 1 = cc in omega arith)
+pub put_number : (d d₁ fresh : List ℕ) (v j at : ℕ) → d₁ ≡ written d at (bytes v) → d₁ ≡ written d at (slot_bytes (fill (number v ∷ []) (drop j fresh)))
+put_number d d₁ fresh v j at w = field_number d d₁ fresh v j at w
+
+pub slot_few : (a : Field.Slot) → length (references (slot_of a ∷ [])) ≤ 1
+slot_few (Variants.Number v) = omega arith
+slot_few (Variants.Reference r) = omega arith

@@ -1,20 +1,18 @@
 -- The whole operation.
 -- Assumes nothing.
-use Prim.Native.Nat.{ℕ, zero, suc, ◌+◌, ◌-◌, ◌*◌, ◌/◌, ◌%◌, ◌≤◌, ◌<◌}
+use Prim.Native.Nat.{ℕ, zero, suc, ◌+◌, ◌*◌, ◌≤◌, ◌<◌}
 use native.Mathlib.Omega.{arith}
 use borrow.Author.Tests.{le-leb, lt-leb}
 use mathlib.Core.Path.{◌≡◌, refl, sym, ap, ap₂, ◌∙◌, subst}
 use mathlib.Core.Bool.{Bool, true, false, cond}
 use mathlib.Core.List.{List, [], ◌∷◌, ◌++◌, map, append_assoc}
 use lib.Dec.{leb}
-use lib.ListN.{length, take, drop, length-append, length-map, take-append-drop}
-use lib.Seq.{length-take-le}
+use lib.ListN.{length, take, drop, length-append, take-append-drop}
 use Rattle.value.specs.Meaning.{bytes_at}
 use Rattle.sql.specs.Answer.{Answer, done, refused}
 use Rattle.sql.specs.Plan.{Node, columns, node_size}
-use Rattle.sheet.specs.Bytes.{bytes, word}
 use Rattle.sheet.specs.Parts.{tables_at, columns_at, cells_at, edition, table_count, column_count, cell_count}
-use Rattle.sheet.specs.Check.{Numbers, text, schema, plan, check, checked, refusal}
+use Rattle.sheet.specs.Check.{Numbers, text, schema, plan, check, checked}
 use Rattle.sheet.specs.Operations as Sheet
 use Rattle.sheet.specs.Operations.{refuse}
 use Rattle.sheet_laws.specs.Fits.{All}
@@ -30,26 +28,23 @@ use Rattle.compact.proofs.Blocks.{slot_bytes_append, length_slot_bytes}
 use Rattle.compact.proofs.Moved.{length_d}
 use Rattle.layout.specs.Layout.{Whole, Laid}
 use Rattle.layout.specs.declared.Parts.{Parts}
-use Rattle.checker.specs.Checker.{numbers, outcome}
-use Rattle.checker.specs.declared.Answer as Code
-use Rattle.encode.specs.Encode.{written}
-use Rattle.encode.proofs.Written.{chain, trailer_put}
-use Rattle.gather.specs.Gather.{Inside, held, Gathers, Gathered}
+use Rattle.std.specs.Prelude.{Result, Ok, Err}
+use Rattle.checker.specs.Checker.{answered}
+use Rattle.checker.specs.Refusals.{number_of, refusal_of}
+use Rattle.checker.specs.declared.Counts.{Counts}
+use Rattle.checker.specs.declared.refusals.Refusal.{Refusal}
+use Rattle.checker.specs.declared.refusals.Refusal.TheVariants as Causes
+use Rattle.checker.specs.declared.refusals.Refusal.TheVariants.{NoRoom, OutputTooShort}
+use Rattle.encode.specs.Encode.{written, trailer_at}
+use Rattle.encode.proofs.Written.{chain}
+use Rattle.gather.specs.Gather.{Inside, held, Gathers}
+use Rattle.gather.specs.declared.Total.{Total}
 use Rattle.gather.specs.declared.Kept.{Kept}
 use Rattle.text_references.specs.Asks.{Listed}
 use Rattle.text_references.proofs.Laws.{in_each_join}
-use Rattle.compactor.specs.Compactor.{fill, trailer_at, TextAt, Ready, Writes, Counted, Runs}
+use Rattle.compactor.specs.Compactor.{fill, Ready, Writes, Counted, Runs, returned}
 use Rattle.compactor.proofs.Laws.{fill_append, fill_redirect, length_fill, length_cells}
 use Rattle.compactor.proofs.Inside.{InText, references_inside, inside_sheet, same_bytes}
-
--- ---- the trailer
-
-pub trailer_put_at : (d : List ℕ) (at tables columns cells edition : ℕ) {a b c e r : ℕ} {d₁ d₂ d₃ d₄ d₅ : List ℕ} → at + 20 ≤ length d
-    → (a ≡ at + 4) × (d₁ ≡ written d at (bytes tables)) → (b ≡ a + 4) × (d₂ ≡ written d₁ a (bytes columns)) → (c ≡ b + 4) × (d₃ ≡ written d₂ b (bytes cells))
-    → (e ≡ c + 4) × (d₄ ≡ written d₃ c (bytes edition)) → (r ≡ e + 4) × (d₅ ≡ written d₄ e (bytes (e + 4)))
-    → (r ≡ at + 20) × (d₅ ≡ written d at (trailer_at tables columns cells edition (at + 20)))
-trailer_put_at d at tables columns cells edition h x y z u v =
-    trailer_put d at (record { tables = record { at = tables; count = 0 }; columns = record { at = columns; count = 0 }; cells = record { at = cells; count = 0 } }) edition h x y z u v
 
 -- ---- the strings are those of the definition
 
@@ -94,7 +89,7 @@ module _ (s : List ℕ) (b : Bytes s) (n : Node) (h : plan s ≡ done n) where
 
   -- ---- the sheet that is written
 
-  module _ (p : Parts) (l : Laid s p) (olds fresh : List ℕ) (count : ℕ) (g : Gathers s rs olds fresh count) (short : length (kept_text s) ≤ 8192) where
+  module _ (p : Parts) (l : Laid s p) (bytes n_columns : ℕ) (ks : List Kept) (fresh : List ℕ) (g : Ready s bytes n_columns ks fresh) (short : length (kept_text s) ≤ 8192) where
     abbrev records : ℕ
     records = p.tables.count + p.columns.count
 
@@ -115,8 +110,8 @@ module _ (s : List ℕ) (b : Bytes s) (n : Node) (h : plan s ≡ done n) where
     counts : (p.tables.count ≡ table_count s) × ((p.columns.count ≡ column_count s) × (p.cells.count ≡ cell_count s))
     counts = (ap (λ (q : Parts). q.tables.count) l.is, (ap (λ (q : Parts). q.columns.count) l.is, ap (λ (q : Parts). q.cells.count) l.is))
 
-    pub needed_is : (bytes : ℕ) → bytes ≡ length (kept_text s) → bytes + records * 16 + p.cells.count * 16 + 20 ≡ length (compacted s)
-    needed_is bytes e = omega (arith, e, counts, length_d s b (parts_of (accepted s n h)) short)
+    pub needed_is : bytes + records * 16 + p.cells.count * 16 + 20 ≡ length (compacted s)
+    needed_is = omega (arith, g.bytes_are, counts, length_d s b (parts_of (accepted s n h)) short)
 
     record_refs : (at n : ℕ) → length (references (in_each (record_slots s) at n)) ≡ n
     record_refs at zero = refl
@@ -126,16 +121,17 @@ module _ (s : List ℕ) (b : Bytes s) (n : Node) (h : plan s ≡ done n) where
     record_slots_long at zero = refl
     record_slots_long at (suc n) = omega (arith, record_slots_long (at + 16) n)
 
-    pub whole_put : (bytes : ℕ) → bytes ≡ length (kept_text s) → (d d₁ d₂ d₃ d₄ : List ℕ) {a c e edition' r : ℕ} → bytes + records * 16 + p.cells.count * 16 + 20 ≤ length d
-        → (a ≡ length (joined (held s olds count))) × (d₁ ≡ written d 0 (joined (held s olds count)))
+    pub whole_put : (d d₁ d₂ d₃ d₄ : List ℕ) {a c e edition' r : ℕ} → bytes + records * 16 + p.cells.count * 16 + 20 ≤ length d
+        → (a ≡ length (joined (held s ks))) × (d₁ ≡ written d 0 (joined (held s ks)))
         → (c ≡ a + records * 16) × (d₂ ≡ written d₁ a (slot_bytes (fill (in_each (record_slots s) p.tables.at records) fresh)))
         → (e ≡ c + p.cells.count * 16) × (d₃ ≡ written d₂ c (slot_bytes (fill (in_each (cell_slots s) p.cells.at p.cells.count) (drop records fresh))))
         → edition' ≡ edition s
         → (r ≡ e + 20) × (d₄ ≡ written d₃ e (trailer_at a (a + p.tables.count * 16) c edition' (e + 20)))
         → d₄ ≡ compacted s ++ drop (length (compacted s)) d
     unfolding compacted trailer_with
-    whole_put bytes be d d₁ d₂ d₃ d₄ {a = a} {c = c} {e = e} {edition' = ed} room w0 w1 w2 ee w3 =
-        let x = joined (held s olds count) in
+    whole_put d d₁ d₂ d₃ d₄ {a = a} {c = c} {e = e} {edition' = ed} room w0 w1 w2 ee w3 =
+        let x = joined (held s ks) in
+        let be = g.bytes_are in
         let xe : x ≡ kept_text s = ap joined g.strings ∙ text_is in
         let r = in_each (record_slots s) p.tables.at records in
         let k = in_each (cell_slots s) p.cells.at p.cells.count in
@@ -167,17 +163,17 @@ module _ (s : List ℕ) (b : Bytes s) (n : Node) (h : plan s ≡ done n) where
 
 -- ---- what is answered
 
-pub write_refused : (s out : List ℕ) (a : Code.Answer) (needed : ℕ) → needed ≡ length (compacted s) → length out < needed → numbers a ≡ refusal 15 needed → Writes s out a out
-write_refused s out a needed e l h node p =
+pub write_refused : (s out : List ℕ) (needed : ℕ) → needed ≡ length (compacted s) → length out < needed → Writes s out (Err (OutputTooShort needed)) out
+write_refused s out needed e l node p =
     let short : leb (length (compacted s)) (length out) ≡ false = lt-leb (length (compacted s)) (length out) (omega arith) in
-    ap (λ (z : Numbers). record { numbers = z; output = out }) (h ∙ ap (refusal 15) e) ∙ sym (ap (Sheet.written s out node (compacted s)) short)
+    ap (λ (k : ℕ). refuse out 15 k) e ∙ sym (ap (Sheet.written s out node (compacted s)) short)
 
 same_node : (s : List ℕ) (m n : Node) → plan s ≡ done m → plan s ≡ done n → m ≡ n
 same_node s m n p q = let e : ◌≡◌ {A = Answer Node} (done m) (done n) = sym p ∙ q in cc
 
 pub write_done : (s : List ℕ) → Bytes s → (out out' : List ℕ) (n : Node) (needed cells wide : ℕ) → plan s ≡ done n → needed ≡ length (compacted s) → needed ≤ length out → cells ≡ cell_count s
     → wide ≡ columns (schema s) n → out' ≡ compacted s ++ drop (length (compacted s)) out
-    → Writes s out (record { number = 0; place = 0; length = needed; cells = cells; columns = wide }) out'
+    → Writes s out (Ok (needed, record { cells = cells; columns = wide })) out'
 write_done s b out out' n needed cells wide p e l c w o node q =
     let same = same_node s n node p q in
     let long : leb (length (compacted s)) (length out) ≡ true = le-leb (length (compacted s)) (length out) (omega arith) in
@@ -185,38 +181,56 @@ write_done s b out out' n needed cells wide p e l c w o node q =
     let broad : wide ≡ columns (schema s) node = w ∙ ap (columns (schema s)) same in
     cc (e, size, broad, o, ap (Sheet.written s out node (compacted s)) long)
 
-pub run_refused : (s : List ℕ) → Bytes s → (out : List ℕ) (a : Code.Answer) (n : Node) → plan s ≡ done n → 8192 < length (kept_text s) → numbers a ≡ refusal 14 0 → Runs s out a out
+pub run_refused : (s : List ℕ) → Bytes s → (out : List ℕ) (n : Node) → plan s ≡ done n → 8192 < length (kept_text s) → Runs s out (Err NoRoom) out
 unfolding kept_text compacted
-run_refused s b out a n p l h node q =
+run_refused s b out n p l node q =
     let over : leb (length (kept_text s)) 8192 ≡ false = lt-leb (length (kept_text s)) 8192 l in
-    ap (λ (z : Numbers). record { numbers = z; output = out }) h
-    ∙ sym (ap (λ (t : Bool). cond t (Sheet.written s out node (compacted s) (leb (length (compacted s)) (length out))) (refuse out 14 0)) over)
+    sym (ap (λ (t : Bool). cond t (Sheet.written s out node (compacted s) (leb (length (compacted s)) (length out))) (refuse out 14 0)) over)
 
-pub run_written : (s out out' : List ℕ) (a : Code.Answer) → length (kept_text s) ≤ 8192 → Writes s out a out' → Runs s out a out'
+pub run_written : (s out out' : List ℕ) (a : Result (ℕ × Counts) Refusal) → length (kept_text s) ≤ 8192 → Writes s out a out' → Runs s out a out'
 unfolding kept_text compacted
 run_written s out out' a l w node q =
     let few : leb (length (kept_text s)) 8192 ≡ true = le-leb (length (kept_text s)) 8192 l in
     w node q ∙ sym (ap (λ (t : Bool). cond t (Sheet.written s out node (compacted s) (leb (length (compacted s)) (length out))) (refuse out 14 0)) few)
 
+-- Every refusal has a number.
+some_number : (r : Refusal) → 1 ≤ number_of r
+some_number Causes.Pass = omega arith
+some_number Causes.Length = omega arith
+some_number Causes.Edition = omega arith
+some_number Causes.Parts = omega arith
+some_number (Causes.Record i) = omega arith
+some_number (Causes.Cell i) = omega arith
+some_number (Causes.NotCarried i) = omega arith
+some_number (Causes.NotOnePlan i) = omega arith
+some_number (Causes.OutOfScope i) = omega arith
+some_number (Causes.RepeatedTarget i) = omega arith
+some_number (Causes.Overflow i) = omega arith
+some_number (Causes.DivisionByZero i) = omega arith
+some_number (Causes.Mismatch i) = omega arith
+some_number Causes.NoRoom = omega arith
+some_number (Causes.OutputTooShort needed) = omega arith
+some_number Causes.OtherEdition = omega arith
+
 -- What check refuses is refused.
-pub compact_refused : (s out : List ℕ) (a : Code.Answer) → numbers a ≡ check s → 1 ≤ a.number → outcome a out ≡ compact s out
+pub compact_refused : (s out : List ℕ) (r : Refusal) → refusal_of r ≡ check s → returned (Err r) out ≡ compact s out
 unfolding check compact
-compact_refused s out a e h = go (plan s) e
+compact_refused s out r e = go (plan s) e
   where
-    go : (r : Answer Node) → numbers a ≡ checked s r → outcome a out ≡ handed_out s out r
-    go (done node) g = absurd (omega (arith, h, ap (λ (z : Numbers). z.number) g))
+    go : (a : Answer Node) → refusal_of r ≡ checked s a → returned (Err r) out ≡ handed_out s out a
+    go (done node) g = absurd (omega (arith, some_number r, ap (λ (z : Numbers). z.number) g))
     go (refused number place) g = ap (λ (z : Numbers). record { numbers = z; output = out }) g
 
 -- What it doesn't refuse is a plan with the columns that it counted.
-pub counted : (s : List ℕ) (a : Code.Answer) → numbers a ≡ check s → a.number ≡ 0 → Counted s a.columns
+pub counts_of : (s : List ℕ) (c : Counts) → answered (Ok c) ≡ check s → Counted s c.columns
 unfolding check
-counted s a e z = go (plan s) refl e (plan_refused s)
+counts_of s c e = go (plan s) refl e (plan_refused s)
   where
-    go : (r : Answer Node) → plan s ≡ r → numbers a ≡ checked s r → RefusedBy (FromTo 2 10) r → Counted s a.columns
+    go : (r : Answer Node) → plan s ≡ r → answered (Ok c) ≡ checked s r → RefusedBy (FromTo 2 10) r → Counted s c.columns
     go (done node) p g x = record { node = node; stands_for = p; counts = ap (λ (m : Numbers). m.columns) g }
-    go (refused number place) p g x = absurd (omega (arith, x.0, z, ap (λ (m : Numbers). m.number) g))
+    go (refused number place) p g x = absurd (omega (arith, x.0, ap (λ (m : Numbers). m.number) g))
 
-pub compact_run : (s out out' : List ℕ) (a : Code.Answer) (n : Node) → plan s ≡ done n → Runs s out a out' → outcome a out' ≡ compact s out
+pub compact_run : (s out out' : List ℕ) (a : Result (ℕ × Counts) Refusal) (n : Node) → plan s ≡ done n → Runs s out a out' → returned a out' ≡ compact s out
 unfolding compact
 compact_run s out out' a n p r = r n p ∙ sym (ap (handed_out s out) p)
 
@@ -225,30 +239,32 @@ compact_run s out out' a n p r = r n p ∙ sym (ap (handed_out s out) p)
 pub whole_of : (s : List ℕ) (n : Node) → plan s ≡ done n → Whole s
 whole_of s n h = let a = accepted s n h in record { length_is = a.length_is; parts_are = a.parts_are }
 
-pub held_bytes : (s : List ℕ) → Bytes s → (n : Node) → plan s ≡ done n → (olds fresh : List ℕ) (count : ℕ) → Gathers s (references (slots s)) olds fresh count
-    → length (joined (held s olds count)) ≡ length (kept_text s)
-held_bytes s b n h olds fresh count g = ap length (ap joined g.strings ∙ text_is s b n h)
+pub held_bytes : (s : List ℕ) → Bytes s → {bytes n : ℕ} {ks : List Kept} {fresh : List ℕ} → Ready s bytes n ks fresh → length (joined (held s ks)) ≡ length (kept_text s)
+held_bytes s b g = ap length (ap joined g.strings ∙ text_is s b g.node g.stands_for)
 
 -- The references listed are those of the sheet.
 pub inside_listed : (s : List ℕ) → Bytes s → (n : Node) → plan s ≡ done n → {refs refs' : List ℕ} {r : ℕ} → Listed (slots s) refs 0 4368 refs' r → All (Inside s) (take r refs')
 inside_listed s b n h l = subst (All (Inside s)) (sym l.is) (all_inside s b n h)
 
 -- Over 8,192 bytes, by what was gathered.
-pub gathered_over : (s : List ℕ) → Bytes s → (n : Node) → plan s ≡ done n → (refs refs' olds fresh : List ℕ) (r : ℕ) (k : Kept) → Listed (slots s) refs 0 4368 refs' r → Gathered s (take r refs') olds fresh k
-    → 8192 < k.bytes → 8192 < length (kept_text s)
-gathered_over s b n h refs refs' olds fresh r k l g o =
+pub gathered_over : (s : List ℕ) → Bytes s → (n : Node) → plan s ≡ done n → {refs refs' : List ℕ} {r : ℕ} → Listed (slots s) refs 0 4368 refs' r
+    → 8192 < length (joined (kept (map (bytes_at s) (take r refs')))) → 8192 < length (kept_text s)
+gathered_over s b n h {refs} {refs'} {r} l o =
     let e : length (joined (kept (map (bytes_at s) (take r refs')))) ≡ length (kept_text s) = ap (λ (x : List ℕ). length (joined (kept (map (bytes_at s) x)))) l.is ∙ ap length (text_is s b n h) in
-    omega (arith, g.over o, e)
+    omega arith
 
-pub gathered_ready : (s : List ℕ) → Bytes s → (w : ℕ) (c : Counted s w) (refs refs' olds fresh : List ℕ) (r : ℕ) (k : Kept) → Listed (slots s) refs 0 4368 refs' r
-    → Gathered s (take r refs') olds fresh k → k.bytes ≤ 8192 → 4368 ≤ length fresh → Ready s k.count k.bytes w olds fresh
-gathered_ready s b w c refs refs' olds fresh r k l g short long =
+pub gathered_ready : (s : List ℕ) → Bytes s → (w : ℕ) (c : Counted s w) {refs refs' : List ℕ} (buffer : List Kept) (fresh : List ℕ) {r : ℕ} (t : Total) → Listed (slots s) refs 0 4368 refs' r
+    → Gathers s (take r refs') buffer fresh t → 4368 ≤ length fresh → Ready s t.bytes w (take t.count buffer) fresh
+gathered_ready s b w c buffer fresh t l g long =
+    let h = subst (λ (x : List ℕ). Gathers s x buffer fresh t) l.is g in
     record {
       node = c.node;
       stands_for = c.stands_for;
       counts = c.counts;
-      gathers = subst (λ (x : List ℕ). Gathers s x olds fresh k.count) l.is (g.gathers short);
-      bytes_are = g.bytes short ∙ (ap (λ (x : List ℕ). length (joined (kept (map (bytes_at s) x)))) l.is ∙ ap length (text_is s b c.node c.stands_for));
-      short = short;
+      inside = h.inside;
+      strings = h.strings;
+      refers = h.refers;
+      bytes_are = h.bytes ∙ ap length (text_is s b c.node c.stands_for);
+      short = h.short;
       fresh_long = long;
     }

@@ -1,18 +1,20 @@
 -- What `compact` writes, set beside the definition of crate `compact`.
-use Rattle.std.specs.Prelude.{ℕ, ◌+◌, ◌*◌, ◌≤◌, ◌<◌, ◌≡◌, List, [], ◌∷◌, ◌++◌, map, leb, length, take, drop, get_or}
+use Rattle.std.specs.Prelude.{ℕ, ◌≤◌, ◌≡◌, List, [], ◌∷◌, map, leb, length, take, drop, get_or, Result, Ok, Err}
 use Rattle.value.specs.Meaning.{bytes_at}
 use Rattle.sql.specs.Answer.{done}
 use Rattle.sql.specs.Plan.{Node, columns}
-use Rattle.sheet.specs.Bytes.{bytes}
-use Rattle.sheet.specs.Check.{schema, plan}
+use Rattle.sheet.specs.Check.{Numbers, schema, plan}
 use Rattle.sheet.specs.Operations as Sheet
 use Rattle.sheet_laws.specs.Fits.{All}
-use Rattle.compact.specs.Strings.{joined}
+use Rattle.compact.specs.Strings as Strings
+use Rattle.compact.specs.Strings.{joined, reference_to}
 use Rattle.compact.specs.Slots.{Slot, number, reference, references, slots}
 use Rattle.compact.specs.Compact.{kept_text, compacted, handed_out}
-use Rattle.checker.specs.Checker.{outcome}
-use Rattle.checker.specs.declared.Answer.{Answer}
-use Rattle.gather.specs.Gather.{Inside, held, Gathers}
+use Rattle.checker.specs.declared.Counts.{Counts}
+use Rattle.checker.specs.declared.refusals.Refusal.{Refusal}
+use Rattle.checker.specs.Refusals.{refusal_of}
+use Rattle.gather.specs.Gather.{Inside, held}
+use Rattle.gather.specs.declared.Kept.{Kept}
 
 -- Words with their references replaced, in order, by those of a list.
 abbrev pub fill : List Slot → List ℕ → List Slot
@@ -20,29 +22,34 @@ fill [] fs = []
 fill (number v ∷ xs) fs = number v ∷ fill xs fs
 fill (reference r ∷ xs) fs = reference (get_or fs 0 0) ∷ fill xs (drop 1 fs)
 
--- The first `count` of olds refer to bytes of s, and out has room for these.
-pub record TextAt (s olds : List ℕ) (count : ℕ) (out : List ℕ) : Type 0 where
-  pub inside : All (Inside s) (take count olds)
-  pub long : count ≤ length olds
-  pub room : length (joined (held s olds count)) ≤ length out
+-- The strings kept are bytes of s, and out has room for these.
+pub record TextAt (s : List ℕ) (kept : List Kept) (out : List ℕ) : Type 0 where
+  pub inside : All (λ k. Inside s k.reference) kept
+  pub room : length (joined (held s kept)) ≤ length out
 
--- An accepted sheet whose plan has so many columns, and its gathered strings.
-pub record Ready (s : List ℕ) (count bytes n : ℕ) (olds fresh : List ℕ) : Type 0 where
+-- An accepted sheet whose plan has so many columns, and its gathered strings: those that are kept, and a new reference for each.
+pub record Ready (s : List ℕ) (bytes n : ℕ) (kept : List Kept) (fresh : List ℕ) : Type 0 where
   pub node : Node
   pub stands_for : plan s ≡ done node
   pub counts : n ≡ columns (schema s) node
-  pub gathers : Gathers s (references (slots s)) olds fresh count
+  pub inside : All (λ k. Inside s k.reference) kept
+  pub strings : held s kept ≡ Strings.kept (map (bytes_at s) (references (slots s)))
+  pub refers : take (length (references (slots s))) fresh ≡ map (λ r. reference_to (Strings.kept (map (bytes_at s) (references (slots s)))) (bytes_at s r)) (references (slots s))
   pub bytes_are : bytes ≡ length (kept_text s)
   pub short : bytes ≤ 8192
   pub fresh_long : 4368 ≤ length fresh
 
--- The compacted sheet is written, or refusal 15 is given.
-abbrev pub Writes : (s out : List ℕ) → Answer → List ℕ → Type 0
-Writes s out a out' = (node : Node) → plan s ≡ done node → outcome a out' ≡ Sheet.written s out node (compacted s) (leb (length (compacted s)) (length out))
+-- What the code returns, in numbers, and what the output holds then: of a success the length of the compacted sheet, and what it counts.
+abbrev pub counted : Result (ℕ × Counts) Refusal → Numbers
+counted (Ok p) = record { number = 0; place = 0; length = p.0; cells = p.1.cells; columns = p.1.columns }
+counted (Err r) = refusal_of r
 
--- the trailer of a sheet of so many bytes whose parts start at these
-abbrev pub trailer_at : (tables columns cells edition total : ℕ) → List ℕ
-trailer_at tables columns cells edition total = bytes tables ++ (bytes columns ++ (bytes cells ++ (bytes edition ++ bytes total)))
+abbrev pub returned : Result (ℕ × Counts) Refusal → List ℕ → Sheet.Outcome
+returned r out = record { numbers = counted r; output = out }
+
+-- The compacted sheet is written, or refusal 15 is given.
+abbrev pub Writes : (s out : List ℕ) → Result (ℕ × Counts) Refusal → List ℕ → Type 0
+Writes s out a out' = (node : Node) → plan s ≡ done node → returned a out' ≡ Sheet.written s out node (compacted s) (leb (length (compacted s)) (length out))
 
 -- An accepted sheet whose plan has n columns.
 pub record Counted (s : List ℕ) (n : ℕ) : Type 0 where
@@ -51,5 +58,5 @@ pub record Counted (s : List ℕ) (n : ℕ) : Type 0 where
   pub counts : n ≡ columns (schema s) node
 
 -- The definition, of an accepted sheet.
-abbrev pub Runs : (s out : List ℕ) → Answer → List ℕ → Type 0
-Runs s out a out' = (node : Node) → plan s ≡ done node → outcome a out' ≡ handed_out s out (done node)
+abbrev pub Runs : (s out : List ℕ) → Result (ℕ × Counts) Refusal → List ℕ → Type 0
+Runs s out a out' = (node : Node) → plan s ≡ done node → returned a out' ≡ handed_out s out (done node)

@@ -1,2 +1,1 @@
-pub mod Laws
-pub mod Bytes
+pub mod Orders

@@ -1,9 +1,8 @@
--- What the code's findings and comparisons stand for.
+-- What the code's findings stand for.
+use Rattle.std.specs.Prelude.{Option, Some, None}
+use Rattle.std.specs.declared.cmp.Ordering.{Ordering}
 use Rattle.value.specs.Comparison as Defined
 use Rattle.comparison.specs.declared.Finding.{Finding}
-use Rattle.comparison.specs.declared.Finding.TheVariants as Finding
-use Rattle.comparison.specs.declared.Comparison.{Comparison}
-use Rattle.comparison.specs.declared.Comparison.TheVariants as Comparison
 
 abbrev pub finding : Finding → Defined.Finding
 finding Finding.Less = Defined.Less
@@ -12,6 +11,13 @@ finding Finding.Greater = Defined.Greater
 finding Finding.Unordered = Defined.Unordered
 finding Finding.NotComparable = Defined.NotComparable
 
-abbrev pub comparison : Comparison → Defined.Comparison
-comparison Comparison.Null = Defined.Null
-comparison (Comparison.Found f) = Defined.Found (finding f)
+-- A comparison finds nothing where one of the values is Null.
+abbrev pub comparison : Option Finding → Defined.Comparison
+comparison None = Defined.Null
+comparison (Some f) = Defined.Found (finding f)
+
+-- what the library's order of two values finds
+abbrev pub ordered : Ordering → Defined.Finding
+ordered Ordering.Less = Defined.Less
+ordered Ordering.Equal = Defined.Equal
+ordered Ordering.Greater = Defined.Greater

@@ -1,7 +1,7 @@
 -- Laws on lists of conjuncts, without words.
 use Prim.Native.Nat.{ℕ}
 use native.Mathlib.Omega.{arith}
-use mathlib.Core.Bool.{Bool, true, false, not, ◌&&◌}
+use mathlib.Core.Bool.{Bool, true, false}
 use mathlib.Core.Option.{Option, none, some}
 use mathlib.Core.Path.{◌≡◌, refl, sym, ap, ap₂, ◌∙◌}
 use mathlib.Core.List.{List, [], ◌∷◌, ◌++◌, map, append_assoc}
@@ -10,7 +10,6 @@ use Rattle.sql.specs.Optimizer.{ref_left, ref_right, cons_if, keep, flat_map}
 use Rattle.sheet.specs.Content.{binary_tag}
 use Rattle.words.specs.Words.{root}
 use Rattle.words.proofs.Expressions.{tag, by_and}
-use Rattle.column_numbers.specs.References.{sides}
 use Rattle.conjuncts.specs.declared.Destination.{Destination}
 use Rattle.conjuncts.specs.declared.Destination.TheVariants.{Left, Right, Join}
 use Rattle.conjuncts.specs.Conjuncts.{and_then, and_onto, for_destination, goes, chosen}
@@ -52,10 +51,6 @@ pub flat_append : {A B : Type 0} (f : A → List B) (xs ys : List A) → flat_ma
 flat_append f [] ys = refl
 flat_append f (x ∷ xs) ys = ap (λ l. f x ++ l) (flat_append f xs ys) ∙ sym (append_assoc (f x) (flat_map f xs) (flat_map f ys))
 
-keep_same : (t u : Expression → Bool) → ((e : Expression) → t e ≡ u e) → (es : List Expression) → keep t es ≡ keep u es
-keep_same t u h [] = refl
-keep_same t u h (x ∷ xs) = ap₂ (λ b l. cons_if b x l) (h x) (keep_same t u h xs)
-
 flat_keep : (t : Expression → Bool) (f : Expression → Expression) (es : List Expression) → flat_map (λ e. cons_if (t e) (f e) []) es ≡ map f (keep t es)
 flat_keep t f [] = refl
 flat_keep t f (x ∷ xs) = step (t x) (keep t xs) (flat_keep t f xs)
@@ -76,33 +71,15 @@ map_shift_none (e ∷ es) = ap₂ (λ x xs. x ∷ xs) (shift_none e) (map_shift_
 
 -- ---- the conjuncts that go somewhere
 
-goes_left : (a b : Bool) → goes Left (sides a b) ≡ not b
-goes_left false false = refl
-goes_left true false = refl
-goes_left false true = refl
-goes_left true true = refl
-
-goes_right : (a b : Bool) → goes Right (sides a b) ≡ not a
-goes_right false false = refl
-goes_right true false = refl
-goes_right false true = refl
-goes_right true true = refl
-
-pub goes_join : (a b : Bool) → goes Join (sides a b) ≡ (a && b)
-goes_join false false = refl
-goes_join true false = refl
-goes_join false true = refl
-goes_join true true = refl
-
 module _ (n : ℕ) where
   test : Destination → Expression → Bool
-  test to e = goes to (sides (ref_left n e) (ref_right n e))
+  test to e = goes to (ref_left n e) (ref_right n e)
 
   kept : (to : Destination) (es : List Expression) → keep (test to) es ≡ for_destination to n es
   unfolding test
-  kept Left es = keep_same (test Left) (λ e. not (ref_right n e)) (λ e. goes_left (ref_left n e) (ref_right n e)) es
-  kept Right es = keep_same (test Right) (λ e. not (ref_left n e)) (λ e. goes_right (ref_left n e) (ref_right n e)) es
-  kept Join es = keep_same (test Join) (λ e. ref_left n e && ref_right n e) (λ e. goes_join (ref_left n e) (ref_right n e)) es
+  kept Left es = refl
+  kept Right es = refl
+  kept Join es = refl
 
   -- one law for the three destinations
   pub chosen_all : (to : Destination) (shift : ℕ) (es : List Expression) → flat_map (chosen to n shift) es ≡ map (shift_column_down shift) (for_destination to n es)

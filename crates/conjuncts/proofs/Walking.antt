@@ -11,11 +11,9 @@ use Rattle.cells.specs.Cells.{cell_words, tag_at, start_at}
 use Rattle.words.specs.Words.{root}
 use Rattle.words.specs.Place.{ExpressionHere}
 use Rattle.words.proofs.Expressions.{tag, by_binary, root_tag, here_left, here_right}
-use Rattle.column_numbers.specs.declared.References.{References}
-use Rattle.column_numbers.specs.References.{sides, RefersTo}
 use Rattle.conjuncts.specs.declared.Destination.{Destination}
 use Rattle.conjuncts.specs.declared.Destination.TheVariants.{Right}
-use Rattle.conjuncts.specs.Conjuncts.{Appends, AppendsEach, Walks, for_destination, goes, chosen}
+use Rattle.conjuncts.specs.Conjuncts.{Appends, AppendsEach, Walks, for_destination, goes, Goes, chosen}
 use Rattle.conjuncts.proofs.Lists.{ands_and, ands_one, flat_append, chosen_all, chosen_unmoved}
 use Rattle.conjuncts.proofs.Appending.{appends_none, appends_then}
 
@@ -38,9 +36,9 @@ module _ (new : ℕ) (f : Expression → List Expression) {s : List ℕ} {lo hi 
 
 -- ---- a conjunct that goes there, or doesn't
 
-module _ (to : Destination) (n shift : ℕ) {s : List ℕ} {lo hi : ℕ} {b : Bool} {r : References} (q : b ≡ goes to r) (f : RefersTo n s lo hi r) where
-  known : {t : Bool} → b ≡ t → (e : Expression) → ExpressionHere s lo hi e → t ≡ goes to (sides (ref_left n e) (ref_right n e))
-  known z e u = sym z ∙ (q ∙ ap (goes to) (f e u))
+module _ (to : Destination) (n shift : ℕ) {s : List ℕ} {lo hi : ℕ} {b : Bool} (q : Goes to n s lo hi b) where
+  known : {t : Bool} → b ≡ t → (e : Expression) → ExpressionHere s lo hi e → t ≡ goes to (ref_left n e) (ref_right n e)
+  known z e u = sym z ∙ q e u
 
   pub chosen_here : (new : ℕ) → b ≡ true → {d : List ℕ} {from at m : ℕ} {d' : List ℕ} → AppendsEach new (λ e. shift_column_down shift e ∷ []) s lo hi d from at m d'
       → AppendsEach new (chosen to n shift) s lo hi d from at m d'

@@ -1,5 +1,5 @@
 -- Conjuncts in a slice of words, joined by And as and_vec joins them, and what a function that appends some has done.
-use Rattle.std.specs.Prelude.{ℕ, Bool, true, false, ◌≡◌, List, [], ◌∷◌, length}
+use Rattle.std.specs.Prelude.{ℕ, Bool, not, ◌&&◌, ◌≡◌, List, [], ◌∷◌, length}
 use Rattle.std.proofs.Math.Option.{Option, none, some}
 use Rattle.sql.specs.Expression.{Expression, and, ands, shift_column_down}
 use Rattle.sql.specs.Optimizer.{ref_left, ref_right, cons_if, for_left, for_right, for_both, flat_map}
@@ -7,11 +7,7 @@ use Rattle.cells.specs.Cells.{Part}
 use Rattle.cells.specs.Room.{Wrote}
 use Rattle.words.specs.Words.{expression_words, optional_words}
 use Rattle.words.specs.Place.{ExpressionHere}
-use Rattle.column_numbers.specs.declared.References.{References}
-use Rattle.column_numbers.specs.declared.References.TheVariants as References
-use Rattle.column_numbers.specs.References.{sides}
 use Rattle.conjuncts.specs.declared.Destination.{Destination}
-use Rattle.conjuncts.specs.declared.Destination.TheVariants as Destination
 
 -- one more conjunct, and more of them in order; of none and xs this is and-vec xs. Each And has the origin `new`.
 abbrev pub and_then : ℕ → Option Expression → Expression → Option Expression
@@ -71,19 +67,15 @@ for_destination Destination.Join n es = for_both n es
 
 -- ---- the same conjunct by conjunct, as the code goes
 
-abbrev pub goes : Destination → References → Bool
-goes Destination.Left References.Neither = true
-goes Destination.Left References.Left = true
-goes Destination.Left References.Right = false
-goes Destination.Left References.Both = false
-goes Destination.Right References.Neither = true
-goes Destination.Right References.Left = false
-goes Destination.Right References.Right = true
-goes Destination.Right References.Both = false
-goes Destination.Join References.Neither = false
-goes Destination.Join References.Left = false
-goes Destination.Join References.Right = false
-goes Destination.Join References.Both = true
+-- whether a conjunct that refers to the left source, or not, and to the right one, or not, goes there
+abbrev pub goes : Destination → (left right : Bool) → Bool
+goes Destination.Left left right = not right
+goes Destination.Right left right = not left
+goes Destination.Join left right = left && right
+
+-- b says it of the expression from lo up to hi, if the left source has n columns.
+abbrev pub Goes : Destination → ℕ → List ℕ → ℕ → ℕ → Bool → Type 0
+Goes to n s lo hi b = (e : Expression) → ExpressionHere s lo hi e → b ≡ goes to (ref_left n e) (ref_right n e)
 
 abbrev pub chosen : Destination → ℕ → ℕ → Expression → List Expression
-chosen to n shift e = cons_if (goes to (sides (ref_left n e) (ref_right n e))) (shift_column_down shift e) []
+chosen to n shift e = cons_if (goes to (ref_left n e) (ref_right n e)) (shift_column_down shift e) []

@@ -7,7 +7,7 @@ ghost use Rattle.std.specs.Prelude.{◌≡◌, [], ◌∷◌, map, ◌-◌, ◌<
 ghost use Rattle.sql.specs.Expression.{shift_column_down, ands};
 ghost use Rattle.sql.specs.Optimizer.{for_left, for_right, for_both};
 ghost use Rattle.words.specs.Place.{ExpressionAt, Maps};
-ghost use Rattle.conjuncts.specs.Conjuncts.{GatheredAt, JoinableAt, Joins, Walks, goes, chosen, AppendsEach};
+ghost use Rattle.conjuncts.specs.Conjuncts.{GatheredAt, JoinableAt, Joins, Walks, Goes, chosen, AppendsEach};
 
 // Where a conjunct goes: to one of the join's sources, or nowhere, and stays with the join.
 #[derive(Clone, Copy)]
@@ -39,19 +39,7 @@ pub fn and_over(d: &mut [u32], from: usize, at: usize, m: usize, origin: u32) ->
     if at == from {
         return m;
     }
-    cells::put(
-        d,
-        from,
-        m,
-        cells::Cell {
-            origin: origin,
-            tag: tags::AND,
-            flag: 0,
-            a: 0,
-            b: 0,
-            c: 0,
-        },
-    )
+    cells::put(d, from, m, cells::Cell::new(tags::AND, origin))
 }
 
 // The expression from lo to hi, with its columns `shift` lower, as one more conjunct.
@@ -73,29 +61,17 @@ pub fn append(
     and_over(d, from, at, m, origin)
 }
 
-// Whether a conjunct that refers to these sources goes there. One that refers to no column goes to both sources.
-fn goes(to: Destination, r: column_numbers::References) -> bool
-    ensures { result ≡ goes to r }
+// Whether a conjunct, the expression from lo to hi, goes there. One that refers to no column goes to both sources. The left source has n columns.
+fn goes(s: &[u32], lo: usize, hi: usize, to: Destination, n: usize) -> bool
+    requires { ExpressionAt s.now lo hi }
+    ensures { Goes to n s.now lo hi result }
 {
     match to {
-        Destination::Left => match r {
-            column_numbers::References::Neither => true,
-            column_numbers::References::Left => true,
-            column_numbers::References::Right => false,
-            column_numbers::References::Both => false,
-        },
-        Destination::Right => match r {
-            column_numbers::References::Neither => true,
-            column_numbers::References::Left => false,
-            column_numbers::References::Right => true,
-            column_numbers::References::Both => false,
-        },
-        Destination::Join => match r {
-            column_numbers::References::Neither => false,
-            column_numbers::References::Left => false,
-            column_numbers::References::Right => false,
-            column_numbers::References::Both => true,
-        },
+        Destination::Left => !column_numbers::refers_right(s, lo, hi, n),
+        Destination::Right => !column_numbers::refers_left(s, lo, hi, n),
+        Destination::Join => {
+            column_numbers::refers_left(s, lo, hi, n) && column_numbers::refers_right(s, lo, hi, n)
+        }
     }
 }
 
@@ -122,7 +98,7 @@ fn gather(
         let m = gather(s, lo, mid, d, from, at, to, n, shift, origin);
         return gather(s, mid, end, d, from, m, to, n, shift, origin);
     }
-    if goes(to, column_numbers::refers(s, lo, hi, n)) {
+    if goes(s, lo, hi, to, n) {
         return append(s, lo, hi, d, from, at, shift, origin);
     }
     at

@@ -1,4 +1,5 @@
 -- Folding a chain of bare nodes (crate chain): they stay as they are, over what the node below them folds to.
+use Rattle.std.specs.Prelude.{Ok, Err}
 use Prim.Native.Nat.{ℕ, ◌+◌, ◌-◌, ◌*◌, ◌≤◌, ◌<◌}
 use native.Mathlib.Omega.{arith}
 use mathlib.Core.Path.{◌≡◌, refl, sym, ap, subst}
@@ -19,12 +20,11 @@ use Rattle.words.proofs.Sizes.{sized_long}
 use Rattle.chain.specs.Chain.{chain, Bare, ChainAt, Follows}
 use Rattle.chain.proofs.Chains.{Each, chain_left, chain_long, chain_end}
 use Rattle.chain.proofs.Bare.{bare_chain}
-use Rattle.fold_operator.specs.Left.{Appended}
-use Rattle.fold_operator.specs.declared.Folded.{Folded}
-use Rattle.fold_operator.specs.declared.Folded.TheVariants as Folded
+use Rattle.fold_operator.specs.declared.Failure.{Failure}
+use Rattle.fold_operator.specs.Left.{Appended, Folded}
 use Rattle.fold_operator.proofs.Parts.{appended, appended_part, wrote}
 use Rattle.fold_parts.specs.Leaves.{Leaves}
-use Rattle.fold_parts.proofs.Leaves.{answer_as, said_as, up_to_as, refused_on, done_on, made_into}
+use Rattle.fold_parts.proofs.Leaves.{answer_as, refused_on, done_on, made_into}
 use Rattle.constant_folding.specs.Nodes.{NodeFits, words_of, fold_source, SourceHere, SourceAt, FoldsSource}
 use Rattle.constant_folding.proofs.Nodes.{by_node, node_left}
 
@@ -93,24 +93,23 @@ module _ {text x : List ℕ} {lo hi end : ℕ} (b : Bare x lo hi end) (h : lo < 
   left_below g first k p w f = node_left first p (g.leaves first (some p) k (below_here p w f))
 
   -- what it folds to stands where it was written
-  pub folded_at : SourceAt text x lo hi → {y : List ℕ} {at u : ℕ} {y₁ : List ℕ} → at ≤ length y → FoldsSource text x lo end y at (Folded.Done u) y₁ → NodeAt y₁ at u
+  pub folded_at : SourceAt text x lo hi → {y : List ℕ} {at u : ℕ} {y₁ : List ℕ} → at ≤ length y → FoldsSource text x lo end y at (Ok u) y₁ → NodeAt y₁ at u
   folded_at t {y} {at} {u} {y₁} i g =
       by_below (λ o. NodeAt y₁ at u) (λ os e p v w f. go (ConstantFolding t.first p) (left_below g t.first t.numbered p w f)) t.source t.here
     where
-      go : (a : Answer Node) → Leaves node_words y at a (Folded.Done u) y₁ → NodeAt y₁ at u
+      go : (a : Answer Node) → Leaves node_words y at a (Ok u) y₁ → NodeAt y₁ at u
       go (done q) l = record { p = q; here = record { part = appended_part l.left i } }
       go (refused number place) l = absurd l.left
 
-  pub bare_refused : {y : List ℕ} {at : ℕ} {r : Folded} {j i : ℕ} {y₁ : List ℕ} → r ≡ Folded.Refused j i → FoldsSource text x lo end y at r y₁ → FoldsSource text x lo hi y at r y₁
-  bare_refused {y} {at} {r} {y₁ = y₁} q g = record {
-    leaves = λ first source k u. by_below (λ o. Leaves words_of y at (fold_source first o) r y₁)
-        (λ os e p v w f. left_chain first os e p
-        (said_as (sym q) (refused_on (ConstantFolding first p) (λ q. done (chain os q)) (said_as q (left_below g first k p w f))))) source u;
-    within = up_to_as (sym q) (record { ends = tt });
+  pub bare_refused : {y : List ℕ} {at : ℕ} {why : Failure} {y₁ : List ℕ} → FoldsSource text x lo end y at (Err why) y₁ → FoldsSource text x lo hi y at (Err why) y₁
+  bare_refused {y} {at} {why} {y₁ = y₁} g = record {
+    leaves = λ first source k u. by_below (λ o. Leaves words_of y at (fold_source first o) (Err why) y₁)
+        (λ os e p v w f. left_chain first os e p (refused_on (ConstantFolding first p) (λ q. done (chain os q)) (left_below g first k p w f))) source u;
+    within = record { ends = tt };
   }
 
   module _ {y : List ℕ} {at u : ℕ} {y₁ : List ℕ} (room : (at + (hi - lo) ≤ length y) × Short y) (long : length y₁ ≡ length y)
-      (g : FoldsSource text x lo end y at (Folded.Done u) y₁) {v : ℕ} {y₂ : List ℕ} (c : Follows x end hi y₁ at u v y₂) where
+      (g : FoldsSource text x lo end y at (Ok u) y₁) {v : ℕ} {y₂ : List ℕ} (c : Follows x end hi y₁ at u v y₂) where
     -- the chain over what the node below folds to
     followed : (os : List (Marked Other)) (p q : Node) → NodeHere x lo hi (chain os p) → NodeHere x lo end p → Appended y at (node_words q) u y₁
         → Appended y at (node_words (chain os q)) v y₂ × (v ≤ at + (hi - lo))
@@ -122,13 +121,13 @@ module _ {text x : List ℕ} {lo hi end : ℕ} (b : Bare x lo hi end) (h : lo < 
         let d = appended (c.over_node lo os p q v w y long (wrote a (omega (arith, room.0, a.ends)))) room.1 (omega (arith, room.0, a.ends)) in
         (d, omega (arith, d.ends, a.ends))
 
-    ended : (os : List (Marked Other)) (p : Node) → NodeHere x lo hi (chain os p) → NodeHere x lo end p → (a : Answer Node) → Leaves node_words y at a (Folded.Done u) y₁ → v ≤ at + (hi - lo)
+    ended : (os : List (Marked Other)) (p : Node) → NodeHere x lo hi (chain os p) → NodeHere x lo end p → (a : Answer Node) → Leaves node_words y at a (Ok u) y₁ → v ≤ at + (hi - lo)
     ended os p v w (done q) l = (followed os p q v w l.left).1
     ended os p v w (refused number place) l = absurd l.left
 
-    pub bare_done : SourceAt text x lo hi → FoldsSource text x lo hi y at (Folded.Done v) y₂
+    pub bare_done : SourceAt text x lo hi → FoldsSource text x lo hi y at (Ok v) y₂
     bare_done t = record {
-      leaves = λ first source k u. by_below (λ o. Leaves words_of y at (fold_source first o) (Folded.Done v) y₂)
+      leaves = λ first source k u. by_below (λ o. Leaves words_of y at (fold_source first o) (Ok v) y₂)
           (λ os e p v w f. left_chain first os e p
           (done_on (ConstantFolding first p) (λ q. done (chain os q)) (left_below g first k p w f) (λ q _ a. record { left = (followed os p q v w a).0 }))) source u;
       within = record {

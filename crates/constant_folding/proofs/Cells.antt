@@ -1,15 +1,14 @@
 -- Folding leaves each node's cell as it was.
-use Prim.Native.Nat.{ℕ, ◌+◌}
+use Prim.Native.Nat.{ℕ}
 use mathlib.Core.Bool.{Bool}
 use mathlib.Core.Path.{◌≡◌, refl, ap}
-use mathlib.Core.List.{List}
 use mathlib.Core.Option.{Option, none, some}
 use lib.ListN.{length}
-use Rattle.sql.specs.Expression.{Expression, size}
+use Rattle.sql.specs.Expression.{Expression}
 use Rattle.sql.specs.Plan.{Leaf, scan, lookup, nothing, values, limit, offset, order, projection, remap, aggregate, Over, filter, other, Join, nested_loop, hash, row_size, item_size, key_size}
-use Rattle.sql.specs.Answer.{Answer, done, refused, ◌>>=◌}
+use Rattle.sql.specs.Answer.{Answer, done, refused}
 use Rattle.sql.specs.Optimizer.{fold_expression, fold_each, fold_optional, fold_row, fold_part, fold_leaf, fold_over, fold_join}
-use Rattle.sheet.specs.Content.{Content, scan_cell, values_cell, order_cell, projection_cell, nested_loop_join_cell}
+use Rattle.sheet.specs.Content.{scan_cell, values_cell, order_cell, projection_cell, nested_loop_join_cell}
 use Rattle.sheet.specs.Cells.{present}
 use Rattle.sound.specs.Answers.{Answered, answered_then}
 use Rattle.words.specs.Words.{leaf_cell, over_cell, join_cell}

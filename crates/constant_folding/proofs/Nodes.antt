@@ -1,4 +1,5 @@
 -- What folding a node leaves, from what its calls leave.
+use Rattle.std.specs.Prelude.{Ok, Err}
 use Prim.Native.Nat.{ℕ, ◌+◌, ◌-◌, ◌*◌, ◌≤◌, ◌<◌}
 use native.Mathlib.Omega.{arith}
 use mathlib.Core.Bool.{Bool}
@@ -22,15 +23,14 @@ use Rattle.words.specs.Place.{NodeHere, NodeAt}
 use Rattle.words.proofs.Nodes.{node_shape, node_cell_is, node_in, node_size_at, node_start, node_long, source_part}
 use Rattle.words.proofs.Sizes.{sized_long, expression_long, words_long}
 use Rattle.nodes.specs.Own.{OwnStart}
-use Rattle.fold_operator.specs.Left.{Appended}
-use Rattle.fold_operator.specs.declared.Folded.{Folded}
-use Rattle.fold_operator.specs.declared.Folded.TheVariants as Folded
+use Rattle.fold_operator.specs.declared.Failure.{Failure}
+use Rattle.fold_operator.specs.Left.{Appended, Folded, number_of}
 use Rattle.fold_operator.proofs.Parts.{appended, wrote}
 use Rattle.fold_parts.specs.Leaves.{Leaves, UpTo}
 use Rattle.fold_parts.specs.Parts.{PartFits}
 use Rattle.fold_parts.specs.Own.{own_parts, OwnHere, OwnAt, OwnLeft, FoldsOwn}
 use Rattle.fold_parts.proofs.Leaves.{appended_none, appended_then, appended_as, answer_as, said_as, up_to_as, refused_on, done_on, made_into, made_of}
-use Rattle.constant_folding.specs.Nodes.{NodeFits, earlier_source, last_source, words_of, fold_source, SourcesAt, LastStart, SourceHere, SourceAt, FoldsSource, first_refusal, fold_own, Refuses}
+use Rattle.constant_folding.specs.Nodes.{NodeFits, earlier_source, last_source, words_of, fold_source, SourcesAt, LastStart, SourceHere, SourceAt, FoldsSource, said, first_refusal, fold_own, Refuses}
 use Rattle.constant_folding.proofs.Cells.{leaf_cell_kept, over_cell_kept, join_cell_kept}
 
 -- ---- last_source
@@ -177,7 +177,7 @@ pub record SomeAppended (y : List ℕ) (at n : ℕ) (y' : List ℕ) : Type 0 whe
   pub words : List ℕ
   pub is : Appended y at words n y'
 
-some_left : {A : Type 0} {f : A → List ℕ} {y : List ℕ} {at n : ℕ} {y' : List ℕ} (a : Answer A) → Leaves f y at a (Folded.Done n) y' → SomeAppended y at n y'
+some_left : {A : Type 0} {f : A → List ℕ} {y : List ℕ} {at n : ℕ} {y' : List ℕ} (a : Answer A) → Leaves f y at a (Ok n) y' → SomeAppended y at n y'
 some_left {f = f} (done y) h = record { words = f y; is = h.left }
 some_left (refused i p) h = absurd h.left
 
@@ -187,64 +187,55 @@ own_folded first (leaf og l) h = made_into (fold_leaf first l) leaf_own (λ m. r
 own_folded first (over og o n) h = made_into (fold_over first o) over_own (λ p. refl) h
 own_folded first (join og outer j l r) h = made_into (fold_join first j) join_own (λ k. refl) h
 
-pub own_bound : {text x : List ℕ} {lo hi : ℕ} {y : List ℕ} {at m : ℕ} {q : Folded} {y' : List ℕ} {n : ℕ} → q ≡ Folded.Done n → FoldsOwn text x lo hi y at m q y' → n ≤ at + (hi - cell_words - m)
+pub own_bound : {text x : List ℕ} {lo hi : ℕ} {y : List ℕ} {at m : ℕ} {q : Folded} {y' : List ℕ} {n : ℕ} → q ≡ Ok n → FoldsOwn text x lo hi y at m q y' → n ≤ at + (hi - cell_words - m)
 own_bound e g = (up_to_as e g.within).ends
 
-pub source_bound : {text x : List ℕ} {lo hi : ℕ} {y : List ℕ} {at : ℕ} {q : Folded} {y' : List ℕ} {n : ℕ} → q ≡ Folded.Done n → FoldsSource text x lo hi y at q y' → n ≤ at + (hi - lo)
+pub source_bound : {text x : List ℕ} {lo hi : ℕ} {y : List ℕ} {at : ℕ} {q : Folded} {y' : List ℕ} {n : ℕ} → q ≡ Ok n → FoldsSource text x lo hi y at q y' → n ≤ at + (hi - lo)
 source_bound e g = (up_to_as e g.within).ends
 
-own_appended : {text x : List ℕ} {lo hi : ℕ} {y : List ℕ} {at m : ℕ} {q : Folded} {y' : List ℕ} {n : ℕ} → OwnAt text x lo hi m → q ≡ Folded.Done n
+own_appended : {text x : List ℕ} {lo hi : ℕ} {y : List ℕ} {at m : ℕ} {q : Folded} {y' : List ℕ} {n : ℕ} → OwnAt text x lo hi m → q ≡ Ok n
     → FoldsOwn text x lo hi y at m q y' → SomeAppended y at n y'
 own_appended t e g = some_left (fold_own t.first t.p) (said_as e (own_folded t.first t.p (g.leaves t.first t.p t.numbered t.here)))
 
-source_appended : {text x : List ℕ} {lo hi : ℕ} {y : List ℕ} {at : ℕ} {q : Folded} {y' : List ℕ} {n : ℕ} → SourceAt text x lo hi → q ≡ Folded.Done n
+source_appended : {text x : List ℕ} {lo hi : ℕ} {y : List ℕ} {at : ℕ} {q : Folded} {y' : List ℕ} {n : ℕ} → SourceAt text x lo hi → q ≡ Ok n
     → FoldsSource text x lo hi y at q y' → SomeAppended y at n y'
 source_appended t e g = some_left (fold_source t.first t.source) (said_as e (g.leaves t.first t.source t.numbered t.here))
 
 -- ---- refuse
 
-module _ {text x : List ℕ} {lo hi m number place : ℕ} {y : List ℕ} {at : ℕ} {q : Folded} {y₁ : List ℕ} (g : FoldsOwn text x lo hi y at m q y₁) where
-  pub refuses_then : {n : ℕ} → q ≡ Folded.Done n → Refuses text x lo hi m number place (Folded.Refused number place)
+module _ {text x : List ℕ} {lo hi m : ℕ} {why : Failure} {y : List ℕ} {at : ℕ} {q : Folded} {y₁ : List ℕ} (g : FoldsOwn text x lo hi y at m q y₁) where
+  pub refuses_then : {n : ℕ} → q ≡ Ok n → Refuses text x lo hi m why why
   refuses_then {n} e = record { is = λ first p k u. go (fold_own first p) (said_as e (own_folded first p (g.leaves first p k u))) }
     where
-      go : (a : Answer (List ℕ)) → Leaves (λ w. w) y at a (Folded.Done n) y₁ → Folded.Refused number place ≡ first_refusal a number place
+      go : (a : Answer (List ℕ)) → Leaves (λ w. w) y at a (Ok n) y₁ → said why ≡ first_refusal a (number_of why) why.place
       go (done w) h = refl
       go (refused i c) h = absurd h.left
 
-  pub refuses_first : {i c : ℕ} → q ≡ Folded.Refused i c → Refuses text x lo hi m number place (Folded.Refused i c)
-  refuses_first {i} {c} e = record { is = λ first p k u. go (fold_own first p) (said_as e (own_folded first p (g.leaves first p k u))) }
+  pub refuses_first : {own : Failure} → q ≡ Err own → Refuses text x lo hi m why own
+  refuses_first {own} e = record { is = λ first p k u. go (fold_own first p) (said_as e (own_folded first p (g.leaves first p k u))) }
     where
-      go : (a : Answer (List ℕ)) → Leaves (λ w. w) y at a (Folded.Refused i c) y₁ → Folded.Refused i c ≡ first_refusal a number place
+      go : (a : Answer (List ℕ)) → Leaves (λ w. w) y at a (Err own) y₁ → said own ≡ first_refusal a (number_of why) why.place
       go (done w) h = absurd h.left
-      go (refused j d) h = ap (λ (n : ℕ). Folded.Refused n c) h.left.0 ∙ ap (λ (n : ℕ). Folded.Refused j n) h.left.1
+      go (refused j d) h = ap (λ (n : ℕ). (n, own.place)) h.left.0 ∙ ap (λ (n : ℕ). (j, n)) h.left.1
 
--- Whatever it is, it is a refusal.
-pub record Refusal (r : Folded) : Type 0 where
-  pub number : ℕ
-  pub place : ℕ
-  pub is : r ≡ Folded.Refused number place
-
-refusal : (a : Answer (List ℕ)) (number place : ℕ) → Refusal (first_refusal a number place)
-refusal (done w) number place = record { number = number; place = place; is = refl }
-refusal (refused i c) number place = record { number = i; place = c; is = refl }
-
-pub refuses_some : {text x : List ℕ} {lo hi m number place : ℕ} {r : Folded} → OwnAt text x lo hi m → Refuses text x lo hi m number place r → Refusal r
-refuses_some {number = number} {place} t w =
-    let f = refusal (fold_own t.first t.p) number place in
-    record { number = f.number; place = f.place; is = w.is t.first t.p t.numbered t.here ∙ f.is }
+module _ {A : Type 0} {g : A → List ℕ} {d : List ℕ} {at : ℕ} {d' : List ℕ} {r : Failure} where
+  -- A failure is left where what it says is.
+  left_as : {why : Failure} (a : Answer A) → said r ≡ said why → Leaves g d at a (Err why) d' → Leaves g d at a (Err r) d'
+  left_as (done y) e h = absurd h.left
+  left_as (refused i p) e h = record { left = (ap (λ (s : ℕ × ℕ). s.0) e ∙ h.left.0, ap (λ (s : ℕ × ℕ). s.1) e ∙ h.left.1) }
 
 -- The own parts' refusal, or that of what is folded after them.
-refused_after : {A B : Type 0} {g : B → List ℕ} {d : List ℕ} {at number place : ℕ} {d' : List ℕ} {r : Folded} (a : Answer A) (own : A → List ℕ) (k : A → Answer B)
-    → ((y : A) → Leaves g d at (k y) (Folded.Refused number place) d') → r ≡ first_refusal (a >>= λ y. done (own y)) number place → Leaves g d at (a >>= k) r d'
-refused_after (done y) own k h e = said_as (sym e) (h y)
-refused_after (refused i p) own k h e = said_as (sym e) (record { left = (refl, refl) })
+refused_after : {A B : Type 0} {g : B → List ℕ} {d : List ℕ} {at : ℕ} {d' : List ℕ} {why r : Failure} (a : Answer A) (own : A → List ℕ) (k : A → Answer B)
+    → ((y : A) → Leaves g d at (k y) (Err why) d') → said r ≡ first_refusal (a >>= λ y. done (own y)) (number_of why) why.place → Leaves g d at (a >>= k) (Err r) d'
+refused_after (done y) own k h e = left_as (k y) e (h y)
+refused_after (refused i p) own k h e = record { left = (ap (λ (s : ℕ × ℕ). s.0) e, ap (λ (s : ℕ × ℕ). s.1) e) }
 
 -- ---- fold_node
 
-pub source_none : {text x : List ℕ} {lo hi : ℕ} {y : List ℕ} {at : ℕ} → hi ≤ lo → FoldsSource text x lo hi y at (Folded.Done at) y
+pub source_none : {text x : List ℕ} {lo hi : ℕ} {y : List ℕ} {at : ℕ} → hi ≤ lo → FoldsSource text x lo hi y at (Ok at) y
 source_none {text} {x} {lo} {hi} {y} {at} h = record { leaves = go; within = record { ends = omega arith } }
   where
-    go : (first : ℕ) (source : Option Node) → lo ≡ cell_words * first → SourceHere text x lo hi source → Leaves words_of y at (fold_source first source) (Folded.Done at) y
+    go : (first : ℕ) (source : Option Node) → lo ≡ cell_words * first → SourceHere text x lo hi source → Leaves words_of y at (fold_source first source) (Ok at) y
     go first none e u = record { left = appended_none y at }
     go first (some p) e u = absurd (omega (arith, node_has_cell p, u.stand.high))
 
@@ -269,9 +260,9 @@ module _ {text x : List ℕ} {lo hi : ℕ} where
   source_in h t = by_node (λ o. (lo ≤ hi) × (hi ≤ length x)) (λ p u f. (omega arith, (node_in p u).1)) h t.source t.here
 
   pub source_single : {y : List ℕ} {at r : ℕ} {y₁ : List ℕ} → hi - lo ≡ cell_words → (at + (hi - lo) ≤ length y) × Short y → SourceAt text x lo hi → Copies x lo hi y at r y₁
-      → FoldsSource text x lo hi y at (Folded.Done r) y₁
+      → FoldsSource text x lo hi y at (Ok r) y₁
   source_single {y} {at} {r} {y₁} h (room, few) t c = record {
-    leaves = λ first source k u. by_node (λ o. Leaves words_of y at (fold_source first o) (Folded.Done r) y₁)
+    leaves = λ first source k u. by_node (λ o. Leaves words_of y at (fold_source first o) (Ok r) y₁)
         (λ p v f. made_into (ConstantFolding first p) some (λ q. refl) (answer_as (sym (node_alone first p v h)) (record { left = copied p v }))) (omega arith) source u;
     within = record { ends = by_node (λ o. r ≤ at + (hi - lo)) (λ p v f. omega (arith, (copied p v).ends, v.part.high)) (omega arith) t.source t.here };
   }
@@ -313,17 +304,11 @@ module _ {text x : List ℕ} {lo hi m mid : ℕ} (h : lo < hi) (own : OwnStart x
     within = w;
   }
 
-  -- a source is refused
-  node_refused : SourceAt text x lo hi → {number place : ℕ} {r : Folded} {y' : List ℕ} → Refuses text x lo hi m number place r
-      → ((first : ℕ) → lo ≡ cell_words * first → (p : Node) → NodeHere x lo hi p → NodeFits text p → Leaves node_words y at (ConstantFolding first p) r y')
-      → FoldsSource text x lo hi y at r y'
-  node_refused t w go = let f = refuses_some (own_at own h t) w in node_folded go (up_to_as (sym f.is) (record { ends = tt }))
-
   module _ {q₂ : Folded} {y₁ : List ℕ} (g₂ : FoldsSource text x lo mid y at q₂ y₁) where
-    pub earlier_refused : SourceAt text x lo hi → {j i : ℕ} → q₂ ≡ Folded.Refused j i → {r : Folded} {y' : List ℕ} → Refuses text x lo hi m j i r → FoldsSource text x lo hi y at r y'
-    earlier_refused t {j} {i} e {r} {y'} w = node_refused t w go
+    pub earlier_refused : {why : Failure} → q₂ ≡ Err why → {r : Failure} {y' : List ℕ} → Refuses text x lo hi m why r → FoldsSource text x lo hi y at (Err r) y'
+    earlier_refused {why} e {r} {y'} w = node_folded go (record { ends = tt })
       where
-        go : (first : ℕ) → lo ≡ cell_words * first → (p : Node) → NodeHere x lo hi p → NodeFits text p → Leaves node_words y at (ConstantFolding first p) r y'
+        go : (first : ℕ) → lo ≡ cell_words * first → (p : Node) → NodeHere x lo hi p → NodeFits text p → Leaves node_words y at (ConstantFolding first p) (Err r) y'
         go first k (leaf og l) v f = absurd (said_as e (g₂.leaves first none k (earlier_here own last (leaf og l) v f))).left
         go first k (over og o s) v f = absurd (said_as e (g₂.leaves first none k (earlier_here own last (over og o s) v f))).left
         go first k (join og outer c a b) v f =
@@ -333,15 +318,15 @@ module _ {text x : List ℕ} {lo hi m mid : ℕ} (h : lo < hi) (own : OwnStart x
             (node_left first a (said_as e (g₂.leaves first (some a) k (earlier_here own last (join og outer c a b) v f)))))
             (w.is (first + (node_size a + node_size b)) (join og outer c a b) (join_number own first k og outer c a b v) (own_here (join og outer c a b) v f))
 
-    module _ {e : ℕ} (q₂e : q₂ ≡ Folded.Done e) {q₃ : Folded} {y₂ : List ℕ} (g₃ : FoldsSource text x mid m y₁ e q₃ y₂) where
+    module _ {e : ℕ} (q₂e : q₂ ≡ Ok e) {q₃ : Folded} {y₂ : List ℕ} (g₃ : FoldsSource text x mid m y₁ e q₃ y₂) where
       join_earlier : (first : ℕ) → lo ≡ cell_words * first → (og : ℕ) (outer : Bool) (c : Join) (a b : Node) → NodeHere x lo hi (join og outer c a b) → NodeFits text (join og outer c a b)
-          → Leaves node_words y at (ConstantFolding first a) (Folded.Done e) y₁
+          → Leaves node_words y at (ConstantFolding first a) (Ok e) y₁
       join_earlier first k og outer c a b v f = node_left first a (said_as q₂e (g₂.leaves first (some a) k (earlier_here own last (join og outer c a b) v f)))
 
-      pub last_refused : SourceAt text x lo hi → {j i : ℕ} → q₃ ≡ Folded.Refused j i → {r : Folded} {y' : List ℕ} → Refuses text x lo hi m j i r → FoldsSource text x lo hi y at r y'
-      last_refused t {j} {i} z {r} {y'} w = node_refused t w go
+      pub last_refused : {why : Failure} → q₃ ≡ Err why → {r : Failure} {y' : List ℕ} → Refuses text x lo hi m why r → FoldsSource text x lo hi y at (Err r) y'
+      last_refused {why} z {r} {y'} w = node_folded go (record { ends = tt })
         where
-          go : (first : ℕ) → lo ≡ cell_words * first → (p : Node) → NodeHere x lo hi p → NodeFits text p → Leaves node_words y at (ConstantFolding first p) r y'
+          go : (first : ℕ) → lo ≡ cell_words * first → (p : Node) → NodeHere x lo hi p → NodeFits text p → Leaves node_words y at (ConstantFolding first p) (Err r) y'
           go first k (leaf og l) v f = absurd (said_as z (g₃.leaves first none (omega (arith, mid_is own last (leaf og l) v)) (last_here own last (leaf og l) v f))).left
           go first k (over og o s) v f =
               refused_after (fold_over (first + node_size s) o) over_own (λ p. ConstantFolding first s >>= λ t. done (over og p t))
@@ -356,11 +341,11 @@ module _ {text x : List ℕ} {lo hi m mid : ℕ} (h : lo < hi) (own : OwnStart x
               (node_left (first + node_size a) b (said_as z (g₃.leaves (first + node_size a) (some b) (join_mid own last first k og outer c a b v) (last_here own last (join og outer c a b) v f))))))
               (w.is (first + (node_size a + node_size b)) (join og outer c a b) (join_number own first k og outer c a b v) (own_here (join og outer c a b) v f))
 
-      module _ {i : ℕ} (q₃e : q₃ ≡ Folded.Done i) {q : Folded} {y₃ : List ℕ} (g : FoldsOwn text x lo hi y₂ i m q y₃) where
-        pub own_refused : {j c : ℕ} → q ≡ Folded.Refused j c → FoldsSource text x lo hi y at (Folded.Refused j c) y₃
-        own_refused {j} {c} z = node_folded go (record { ends = tt })
+      module _ {i : ℕ} (q₃e : q₃ ≡ Ok i) {q : Folded} {y₃ : List ℕ} (g : FoldsOwn text x lo hi y₂ i m q y₃) where
+        pub own_refused : {why : Failure} → q ≡ Err why → FoldsSource text x lo hi y at (Err why) y₃
+        own_refused {why} z = node_folded go (record { ends = tt })
           where
-            go : (first : ℕ) → lo ≡ cell_words * first → (p : Node) → NodeHere x lo hi p → NodeFits text p → Leaves node_words y at (ConstantFolding first p) (Folded.Refused j c) y₃
+            go : (first : ℕ) → lo ≡ cell_words * first → (p : Node) → NodeHere x lo hi p → NodeFits text p → Leaves node_words y at (ConstantFolding first p) (Err why) y₃
             go first n (leaf og l) v f = refused_on (fold_leaf first l) (λ m. done (leaf og m)) (said_as z (g.leaves first (leaf og l) (leaf_number own first n og l v) (own_here (leaf og l) v f)))
             go first n (over og o s) v f =
                 refused_on (fold_over (first + node_size s) o) (λ p. ConstantFolding first s >>= λ t. done (over og p t))
@@ -370,17 +355,17 @@ module _ {text x : List ℕ} {lo hi m mid : ℕ} (h : lo < hi) (own : OwnStart x
                 (λ k. ConstantFolding first a >>= λ l. ConstantFolding (first + node_size a) b >>= λ r. done (join og outer k l r))
                 (said_as z (g.leaves (first + (node_size a + node_size b)) (join og outer c a b) (join_number own first n og outer c a b v) (own_here (join og outer c a b) v f)))
 
-        module _ {n : ℕ} (qe : q ≡ Folded.Done n) where
+        module _ {n : ℕ} (qe : q ≡ Ok n) where
           -- what each call leaves, by the kind of node
-          leaf_own_left : (first : ℕ) → lo ≡ cell_words * first → (og : ℕ) (l : Leaf) → NodeHere x lo hi (leaf og l) → NodeFits text (leaf og l) → Leaves leaf_own y₂ i (fold_leaf first l) (Folded.Done n) y₃
+          leaf_own_left : (first : ℕ) → lo ≡ cell_words * first → (og : ℕ) (l : Leaf) → NodeHere x lo hi (leaf og l) → NodeFits text (leaf og l) → Leaves leaf_own y₂ i (fold_leaf first l) (Ok n) y₃
           leaf_own_left first e og l u f = said_as qe (g.leaves first (leaf og l) (leaf_number own first e og l u) (own_here (leaf og l) u f))
 
           over_own_left : (first : ℕ) → lo ≡ cell_words * first → (og : ℕ) (o : Over) (s : Node) → NodeHere x lo hi (over og o s) → NodeFits text (over og o s)
-              → Leaves over_own y₂ i (fold_over (first + node_size s) o) (Folded.Done n) y₃
+              → Leaves over_own y₂ i (fold_over (first + node_size s) o) (Ok n) y₃
           over_own_left first e og o s u f = said_as qe (g.leaves (first + node_size s) (over og o s) (over_number own first e og o s u) (own_here (over og o s) u f))
 
           join_own_left : (first : ℕ) → lo ≡ cell_words * first → (og : ℕ) (outer : Bool) (c : Join) (a b : Node) → NodeHere x lo hi (join og outer c a b) → NodeFits text (join og outer c a b)
-              → Leaves join_own y₂ i (fold_join (first + (node_size a + node_size b)) c) (Folded.Done n) y₃
+              → Leaves join_own y₂ i (fold_join (first + (node_size a + node_size b)) c) (Ok n) y₃
           join_own_left first e og outer c a b u f =
               said_as qe (g.leaves (first + (node_size a + node_size b)) (join og outer c a b) (join_number own first e og outer c a b u) (own_here (join og outer c a b) u f))
 
@@ -398,7 +383,7 @@ module _ {text x : List ℕ} {lo hi m mid : ℕ} (h : lo < hi) (own : OwnStart x
                 appended (subst (λ (k : Cell). Wrote y at (sized ((v ++ w) ++ o) k) r y₄) ke
                 (c y ((v ++ w) ++ o) long (wrote l (omega (arith, room.0, sized_long ((v ++ w) ++ o) (cell_at x hi)))))) room.1 (omega (arith, room.0))
 
-            node_done : (first : ℕ) → lo ≡ cell_words * first → (p : Node) → NodeHere x lo hi p → NodeFits text p → Leaves node_words y at (ConstantFolding first p) (Folded.Done r) y₄
+            node_done : (first : ℕ) → lo ≡ cell_words * first → (p : Node) → NodeHere x lo hi p → NodeFits text p → Leaves node_words y at (ConstantFolding first p) (Ok r) y₄
             node_done first k (leaf og l) v f =
                 done_on (fold_leaf first l) (λ m. done (leaf og m)) (leaf_own_left first k og l v f)
                 (λ d de da. record {
@@ -422,7 +407,7 @@ module _ {text x : List ℕ} {lo hi m mid : ℕ} (h : lo < hi) (own : OwnStart x
                 (node_left (first + node_size a) b (said_as q₃e (g₃.leaves (first + node_size a) (some b) (join_mid own last first k og outer j a b v) (last_here own last (join og outer j a b) v f))))
                 (λ r _ ra. record { left = appended_as (join_words (first + (node_size a + node_size b)) og outer j d a b l r v de) (closed (node_words l) (node_words r) (join_own d) la ra da) })))
 
-            pub node_closed : FoldsSource text x lo hi y at (Folded.Done r) y₄
+            pub node_closed : FoldsSource text x lo hi y at (Ok r) y₄
             node_closed = node_folded node_done (record { ends = ended })
               where
                 of_words : (v w o : List ℕ) → Appended y at v e y₁ → Appended y₁ e w i y₂ → Appended y₂ i o n y₃ → r ≤ at + (hi - lo)

@@ -1,4 +1,5 @@
 -- What folding a plan leaves.
+use Rattle.std.specs.Prelude.{Ok, Err}
 use Prim.Native.Nat.{ℕ, ◌+◌, ◌-◌, ◌≤◌, ◌<◌}
 use native.Mathlib.Omega.{arith}
 use mathlib.Core.Path.{◌≡◌, refl, sym, ap, ◌∙◌}
@@ -21,9 +22,7 @@ use Rattle.edit.specs.Edit.{Holds}
 use Rattle.kept.specs.Kept.{Kept}
 use Rattle.words.specs.Words.{node_words}
 use Rattle.words.specs.Place.{NodeHere}
-use Rattle.fold_operator.specs.Left.{ConstantsFit}
-use Rattle.fold_operator.specs.declared.Folded.{Folded}
-use Rattle.fold_operator.specs.declared.Folded.TheVariants as Folded
+use Rattle.fold_operator.specs.Left.{ConstantsFit, Folded}
 use Rattle.fold_parts.specs.Leaves.{Leaves}
 use Rattle.fold_parts.specs.Leaves as leaves
 use Rattle.fold_parts.specs.Parts.{OwnPart, PartFits}
@@ -113,12 +112,12 @@ module _ {text x : List ℕ} {t : ℕ} where
       record { left = go (ConstantFolding 0 p) r refl (made_of (ConstantFolding 0 p) some (λ q. refl) (g.leaves 0 (some p) (omega arith) (source_here schema tables p u k))) g.within }
     where
       go : (a : Answer Node) (r : Folded) → ConstantFolding 0 p ≡ a → Leaves node_words y 0 a r y' → leaves.UpTo (0 + (t - 0)) r → Left schema text tables p t a r y'
-      go (done q) (Folded.Done n) e h w = record {
+      go (done q) (Ok n) e h w = record {
         within = omega (arith, w.ends);
         inside = omega (arith, w.ends);
         words = h.left.kept;
         kept = answer_is (Emits schema text tables (columns schema p)) (ConstantFolding 0 p) q (folding_keeps schema text tables 0 p k.0) e;
       }
-      go (done q) (Folded.Refused j i) e h w = h.left
-      go (refused m i) (Folded.Done n) e h w = h.left
-      go (refused m i) (Folded.Refused j l) e h w = h.left
+      go (done q) (Err why) e h w = h.left
+      go (refused m i) (Ok n) e h w = h.left
+      go (refused m i) (Err why) e h w = h.left

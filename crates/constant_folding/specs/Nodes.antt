@@ -7,8 +7,8 @@ use Rattle.sql.specs.Optimizer.{fold_leaf, fold_over, fold_join, ConstantFolding
 use Rattle.sheet_laws.specs.Fits.{All, Optional}
 use Rattle.cells.specs.Cells.{cell_words, Part}
 use Rattle.words.specs.Words.{node_words, source_words, leaf_own, over_own, join_own}
-use Rattle.fold_operator.specs.declared.Folded.{Folded}
-use Rattle.fold_operator.specs.declared.Folded.TheVariants as Folded
+use Rattle.fold_operator.specs.declared.Failure.{Failure}
+use Rattle.fold_operator.specs.Left.{Folded, number_of}
 use Rattle.fold_parts.specs.Leaves.{Leaves, UpTo}
 use Rattle.fold_parts.specs.Parts.{PartFits}
 use Rattle.fold_parts.specs.Own.{leaf_parts, over_parts, join_parts, OwnHere}
@@ -70,10 +70,14 @@ pub record FoldsSource (text x : List ℕ) (lo hi : ℕ) (y : List ℕ) (at : �
   pub leaves : (first : ℕ) (source : Option Node) → lo ≡ cell_words * first → SourceHere text x lo hi source → Leaves words_of y at (fold_source first source) r y'
   pub within : UpTo (at + (hi - lo)) r
 
+-- A failure's refusal: its number and place.
+abbrev pub said : Failure → ℕ × ℕ
+said why = (number_of why, why.place)
+
 -- An answer's refusal, and if it is done, the refusal behind it, with this number and place.
-abbrev pub first_refusal : {A : Type 0} → Answer A → ℕ → ℕ → Folded
-first_refusal (done y) number place = Folded.Refused number place
-first_refusal (refused i p) number place = Folded.Refused i p
+abbrev pub first_refusal : {A : Type 0} → Answer A → ℕ → ℕ → ℕ × ℕ
+first_refusal (done y) number place = (number, place)
+first_refusal (refused i p) number place = (i, p)
 
 -- What a node's own parts fold to, in words. The first of their cells has the number `first`.
 abbrev pub fold_own : ℕ → Node → Answer (List ℕ)
@@ -88,9 +92,9 @@ fold_own first (join og outer j l r) = do
   done (join_own k)
 
 -- The refusal of a node where a source's is behind that of its own parts.
-abbrev pub node_refusal : ℕ → Node → ℕ → ℕ → Folded
+abbrev pub node_refusal : ℕ → Node → ℕ → ℕ → ℕ × ℕ
 node_refusal first p number place = first_refusal (fold_own first p) number place
 
--- r is the refusal of whatever node stands there, where a source of it is refused with this number and place.
-pub record Refuses (text x : List ℕ) (lo hi m number place : ℕ) (r : Folded) : Type 0 where
-  pub is : (first : ℕ) (p : Node) → m ≡ cell_words * first → OwnHere text x lo hi p → r ≡ node_refusal first p number place
+-- r is the refusal of whatever node stands there, where a source of it is refused by `why`.
+pub record Refuses (text x : List ℕ) (lo hi m : ℕ) (why r : Failure) : Type 0 where
+  pub is : (first : ℕ) (p : Node) → m ≡ cell_words * first → OwnHere text x lo hi p → said r ≡ node_refusal first p (number_of why) why.place

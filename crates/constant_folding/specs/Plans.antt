@@ -1,5 +1,5 @@
 -- What folding a plan does.
-use Rattle.std.specs.Prelude.{ℕ, ◌≤◌, ◌<◌, ◌≡◌, List, length, take}
+use Rattle.std.specs.Prelude.{ℕ, ◌≤◌, ◌<◌, ◌≡◌, List, length, take, Ok, Err}
 use Rattle.sql.specs.Schema.{Schema}
 use Rattle.sql.specs.Plan.{Node}
 use Rattle.sql.specs.Answer.{Answer, done, refused}
@@ -7,8 +7,7 @@ use Rattle.sql.specs.Optimizer.{ConstantFolding}
 use Rattle.words.specs.Words.{node_words}
 use Rattle.words.specs.Place.{NodeHere}
 use Rattle.kept.specs.Kept.{Kept}
-use Rattle.fold_operator.specs.declared.Folded.{Folded}
-use Rattle.fold_operator.specs.declared.Folded.TheVariants as Folded
+use Rattle.fold_operator.specs.Left.{Folded, number_of}
 
 -- Some sound plan is the first t words of x. A text has at most 8,192 bytes; less than 65,536 is what text references need.
 pub record PlanAt (text x : List ℕ) (t : ℕ) : Type 0 where
@@ -28,10 +27,10 @@ pub record PlanDone (schema : Schema) (text : List ℕ) (tables : ℕ) (p q : No
 
 module _ (schema : Schema) (text : List ℕ) (tables : ℕ) (p : Node) (t : ℕ) where
   abbrev pub Left : Answer Node → Folded → List ℕ → Type 0
-  Left (done q) (Folded.Done n) y = PlanDone schema text tables p q t n y
-  Left (done q) (Folded.Refused number place) y = ⊥
-  Left (refused number place) (Folded.Done n) y = ⊥
-  Left (refused number place) (Folded.Refused said at_cell) y = (said ≡ number) × (at_cell ≡ place)
+  Left (done q) (Ok n) y = PlanDone schema text tables p q t n y
+  Left (done q) (Err why) y = ⊥
+  Left (refused number place) (Ok n) y = ⊥
+  Left (refused number place) (Err why) y = (number_of why ≡ number) × (why.place ≡ place)
 
 -- That is what ConstantFolding of the plan leaves in y, and answers.
 pub record PlanFolded (schema : Schema) (text : List ℕ) (tables : ℕ) (p : Node) (t : ℕ) (r : Folded) (y : List ℕ) : Type 0 where

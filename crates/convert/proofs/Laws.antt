@@ -3,44 +3,32 @@
 use Prim.Native.Nat.{ℕ, zero, suc, ◌+◌, ◌-◌, ◌*◌, ◌/◌, ◌%◌, ◌≤◌, ◌<◌}
 use native.Mathlib.Omega.{arith}
 use borrow.Author.Tests.{eq-eqb, ne_eqb, le-leb, lt-leb}
-use mathlib.Core.Path.{◌≡◌, refl, sym, ap, ap₂, ◌∙◌}
+use mathlib.Core.Path.{◌≡◌, refl, sym, ap, ◌∙◌}
 use mathlib.Core.Logic.{◌≢◌}
-use mathlib.Core.Bool.{Bool, true, false, not, ◌&&◌, ◌||◌, cond}
+use mathlib.Core.Bool.{Bool, true, false, cond}
 use mathlib.Core.List.{List, [], ◌∷◌, ◌++◌}
 use lib.Dec.{eqb, leb}
-use lib.ListN.{length, take, drop, set, length-set}
-use lib.Seq.{sets, length-sets, set-append_left, set-get_or, get_or-set_other, take-length}
+use lib.ListN.{length, drop, set, length-set}
+use lib.Seq.{sets, length-sets, set-append_left, set-get_or, get_or-set_other}
 use Rattle.sheet.specs.Bytes.{byte, word, bytes}
-use Rattle.sheet.specs.Parts.{edition, cells_at, cell_count, record_at}
-use Rattle.sheet.specs.Check.{Numbers, refusal, check}
+use Rattle.sheet.specs.Parts.{cells_at, cell_count, record_at}
+use Rattle.sheet.specs.Check.{Numbers, check}
 use Rattle.sheet_laws.specs.Accepted.{accepted}
 use Rattle.sheet_laws.specs.Bytes.{bytes_of_digits}
 use Rattle.sheet_laws.specs.Plan.{Bytes}
 use Rattle.sheet_laws.proofs.Plan.{parts_of}
 use Rattle.sheet_laws.specs.Layout.{Parts, parts}
-use Rattle.checker.specs.Checker.{numbers, outcome}
-use Rattle.checker.specs.declared.Answer as Code
+use Rattle.std.specs.Prelude.{Ok, Err}
+use Rattle.checker.specs.Checker.{answered}
+use Rattle.checker.specs.Refusals.{number_of, refusal_of}
+use Rattle.checker.specs.declared.Counts.{Counts}
+use Rattle.checker.specs.declared.refusals.Refusal.{Refusal}
+use Rattle.checker.specs.declared.refusals.Refusal.TheVariants.{Pass, Length, Edition, Parts as BadParts, Record, Cell, NotCarried, NotOnePlan, OutOfScope, RepeatedTarget, Overflow, DivisionByZero, Mismatch, NoRoom, OutputTooShort, OtherEdition}
 use Rattle.editions.specs.Editions.{origin_bytes, with_origins, in_edition}
 use Rattle.editions.proofs.Kept.{length_origins, origin_kept, cell_inside}
 use Rattle.convert.specs.Convert.{origin_in, carried, other_edition, put_out, convert}
-use Rattle.convert.specs.Code.{Carryable}
+use Rattle.convert.specs.Code.{Carryable, returned}
 use Rattle.convert.proofs.Accepted.{stands_for, sides, by_tests}
-
--- ---- the target
-
-module _ (s : List ℕ) (target : ℕ) where
-  pub own : target ≡ edition s → false ≡ other_edition s target
-  own h = sym (ap (λ (b : Bool). not b && (eqb target 1 || eqb target 2)) (eq-eqb target (edition s) h))
-
-  module _ (apart : target ≢ edition s) where
-    apart_by : (a : Bool) → eqb target 1 ≡ a → other_edition s target ≡ (a || eqb target 2)
-    apart_by a h = ap₂ (λ (x y : Bool). not x && (y || eqb target 2)) (ne_eqb target (edition s) apart) h
-
-    pub is_1 : target ≡ 1 → true ≡ other_edition s target
-    is_1 h = sym (apart_by true (eq-eqb target 1 h))
-
-    pub not_1 : target ≢ 1 → eqb target 2 ≡ other_edition s target
-    not_1 h = sym (apart_by false (ne_eqb target 1 h))
 
 -- ---- origins
 
@@ -56,9 +44,6 @@ origin_small target i h = go (eqb target 1)
     go : (b : Bool) → cond b 0 i < 65536
     go true = omega arith
     go false = h
-
-pub two_set : (d : List ℕ) (at og : ℕ) → set (set d (at + 2) (og % 256)) (at + 3) (og / 256) ≡ sets d (at + 2) (origin_bytes og)
-two_set d at og = let e : at + 3 ≡ suc (at + 2) = omega arith in ap (λ (n : ℕ). set (set d (at + 2) (og % 256)) n (og / 256)) e
 
 -- So many cells are done, and what is left to do gives what all give from the start.
 pub record Going (f : ℕ → ℕ) (at cells : ℕ) (d₀ d : List ℕ) (i : ℕ) : Type 0 where
@@ -166,18 +151,35 @@ module _ (s : List ℕ) (target : ℕ) (out : List ℕ) (b : Bytes s) (y : Carry
 
 -- ---- the answer at each way out
 
-module _ (s : List ℕ) (target : ℕ) (out : List ℕ) (a : Code.Answer) (checked : numbers a ≡ check s) where
-  number_is : a.number ≡ (check s).number
-  number_is = ap (λ (m : Numbers). m.number) checked
+-- Every refusal has a number.
+pub some_number : (r : Refusal) → 1 ≤ number_of r
+some_number Pass = omega arith
+some_number Length = omega arith
+some_number Edition = omega arith
+some_number BadParts = omega arith
+some_number (Record i) = omega arith
+some_number (Cell i) = omega arith
+some_number (NotCarried i) = omega arith
+some_number (NotOnePlan i) = omega arith
+some_number (OutOfScope i) = omega arith
+some_number (RepeatedTarget i) = omega arith
+some_number (Overflow i) = omega arith
+some_number (DivisionByZero i) = omega arith
+some_number (Mismatch i) = omega arith
+some_number NoRoom = omega arith
+some_number (OutputTooShort needed) = omega arith
+some_number OtherEdition = omega arith
 
-  pub at_check : 1 ≤ a.number → outcome a out ≡ convert s target out
-  at_check h =
+module _ (s : List ℕ) (target : ℕ) (out : List ℕ) where
+  pub at_check : (r : Refusal) → refusal_of r ≡ check s → record { numbers = refusal_of r; output = out } ≡ convert s target out
+  at_check r checked =
+      let apart : eqb (check s).number 0 ≡ false = ne_eqb (check s).number 0 (λ e. omega (arith, ap (λ (m : Numbers). m.number) checked, e, some_number r)) in
       ap (λ (m : Numbers). record { numbers = m; output = out }) checked
-      ∙ sym (by_tests s target out false (other_edition s target) (leb (length s) (length out)) (ne_eqb (check s).number 0 (λ e. omega (arith, number_is, e))) refl refl)
+      ∙ sym (by_tests s target out false (other_edition s target) (leb (length s) (length out)) apart refl refl)
 
-  module _ (zero_is : a.number ≡ 0) where
+  module _ (c : Counts) (checked : answered (Ok c) ≡ check s) where
     accepted_is : (check s).number ≡ 0
-    accepted_is = sym number_is ∙ zero_is
+    accepted_is = sym (ap (λ (m : Numbers). m.number) checked)
 
     pub whole_is : Parts s
     whole_is = let (n, h) = stands_for s accepted_is in parts_of (accepted s n h)
@@ -188,18 +190,14 @@ module _ (s : List ℕ) (target : ℕ) (out : List ℕ) (a : Code.Answer) (check
         let x = accepted s n h in
         record { whole = record { length_is = x.length_is; parts_are = x.parts_are }; known = x.edition_is; other = o; room = room }
 
-    pub at_target : (r : Code.Answer) → other_edition s target ≡ false → numbers r ≡ refusal 21 0 → outcome r out ≡ convert s target out
-    at_target r o e =
-        ap (λ (m : Numbers). record { numbers = m; output = out }) e
-        ∙ sym (by_tests s target out true false (leb (length s) (length out)) (eq-eqb (check s).number 0 accepted_is) o refl)
+    pub at_target : other_edition s target ≡ false → returned (length s) (Err OtherEdition) out ≡ convert s target out
+    at_target o = sym (by_tests s target out true false (leb (length s) (length out)) (eq-eqb (check s).number 0 accepted_is) o refl)
 
-    pub at_short : (r : Code.Answer) → other_edition s target ≡ true → length out < length s → numbers r ≡ refusal 15 (length s) → outcome r out ≡ convert s target out
-    at_short r o h e =
-        ap (λ (m : Numbers). record { numbers = m; output = out }) e
-        ∙ sym (by_tests s target out true true false (eq-eqb (check s).number 0 accepted_is) o (lt-leb (length s) (length out) h))
+    pub at_short : other_edition s target ≡ true → length out < length s → returned (length s) (Err (OutputTooShort (length s))) out ≡ convert s target out
+    at_short o h = sym (by_tests s target out true true false (eq-eqb (check s).number 0 accepted_is) o (lt-leb (length s) (length out) h))
 
     pub at_success : (out' : List ℕ) → other_edition s target ≡ true → length s ≤ length out → out' ≡ carried target s ++ drop (length s) out
-        → outcome (record { number = 0; place = 0; length = length s; cells = a.cells; columns = a.columns }) out' ≡ convert s target out
+        → returned (length s) (Ok c) out' ≡ convert s target out
     at_success out' o h e =
-        let same : outcome (record { number = 0; place = 0; length = length s; cells = a.cells; columns = a.columns }) out' ≡ put_out s target out (check s) true = cc (checked, e) in
+        let same : returned (length s) (Ok c) out' ≡ put_out s target out (check s) true = cc (checked, e) in
         same ∙ sym (by_tests s target out true true true (eq-eqb (check s).number 0 accepted_is) o (le-leb (length s) (length out) h))

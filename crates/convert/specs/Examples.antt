@@ -1,5 +1,5 @@
 -- Small sheets carried to the other edition, and each refusal, worked out. A cell is written as document 01 lists it, its origin first: origin, tag, flag, a, b, c.
-use Rattle.std.specs.Prelude.{ℕ, ◌≡◌, refl, List, [], ◌∷◌, ◌++◌, map, length, replicate}
+use Rattle.std.specs.Prelude.{ℕ, ◌≡◌, refl, List, [], ◌∷◌, ◌++◌, map, replicate}
 use Rattle.sheet.specs.Bytes.{bytes, word, half}
 use Rattle.sheet.specs.Parts.{length_ok, edition_ok, parts_ok, bad_record}
 use Rattle.sheet.specs.Cell.{cell, cell_ok, bad_cell}

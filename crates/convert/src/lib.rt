@@ -7,22 +7,16 @@ ghost use Rattle.checker.specs.Checker.{outcome};
 ghost use Rattle.editions.specs.Editions.{origin_bytes, with_origins};
 ghost use Rattle.convert.specs.Convert;
 ghost use Rattle.convert.specs.Convert.{origin_in, carried, other_edition};
-ghost use Rattle.convert.specs.Code.{Carryable};
+ghost use Rattle.convert.specs.Code.{Carryable, returned};
 
-use checker::Answer;
+use checker::{Answer, Counts, Refusal};
 
 // The target is not the edition of s, and is one.
 fn is_other(s: &[u8], target: usize) -> bool
     requires { 20 ≤ length s.now }
     ensures { result ≡ other_edition s.now target }
 {
-    if target == layout::word_at(s, s.len() - 8) {
-        return false;
-    }
-    if target == 1 {
-        return true;
-    }
-    target == 2
+    target != layout::word_at(s, s.len() - 8) && matches!(target, 1 | 2)
 }
 
 // The origin that cell number i is given.
@@ -37,8 +31,7 @@ fn put_origin(origin: usize, out: &mut [u8], at: usize)
     requires { (origin < 65536) × (at + 4 ≤ length out.old) }
     ensures { out.new ≡ sets out.old (at + 2) (origin_bytes origin) }
 {
-    out[at + 2] = (origin % 256) as u8;
-    out[at + 3] = (origin / 256) as u8;
+    out[at + 2..at + 4].copy_from_slice(&origin.to_le_bytes()[..2]);
 }
 
 // The origins of the cells, so many from byte `at` on.
@@ -46,10 +39,8 @@ fn put_origins(target: usize, cells: usize, out: &mut [u8], at: usize)
     requires { (cells ≤ 2048) × (at + cells * 16 ≤ length out.old) }
     ensures { out.new ≡ with_origins (origin_in target) at 0 cells out.old }
 {
-    let mut i: usize = 0;
-    while i < cells {
+    for i in 0..cells {
         put_origin(origin_in(target, i), out, at + i * 16);
-        i += 1;
     }
 }
 
@@ -72,26 +63,33 @@ fn carry(s: &[u8], target: usize, out: &mut [u8])
     out[s.len() - 8] = target as u8;
 }
 
-// The sheet s in the target edition, or a refusal: 2 to 10 as `check` gives them, 21 or 15, and then no byte of the output has changed.
+// The sheet s in the target edition and what it counts, or the cause of its refusal, and then no byte of the output has changed.
+fn converted(s: &[u8], target: usize, out: &mut [u8]) -> Result<Counts, Refusal>
+    ensures { returned (length s.now) result out.new ≡ Convert.convert s.now target out.old }
+{
+    let counts = checker::accepted(s)?;
+    if !is_other(s, target) {
+        return Err(Refusal::OtherEdition);
+    }
+    if out.len() < s.len() {
+        return Err(Refusal::OutputTooShort(s.len()));
+    }
+    carry(s, target, out);
+    Ok(counts)
+}
+
+// The same in numbers: refusals 2 to 10 as `check` gives them, 21 or 15.
 pub fn convert(s: &[u8], target: usize, out: &mut [u8]) -> Answer
     ensures { outcome result out.new ≡ Convert.convert s.now target out.old }
 {
-    let a = checker::check(s);
-    if a.number != 0 {
-        return a;
-    }
-    if !is_other(s, target) {
-        return checker::refusal(21, 0);
-    }
-    if out.len() < s.len() {
-        return checker::refusal(15, s.len());
-    }
-    carry(s, target, out);
-    Answer {
-        number: 0,
-        place: 0,
-        length: s.len(),
-        cells: a.cells,
-        columns: a.columns,
+    match converted(s, target, out) {
+        Ok(counts) => Answer {
+            number: 0,
+            place: 0,
+            length: s.len(),
+            cells: counts.cells,
+            columns: counts.columns,
+        },
+        Err(cause) => Answer::from(cause),
     }
 }

@@ -1,36 +1,29 @@
 -- What each function that copies and pushes has appended, from what its calls have.
-use Prim.Native.Nat.{ℕ, ◌-◌, ◌≤◌, ◌<◌}
+use Prim.Native.Nat.{ℕ}
 use native.Mathlib.Omega.{arith}
-use borrow.Author.Tests.{lt-ltb, le-ltb}
-use mathlib.Core.Bool.{Bool, not, ◌&&◌, cond}
 use mathlib.Core.Option.{Option, none, some}
-use mathlib.Core.Path.{◌≡◌, sym, ap, ◌∙◌, subst}
-use mathlib.Core.List.{List, [], map}
-use lib.Dec.{ltb}
+use mathlib.Core.Path.{◌≡◌, sym, subst}
+use mathlib.Core.List.{List, map}
 use lib.ListN.{length}
 use Rattle.sql.specs.Expression.{Expression, ands, and_vec, replace_column, shift_column_down}
 use Rattle.sql.specs.Optimizer.{for_left, for_right, last_lookup, copied, flat_map, push_left, push_right}
 use Rattle.cells.specs.Room.{Wrote}
 use Rattle.words.specs.Words.{optional_words}
 use Rattle.words.specs.Place.{ExpressionAt, Maps}
-use Rattle.column_lookup.specs.declared.ColumnPair.{ColumnPair}
-use Rattle.column_lookup.specs.declared.ColumnPair.TheVariants as ColumnPair
-use Rattle.column_lookup.specs.Lookup.{pair, SetsEqual}
-use Rattle.column_numbers.specs.declared.JoinedColumn.{JoinedColumn}
+use Rattle.std.specs.Prelude as code
+use Rattle.std.specs.Prelude.{Some, None}
 use Rattle.conjuncts.specs.Conjuncts.{GatheredAt, Appends, Joins, AppendsEach, OptionalHere, OptionalAt}
 use Rattle.conjuncts.proofs.Appending.{words_long, appends_none, appends_then, appends_one, appends_vec, gathered_more}
 use Rattle.copied_lookups.specs.declared.Source.{Source}
-use Rattle.copied_lookups.specs.declared.Source.TheVariants as Source
 use Rattle.copied_lookups.specs.declared.Place.{Place}
-use Rattle.copied_lookups.specs.declared.Place.TheVariants as Place
-use Rattle.copied_lookups.specs.Copies.{Stands, FindsLast, conjuncts_of, pair_copy, optional_copies, copies, CopiesLast, CopiesPair, CopiesConjunct, CopiesEach, LeftAt, PushesLeft, RightAt, PushesRight}
+use Rattle.copied_lookups.specs.Copies.{Stands, FindsLast, conjuncts_of, copies, CopiesLast, CopiesEach, LeftAt, PushesLeft, RightAt, PushesRight}
 use Rattle.copied_lookups.proofs.Lists.{moved_vec, pushed_left, pushed_right}
 
 -- ---- the last lookup, copied
 
-stands_at : {s : List ℕ} {a b : ℕ} (o : Option Expression) → Stands s (Place.At a b) o → ExpressionAt s a b
-stands_at none h = absurd h
-stands_at (some e) h = record { e = e; here = h }
+stands_at : {s : List ℕ} (p : Place) (o : Option Expression) → Stands s (Some p) o → ExpressionAt s p.start p.end
+stands_at p none h = absurd h
+stands_at p (some e) h = record { e = e; here = h }
 
 module _ {s : List ℕ} {lo hi : ℕ} where
   none_there : (new : ℕ) {d : List ℕ} {from at : ℕ} (c to : ℕ) → lo ≡ hi → (o : Option Expression) → OptionalHere s lo hi o → Appends new d from at (copied c to (last_lookup c (conjuncts_of o))) at d
@@ -48,63 +41,29 @@ module _ {s : List ℕ} {lo hi : ℕ} where
     pub some_there : OptionalAt s lo hi → ExpressionAt s lo hi
     some_there t = some_here t.o t.here
 
-    module _ (c : ℕ) {r : Place} (f : FindsLast c s lo hi r) where
-      pub place_there : {a b : ℕ} → r ≡ Place.At a b → OptionalAt s lo hi → ExpressionAt s a b
-      place_there q t = let x = some_there t in stands_at (last_lookup c (ands x.e)) (subst (λ (p : Place). Stands s p (last_lookup c (ands x.e))) q (f x.e x.here))
+    module _ (c : ℕ) {r : code.Option Place} (f : FindsLast c s lo hi r) where
+      pub place_there : {p : Place} → r ≡ Some p → OptionalAt s lo hi → ExpressionAt s p.start p.end
+      place_there {p} q t = let x = some_there t in stands_at p (last_lookup c (ands x.e)) (subst (λ (p : code.Option Place). Stands s p (last_lookup c (ands x.e))) q (f x.e x.here))
 
-      copies_by : (new : ℕ) (q : Place) → r ≡ q → {d : List ℕ} {from at n : ℕ} {d' : List ℕ} (to : ℕ)
+      copies_by : (new : ℕ) (q : code.Option Place) → r ≡ q → {d : List ℕ} {from at n : ℕ} {d' : List ℕ} (to : ℕ)
           → ((o : Option Expression) → Stands s q o → Appends new d from at (copied c to o) n d') → CopiesLast new c to s lo hi d from at n d'
       copies_by new q z to g none u = absurd (h (omega (arith, u.part.high)))
-      copies_by new q z to g (some e) u = g (last_lookup c (ands e)) (subst (λ (p : Place). Stands s p (last_lookup c (ands e))) z (f e (record { part = u.part })))
+      copies_by new q z to g (some e) u = g (last_lookup c (ands e)) (subst (λ (p : code.Option Place). Stands s p (last_lookup c (ands e))) z (f e (record { part = u.part })))
 
-      pub copies_missing : (new : ℕ) → r ≡ Place.None → {d : List ℕ} {from at : ℕ} (to : ℕ) → CopiesLast new c to s lo hi d from at at d
-      copies_missing new z {d} {from} {at} to = copies_by new Place.None z to missing
+      pub copies_missing : (new : ℕ) → r ≡ None → {d : List ℕ} {from at : ℕ} (to : ℕ) → CopiesLast new c to s lo hi d from at at d
+      copies_missing new z {d} {from} {at} to = copies_by new None z to missing
         where
-          missing : (o : Option Expression) → Stands s Place.None o → Appends new d from at (copied c to o) at d
+          missing : (o : Option Expression) → Stands s None o → Appends new d from at (copied c to o) at d
           missing none k = appends_none new
           missing (some e) k = absurd k
 
-      pub copies_found : (new : ℕ) {a b : ℕ} → r ≡ Place.At a b → {d : List ℕ} {from at m n : ℕ} {d₁ d₂ : List ℕ} → length d₁ ≡ length d → (to : ℕ)
-          → Maps (replace_column c to) s a b d at m d₁ → Joins new d₁ from at m n d₂ → CopiesLast new c to s lo hi d from at n d₂
-      copies_found new {a} {b} z {d} {from} {at} {n = n} {d₂ = d₂} k to v w = copies_by new (Place.At a b) z to there
+      pub copies_found : (new : ℕ) {p : Place} → r ≡ Some p → {d : List ℕ} {from at m n : ℕ} {d₁ d₂ : List ℕ} → length d₁ ≡ length d → (to : ℕ)
+          → Maps (replace_column c to) s p.start p.end d at m d₁ → Joins new d₁ from at m n d₂ → CopiesLast new c to s lo hi d from at n d₂
+      copies_found new {p} z {d} {from} {at} {n = n} {d₂ = d₂} k to v w = copies_by new (Some p) z to there
         where
-          there : (o : Option Expression) → Stands s (Place.At a b) o → Appends new d from at (copied c to o) n d₂
+          there : (o : Option Expression) → Stands s (Some p) o → Appends new d from at (copied c to o) n d₂
           there none y = absurd y
           there (some e) y = appends_one k new (replace_column c to e) (v e y) w
-
--- ---- what an equijoin copies
-
-module _ (new : ℕ) (into : Source) (n shift l r : ℕ) {s : List ℕ} {lo hi : ℕ} {d : List ℕ} {from at : ℕ} where
-  pub not_left : n ≤ l → CopiesPair new into n shift l r s lo hi d from at at d
-  not_left h o u = subst (λ (t : Bool). Appends new d from at (cond (t && not (ltb r n)) (pair_copy into shift (conjuncts_of o) l r) []) at d) (sym (le-ltb l n h)) (appends_none new)
-
-  module _ (h : l < n) where
-    by_right : {t : Bool} → ltb r n ≡ t → {m : ℕ} {d' : List ℕ}
-        → ((o : Option Expression) → OptionalHere s lo hi o → Appends new d from at (cond (not t) (pair_copy into shift (conjuncts_of o) l r) []) m d')
-        → CopiesPair new into n shift l r s lo hi d from at m d'
-    by_right q {m} {d'} f o u = subst (λ (b : Bool). Appends new d from at (cond (b && not (ltb r n)) (pair_copy into shift (conjuncts_of o) l r) []) m d') (sym (lt-ltb l n h))
-        (subst (λ (b : Bool). Appends new d from at (cond (not b) (pair_copy into shift (conjuncts_of o) l r) []) m d') (sym q) (f o u))
-
-    pub not_right : r < n → CopiesPair new into n shift l r s lo hi d from at at d
-    not_right k = by_right (lt-ltb r n k) (λ o u. appends_none new)
-
-    pub pair_left : n ≤ r → {m : ℕ} {d' : List ℕ} → into ≡ Source.Left → CopiesLast new r l s lo hi d from at m d' → CopiesPair new into n shift l r s lo hi d from at m d'
-    pair_left k {m} {d'} q f = by_right (le-ltb r n k) (λ o u. subst (λ (i : Source). Appends new d from at (pair_copy i shift (conjuncts_of o) l r) m d') (sym q) (f o u))
-
-    pub pair_right : n ≤ r → {m : ℕ} {d' : List ℕ} → into ≡ Source.Right → {own : ℕ} → own ≡ r - shift → CopiesLast new l own s lo hi d from at m d'
-        → CopiesPair new into n shift l r s lo hi d from at m d'
-    pair_right k {m} {d'} q {own} z f = by_right (le-ltb r n k) (λ o u. subst (λ (i : Source). Appends new d from at (pair_copy i shift (conjuncts_of o) l r) m d') (sym q)
-        (subst (λ (j : ℕ). Appends new d from at (copied l j (last_lookup l (conjuncts_of o))) m d') z (f o u)))
-
--- ---- what a conjunct copies
-
-module _ (new : ℕ) (into : Source) (n shift : ℕ) {s : List ℕ} {lo hi : ℕ} {g : List ℕ} {a b : ℕ} {d : List ℕ} {from at : ℕ} {q : ColumnPair} (f : SetsEqual s lo hi q) where
-  pub no_pair : q ≡ ColumnPair.None → CopiesConjunct new into n shift s lo hi g a b d from at at d
-  no_pair z o u e v = subst (λ p. Appends new d from at (optional_copies into n shift (conjuncts_of o) p) at d) (ap pair (sym z) ∙ f e v) (appends_none new)
-
-  pub pair_copied : {l r : JoinedColumn} → q ≡ ColumnPair.Pair l r → {m : ℕ} {d' : List ℕ} → CopiesPair new into n shift l.0 r.0 g a b d from at m d'
-      → CopiesConjunct new into n shift s lo hi g a b d from at m d'
-  pair_copied z {m} {d'} w o u e v = subst (λ p. Appends new d from at (optional_copies into n shift (conjuncts_of o) p) m d') (ap pair (sym z) ∙ f e v) (w o u)
 
 -- what the copies of the conjuncts before left, as the copy of the next one asks for it
 pub copies_gathered : (new : ℕ) (into : Source) (n shift : ℕ) {s : List ℕ} {lo hi : ℕ} {g : List ℕ} {a b : ℕ} {d : List ℕ} {from at m : ℕ} {d₁ : List ℕ} → GatheredAt d from at

@@ -1,5 +1,6 @@
 -- The last lookup of a column, its copies, and what is pushed into a join's sources, in slices of words.
-use Rattle.std.specs.Prelude.{ℕ, ◌-◌, Bool, not, ◌&&◌, cond, ◌≡◌, List, [], eqb, ltb}
+use Rattle.std.specs.Prelude as code
+use Rattle.std.specs.Prelude.{ℕ, ◌-◌, Bool, not, ◌&&◌, cond, ◌≡◌, List, [], ltb, Some, None, option_map}
 use Rattle.std.proofs.Math.Option.{Option, none, some}
 use Rattle.sql.specs.Expression.{Expression, ands, and_vec, shift_column_down}
 use Rattle.sql.specs.Optimizer.{for_left, for_right, equijoin, is_lookup_of, last_lookup, copied, push_left, push_right, map_optional}
@@ -9,28 +10,26 @@ use Rattle.words.specs.Words.{optional_words}
 use Rattle.words.specs.Place.{ExpressionHere}
 use Rattle.conjuncts.specs.Conjuncts.{Appends, AppendsEach, Walks, OptionalHere}
 use Rattle.copied_lookups.specs.declared.Source.{Source}
-use Rattle.copied_lookups.specs.declared.Source.TheVariants as Source
 use Rattle.copied_lookups.specs.declared.Place.{Place}
-use Rattle.copied_lookups.specs.declared.Place.TheVariants as Place
 
 -- ---- the last lookup
 
 abbrev pub IsLookupOf : ℕ → List ℕ → ℕ → ℕ → Bool → Type 0
 IsLookupOf c s lo hi r = (e : Expression) → ExpressionHere s lo hi e → r ≡ is_lookup_of c e
 
--- A place in s says where an expression stands, or that there is none.
-abbrev pub Stands : List ℕ → Place → Option Expression → Type 0
-Stands s (Place.At lo hi) none = ⊥
-Stands s (Place.At lo hi) (some e) = ExpressionHere s lo hi e
-Stands s Place.None none = Unit
-Stands s Place.None (some e) = ⊥
+-- A place in s says where an expression stands; without one there is none.
+abbrev pub Stands : List ℕ → code.Option Place → Option Expression → Type 0
+Stands s (Some p) none = ⊥
+Stands s (Some p) (some e) = ExpressionHere s p.start p.end e
+Stands s None none = Unit
+Stands s None (some e) = ⊥
 
--- the place of what ends before word hi; 0 says that there is none
-abbrev pub ending : List ℕ → ℕ → Place
-ending s hi = cond (eqb hi 0) Place.None (Place.At (start_at s hi) hi)
+-- the place of what ends before a word
+abbrev pub ending : List ℕ → code.Option ℕ → code.Option Place
+ending s o = option_map (λ hi. record { start = start_at s hi; end = hi }) o
 
 -- among the conjuncts of the expression from lo up to hi
-abbrev pub FindsLast : ℕ → List ℕ → ℕ → ℕ → Place → Type 0
+abbrev pub FindsLast : ℕ → List ℕ → ℕ → ℕ → code.Option Place → Type 0
 FindsLast c s lo hi r = (e : Expression) → ExpressionHere s lo hi e → Stands s r (last_lookup c (ands e))
 
 -- ---- copies

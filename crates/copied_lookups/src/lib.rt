@@ -10,6 +10,8 @@ ghost use Rattle.column_lookup.specs.Lookup.{found, column_in, equal_cells};
 ghost use Rattle.conjuncts.specs.Conjuncts.{OptionalAt, GatheredAt};
 ghost use Rattle.copied_lookups.specs.Copies.{IsLookupOf, ending, FindsLast, CopiesLast, CopiesPair, CopiesConjunct, CopiesEach, LeftAt, PushesLeft, RightAt, PushesRight};
 
+use words::Expression;
+
 // A source of a join.
 #[derive(Clone, Copy)]
 pub enum Source {
@@ -19,19 +21,16 @@ pub enum Source {
 
 // Where an expression stands, from a word up to another.
 #[derive(Clone, Copy)]
-pub enum Place {
-    At(usize, usize),
-    None,
+pub struct Place {
+    pub start: usize,
+    pub end: usize,
 }
 
 // Whether a cell is that of Column c.
 fn is_column(k: cells::Cell, c: u32) -> bool
     ensures { result ≡ is_number c (found (column_in k)) }
 {
-    if k.tag == tags::COLUMN {
-        return k.a == c;
-    }
-    false
+    k.tag == tags::COLUMN && k.a == c
 }
 
 // Whether Equal of operands with these cells is a lookup of column c.
@@ -41,12 +40,7 @@ fn is_equal_lookup(l: cells::Cell, r: cells::Cell, c: u32) -> bool
     if l.tag < tags::COLUMN {
         return is_column(r, c);
     }
-    if l.tag == tags::COLUMN {
-        if r.tag < tags::COLUMN {
-            return l.a == c;
-        }
-    }
-    false
+    l.tag == tags::COLUMN && r.tag < tags::COLUMN && l.a == c
 }
 
 // Whether the Or from lo to hi is a lookup of column c.
@@ -54,11 +48,8 @@ fn is_or_lookup(s: &[u32], lo: usize, hi: usize, c: u32) -> bool
     requires { ExpressionAt s.now lo hi }
     ensures { IsLookupOf c s.now lo hi result }
 {
-    let found = column_lookup::is_column_lookup(s, lo, hi);
-    let column_lookup::Lookup::Column(d) = found else {
-        return false;
-    };
-    d == c
+    let or = Expression { words: s, lo, hi };
+    column_lookup::is_column_lookup(or) == Some(c)
 }
 
 // Whether the expression from lo to hi is a lookup of column c. For each equijoin all lookups may be asked, so that only an Or is left to a call.
@@ -66,91 +57,70 @@ fn is_lookup_of(s: &[u32], lo: usize, hi: usize, c: u32) -> bool
     requires { ExpressionAt s.now lo hi }
     ensures { IsLookupOf c s.now lo hi result }
 {
-    let t = cells::tag_at(s, hi);
-    if t == tags::OR {
-        return is_or_lookup(s, lo, hi, c);
-    }
     let end = hi - cells::CELL_WORDS;
-    if t == tags::EQUAL {
-        let mid = cells::start(s, end);
-        return is_equal_lookup(cells::cell_at(s, mid), cells::cell_at(s, end), c);
+    match cells::tag_at(s, hi) {
+        tags::OR => is_or_lookup(s, lo, hi, c),
+        tags::EQUAL => {
+            let mid = cells::start(s, end);
+            is_equal_lookup(cells::cell_at(s, mid), cells::cell_at(s, end), c)
+        }
+        tags::IS_NULL | tags::IS_NAN => is_column(cells::cell_at(s, end), c),
+        _ => false,
     }
-    if t < tags::IS_NULL {
-        return false;
-    }
-    if tags::IS_NAN < t {
-        return false;
-    }
-    is_column(cells::cell_at(s, end), c)
 }
 
-// Where the last lookup of column c among the conjuncts of the expression from lo to hi ends, or 0.
-fn last_end(s: &[u32], lo: usize, hi: usize, c: u32) -> usize
+// Where the last lookup of column c among the conjuncts of the expression from lo to hi ends.
+fn last_end(s: &[u32], lo: usize, hi: usize, c: u32) -> Option<usize>
     requires { ExpressionAt s.now lo hi }
     ensures { FindsLast c s.now lo hi (ending s.now result) }
 {
     if cells::tag_at(s, hi) == tags::AND {
         let end = hi - cells::CELL_WORDS;
         let mid = cells::start(s, end);
-        let later = last_end(s, mid, end, c);
-        if later != 0 {
-            return later;
+        if let Some(later) = last_end(s, mid, end, c) {
+            return Some(later);
         }
         return last_end(s, lo, mid, c);
     }
-    if is_lookup_of(s, lo, hi, c) {
-        return hi;
-    }
-    0
+    is_lookup_of(s, lo, hi, c).then_some(hi)
 }
 
 // The same for one conjunct, which is no And as a rule; then there is no call.
-fn conjunct_end(s: &[u32], lo: usize, hi: usize, c: u32) -> usize
+fn conjunct_end(s: &[u32], lo: usize, hi: usize, c: u32) -> Option<usize>
     requires { ExpressionAt s.now lo hi }
     ensures { FindsLast c s.now lo hi (ending s.now result) }
 {
     if cells::tag_at(s, hi) == tags::AND {
         return last_end(s, lo, hi, c);
     }
-    if is_lookup_of(s, lo, hi, c) {
-        return hi;
-    }
-    0
+    is_lookup_of(s, lo, hi, c).then_some(hi)
 }
 
 // The same, from the last conjunct to the first: those that and_vec joined stand to the left.
-fn last_joined_end(s: &[u32], lo: usize, hi: usize, c: u32) -> usize
+fn last_joined_end(s: &[u32], lo: usize, hi: usize, c: u32) -> Option<usize>
     requires { ExpressionAt s.now lo hi }
     ensures { FindsLast c s.now lo hi (ending s.now result) }
 {
     let mut at = hi;
-    let mut tag = cells::tag_at(s, hi);
-    while tag == tags::AND {
+    while cells::tag_at(s, at) == tags::AND {
         let end = at - cells::CELL_WORDS;
         let mid = cells::start(s, end);
-        let later = conjunct_end(s, mid, end, c);
-        if later != 0 {
-            return later;
+        if let Some(later) = conjunct_end(s, mid, end, c) {
+            return Some(later);
         }
         at = mid;
-        tag = cells::tag_at(s, mid);
     }
-    if is_lookup_of(s, lo, at, c) {
-        return at;
-    }
-    0
+    is_lookup_of(s, lo, at, c).then_some(at)
 }
 
 // The last lookup of column c among the conjuncts of the expression from lo to hi.
-pub fn last_lookup(s: &[u32], lo: usize, hi: usize, c: u32) -> Place
+pub fn last_lookup(s: &[u32], lo: usize, hi: usize, c: u32) -> Option<Place>
     requires { ExpressionAt s.now lo hi }
     ensures { FindsLast c s.now lo hi result }
 {
-    let end = last_joined_end(s, lo, hi, c);
-    if end == 0 {
-        return Place::None;
-    }
-    Place::At(cells::start(s, end), end)
+    let end = last_joined_end(s, lo, hi, c)?;
+    let start = cells::start(s, end);
+    Some(Place { start, end })
 }
 
 // The last lookup of a column among the conjuncts that stand in s from lo up to hi, copied to another column, as one more conjunct.
@@ -172,11 +142,10 @@ fn copy_last(
     if lo == hi {
         return at;
     }
-    let last = last_lookup(s, lo, hi, column);
-    let Place::At(a, b) = last else {
+    let Some(last) = last_lookup(s, lo, hi, column) else {
         return at;
     };
-    let m = column_numbers::replace_column(s, a, b, d, at, column, to);
+    let m = column_numbers::replace_column(s, last.start, last.end, d, at, column, to);
     conjuncts::and_over(d, from, at, m, origin)
 }
 
@@ -200,10 +169,7 @@ fn copy_pair(
     requires gathered_at { GatheredAt d.old from at }
     ensures { CopiesPair origin into n shift l.0 r.0 s.now lo hi d.old from at result d.new }
 {
-    if n <= l.0 as usize {
-        return at;
-    }
-    if (r.0 as usize) < n {
+    if n <= l.0 as usize || (r.0 as usize) < n {
         return at;
     }
     match into {
@@ -236,8 +202,8 @@ fn copy_conjunct(
     requires gathered_at { GatheredAt d.old from at }
     ensures { CopiesConjunct origin into n shift s.now lo hi g.now a b d.old from at result d.new }
 {
-    let pair = column_lookup::equijoin(s, lo, hi);
-    let column_lookup::ColumnPair::Pair(l, r) = pair else {
+    let conjunct = Expression { words: s, lo, hi };
+    let Some((l, r)) = column_lookup::equijoin(conjunct) else {
         return at;
     };
     copy_pair(g, a, b, d, from, at, l, r, into, n, shift, origin)

@@ -1,26 +1,25 @@
 -- What putting cells over the trees that they ask for makes: of the cells of a plan that a sheet can hold, the plan's words.
 -- Assumes nothing.
-use Prim.Native.Nat.{ℕ, zero, suc, ◌+◌, ◌≤◌, ◌<◌}
+use Prim.Native.Nat.{ℕ, ◌+◌, ◌≤◌}
 use native.Mathlib.Omega.{arith}
 use mathlib.Core.Path.{◌≡◌, refl, sym, ap, ◌∙◌, subst}
 use mathlib.Core.Bool.{Bool, true, false}
 use mathlib.Core.List.{List, [], ◌∷◌, ◌++◌, append_assoc, append-nil}
-use mathlib.Core.Option.{Option, none, some}
+use mathlib.Core.Option.{none, some}
 use lib.ListN.{length, length-append}
 use Rattle.sql.specs.Expression.{Marked, Expression, constant, column, unary, binary}
 use Rattle.sql.specs.Plan.{node_origin, by_key, by_index, Leaf, scan, lookup, nothing, values, limit, offset, order, projection, remap, aggregate, Over, filter, other, Join, nested_loop, hash, Node, leaf, over, join}
 use Rattle.sheet.specs.Cell.{Cell}
-use Rattle.sheet.specs.Content.{Content, cell_of, constant_cell, column_cell, unary_cell, binary_cell, label_cell, item_cell, key_cell, target_cell, agg_cell, row_cell, aggregate_cell, filter_cell, hash_join_cell, index_lookup_cell, key_lookup_cell, limit_cell, offset_cell, nested_loop_join_cell, nothing_cell, order_cell, projection_cell, remap_cell, scan_cell, values_cell}
+use Rattle.sheet.specs.Content.{Content, constant_cell, column_cell, unary_cell, binary_cell, label_cell, item_cell, key_cell, target_cell, agg_cell, row_cell, aggregate_cell, filter_cell, hash_join_cell, index_lookup_cell, key_lookup_cell, limit_cell, offset_cell, nested_loop_join_cell, nothing_cell, order_cell, projection_cell, remap_cell, scan_cell, values_cell}
 use Rattle.sheet.specs.Cells.{all_cells, alone, expression_cells, constant_cells, label_cells, target_cells, item_cells, key_cells, agg_cells, row_cells, leaf_cells, other_cells, over_cells, join_cells, cells}
 use Rattle.sheet_laws.specs.Fits.{All, EachExpression, EachItem, EachKey, EachAgg, EachRow, EachLeaf, EachOver, EachJoin, Each, CountsFit}
 use Rattle.arity.specs.Arity.{children}
 use Rattle.cells.specs.declared.Cell as working
 use Rattle.cells.specs.Cells.{cell_words, words, sized}
-use Rattle.words.specs.Words.{cell, all_words, expression_words, constant_words, label_words, target_words, item_words, key_words, agg_words, row_words, leaf_own, leaf_cell, over_own, over_cell, join_own, join_cell, node_words, source_words, own_words, node_cell}
+use Rattle.words.specs.Words.{cell, all_words, expression_words, constant_words, label_words, target_words, item_words, key_words, agg_words, row_words, node_words, source_words, own_words, node_cell}
 use Rattle.words.proofs.Nodes.{node_shape}
 use Rattle.nodes.specs.Trees.{Trees}
 use Rattle.nodes.specs.Trees as rows
-use Rattle.nodes.specs.Own.{leaf_count, over_count, join_count}
 use Rattle.nodes.proofs.Trees.{append_all}
 use Rattle.nodes.proofs.Own.{one_tree, expression_trees, own_trees}
 use Rattle.decode.specs.Decode.{trees}

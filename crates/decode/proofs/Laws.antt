@@ -3,7 +3,6 @@
 use Prim.Native.Nat.{ℕ, suc, ◌+◌, ◌-◌, ◌*◌, ◌≤◌, ◌<◌}
 use native.Mathlib.Omega.{arith}
 use native.Mathlib.Numerals.{add-one}
-use mathlib.Core.Logic.{⊎_elim}
 use mathlib.Core.Path.{◌≡◌, refl, sym, ap, ◌∙◌, subst}
 use mathlib.Core.List.{List, [], ◌∷◌, ◌++◌, map, append_assoc}
 use lib.ListN.{length, take, drop, length-append, take-append-drop}
@@ -12,7 +11,6 @@ use Rattle.sql.specs.Answer.{done}
 use Rattle.sql.specs.Plan.{Node, up_to}
 use Rattle.sheet.specs.Parts.{table_count, cell_count}
 use Rattle.sheet.specs.Cell as Sheet
-use Rattle.sheet.specs.Cells.{cells}
 use Rattle.sheet.specs.Check.{text, cells_of, plan}
 use Rattle.sheet_laws.specs.Accepted.{accepted}
 use Rattle.sheet_laws.specs.Fits.{ExactCell}
@@ -22,7 +20,7 @@ use Rattle.layout.specs.Layout.{Whole, Laid, IsCell, as_cell}
 use Rattle.layout.specs.declared.Cell.{Cell}
 use Rattle.layout.specs.declared.Parts.{Parts}
 use Rattle.layout.proofs.Laws.{cells_are, cell_there}
-use Rattle.cells.specs.Cells.{words, sized, start_at, Part, Sized}
+use Rattle.cells.specs.Cells.{sized, start_at, Part, Sized}
 use Rattle.cells.specs.Room.{Wrote, Seals}
 use Rattle.cells.proofs.Laws as cells
 use Rattle.cells.proofs.Laws.{part_in, wrote_up, lt_or_ge}

@@ -6,37 +6,21 @@ ghost use Rattle.layout.specs.Layout.{as_cell};
 ghost use Rattle.nodes.specs.Trees.{trees_start};
 ghost use Rattle.decode.specs.Decode.{Acceptable, Decodes, part_trees, node_trees, trees, Last, Put};
 
-// How many trees the cell k stands over: its operands, or its sources and parts. Tags are told apart by tests: a constant array over all tags would be
-// stored anew at each call, which takes longer than all else that is done for a cell.
+// How many trees the cell k stands over: its operands, or its sources and parts. A constant array over all tags would be stored anew at each call, which takes
+// longer than all else that is done for a cell.
 fn trees_of(k: layout::Cell) -> usize
     requires { (k.a < 4294967296) × (k.b < 4294967296) }
     ensures { result ≡ trees (as_cell k) }
 {
-    if k.tag < tags::BINARY {
-        return 0;
+    match k.tag {
+        tags::BINARY..tags::UNARY => 2,
+        tags::UNARY..tags::PARTS => 1,
+        tags::PARTS..tags::PARTS_END => trees_of_part(k.tag, k.a),
+        tags::NODES..tags::NODES_END => trees_of_node(k),
+        _ => 0,
     }
-    if k.tag < tags::UNARY {
-        return 2;
-    }
-    if k.tag < tags::PARTS {
-        return 1;
-    }
-    if k.tag < tags::PARTS_END {
-        return trees_of_part(k.tag, k.a);
-    }
-    if k.tag < tags::NODES {
-        return 0;
-    }
-    if k.tag < tags::NOTHING {
-        return trees_to_56(k);
-    }
-    if k.tag < tags::NODES_END {
-        return trees_from_57(k);
-    }
-    0
 }
 
-// 40 Label, 41 Item, 42 Key, 43 Target, 44 Agg, 45 Row.
 fn trees_of_part(tag: u32, a: usize) -> usize
     requires { (40 ≤ tag) × (tag < 46) }
     ensures { result ≡ get_or (part_trees a) (tag - 40) 0 }
@@ -51,30 +35,18 @@ fn trees_of_part(tag: u32, a: usize) -> usize
     }
 }
 
-// 50 Aggregate, 51 Filter, 52 HashJoin, 53 IndexLookup, 54 KeyLookup, 55 Limit, 56 NestedLoopJoin.
-fn trees_to_56(k: layout::Cell) -> usize
-    requires { ((50 ≤ k.tag) × (k.tag < 57)) × ((k.a < 4294967296) × (k.b < 4294967296)) }
+fn trees_of_node(k: layout::Cell) -> usize
+    requires { ((50 ≤ k.tag) × (k.tag < 64)) × ((k.a < 4294967296) × (k.b < 4294967296)) }
     ensures { result ≡ get_or (node_trees (as_cell k)) (k.tag - 50) 0 }
 {
-    let tag = k.tag;
-    match tag {
+    match k.tag {
         tags::AGGREGATE => 1 + k.a + k.b,
         tags::FILTER => 2,
         tags::HASH_JOIN => 2,
         tags::INDEX_LOOKUP => k.c / 65536,
         tags::KEY_LOOKUP => k.c,
         tags::LIMIT => 1,
-        _ => 2 + k.flag % 2,
-    }
-}
-
-// 57 Nothing, 58 Offset, 59 Order, 60 Projection, 61 Remap, 62 Scan, 63 Values.
-fn trees_from_57(k: layout::Cell) -> usize
-    requires { ((57 ≤ k.tag) × (k.tag < 64)) × (k.a < 4294967296) }
-    ensures { result ≡ get_or (node_trees (as_cell k)) (k.tag - 50) 0 }
-{
-    let tag = k.tag;
-    match tag {
+        tags::NESTED_LOOP_JOIN => 2 + k.flag % 2,
         tags::NOTHING => k.a,
         tags::OFFSET => 1,
         tags::ORDER => 1 + k.a,
@@ -91,17 +63,15 @@ fn start_of(x: &[u32], at: usize, k: layout::Cell) -> usize
     requires { Last x.now at k }
     ensures { result ≡ trees_start x.now (trees (as_cell k)) at }
 {
-    if k.tag < tags::BINARY {
-        return at;
+    match k.tag {
+        0..tags::BINARY => at,
+        tags::BINARY..tags::UNARY => {
+            let mid = cells::start(x, at);
+            cells::start(x, mid)
+        }
+        tags::UNARY..tags::PARTS => cells::start(x, at),
+        _ => nodes::trees_start(x, trees_of(k), at),
     }
-    if k.tag < tags::UNARY {
-        let mid = cells::start(x, at);
-        return cells::start(x, mid);
-    }
-    if k.tag < tags::PARTS {
-        return cells::start(x, at);
-    }
-    nodes::trees_start(x, trees_of(k), at)
 }
 
 // The cell k over the trees that it asks for, which are the last ones before `at`.
@@ -130,14 +100,12 @@ pub fn decode(s: &[u8], x: &mut [u32]) -> usize
     let count = parts.cells.count;
     let first = parts.cells.at;
     let mut at: usize = 0;
-    let mut i: usize = 0;
-    while i < count {
+    for i in 0..count {
         let k = layout::cell_from(s, first + i * 16);
         at = put_over(x, at, k);
         if x.len() < at {
             return cells::FULL;
         }
-        i += 1;
     }
     at
 }

@@ -5,7 +5,7 @@ use mathlib.Core.Logic.{⊎_elim}
 use mathlib.Core.Path.{◌≡◌, refl, sym, ap, ◌∙◌, subst}
 use mathlib.Core.List.{List, [], ◌∷◌, ◌++◌, append_assoc}
 use lib.ListN.{length, take, drop, set, replicate, length-append, length-drop, length-replicate, take-append-drop}
-use lib.Seq.{take-paste, length-paste, take-take, take_at, length-take-le, take_all, drop_at, drop-drop, take-set-lt, set_at}
+use lib.Seq.{take-paste, length-paste, take-take, take_at, length-take-le, drop_at, drop-drop, take-set-lt, set_at}
 use lib.Dec.{leb}
 use borrow.Author.Tests.{le-leb, lt-leb}
 use Rattle.sql.specs.Plan.{Node, node_size}
@@ -82,10 +82,6 @@ module _ {Kept : Node → Node → Type 0} {x : List ℕ} {t lo tail : ℕ} (g :
 
 -- ---- replace
 
--- what a copy to the first words of d leaves
-abbrev Copied : (d w : List ℕ) → ℕ → List ℕ → Type 0
-Copied d w n d' = Wrote d 0 w n d' × (0 + length w ≤ length d → n ≤ length d)
-
 module _ (x : List ℕ) {y : List ℕ} {n t from tail : ℕ} (inside : t ≤ length x) where
   -- what was written doesn't fit into the scratch
   pub replace_long : length y < n → Replaces x y n t from tail n x
@@ -98,17 +94,16 @@ module _ (x : List ℕ) {y : List ℕ} {n t from tail : ℕ} (inside : t ≤ len
       record { is = λ i. absurd (omega arith); room = λ s i. absurd (omega (arith, length-append w post, wrote_up f (omega arith))) }
 
   -- as many words as before, q of them: d' is what came of the words from `from` up to t − tail
-  pub replace_same : {m q : ℕ} {d' : List ℕ} → n ≤ length y → n ≡ q → q ≡ t - tail - from → Copied (take q (drop from x)) (take n y) m d'
-      → length d' ≡ length (take q (drop from x)) → Replaces x y n t from tail t (take from x ++ (d' ++ drop q (drop from x)))
-  replace_same {m} {q} {d'} h k k' c j pre old post e a b y₀ w l₀ l f =
+  pub replace_same : {q : ℕ} {d' : List ℕ} → n ≤ length y → n ≡ q → q ≡ t - tail - from → d' ≡ take n y
+      → Replaces x y n t from tail t (take from x ++ (d' ++ drop q (drop from x)))
+  replace_same {q} {d'} h k k' c pre old post e a b y₀ w l₀ l f =
       let s = span x inside pre old post e a b in
       let g = wrote_up f (omega arith) in
       let (g', v) = f.is (omega arith) in
       let o : take q (drop from x) ≡ old = rw k' (part_is (old_part x inside pre old post e a b)) in
       let lo = ap length o in
       let ly = length-take-le n y h in
-      let (c₀, c₁) = c.0.is (c.1 (omega arith)) in
-      let d : d' ≡ w = sym (take_all m d' (omega arith)) ∙ c₁ ∙ v in
+      let d : d' ≡ w = c ∙ v in
       let back : drop q (drop from x) ≡ post ++ drop t x = behind_is x inside pre old post e a b q (omega arith) in
       let front = pre ++ (w ++ post) in
       let lf = length-append pre (w ++ post) in
@@ -123,10 +118,9 @@ new_count from n tail = (omega arith, omega arith)
 
 -- not as many as before: x₁ is x after the words behind were moved, so that there are as many words as take their place, whatever they are
 module _ (x : List ℕ) {y : List ℕ} {n t from tail : ℕ} (inside : t ≤ length x) where
-  pub replace_moved : {m : ℕ} {x₁ d' : List ℕ} → from + tail ≤ t → n ≤ length y → n ≤ length x - from - tail → x₁ ≡ moved x (t - tail) t (from + n)
-      → Copied (take (from + n - from) (drop from x₁)) (take n y) m d' → length d' ≡ length (take (from + n - from) (drop from x₁))
-      → Replaces x y n t from tail (from + n + tail) (take from x₁ ++ (d' ++ drop (from + n - from) (drop from x₁)))
-  replace_moved {x₁ = x₁} h k z e₁ c j pre old post e a b y₀ w l₀ l f =
+  pub replace_moved : {x₁ d' : List ℕ} → from + tail ≤ t → n ≤ length y → n ≤ length x - from - tail → x₁ ≡ moved x (t - tail) t (from + n)
+      → d' ≡ take n y → Replaces x y n t from tail (from + n + tail) (take from x₁ ++ (d' ++ drop (from + n - from) (drop from x₁)))
+  replace_moved {x₁ = x₁} h k z e₁ c pre old post e a b y₀ w l₀ l f =
       let to = from + n in
       let fits : to + tail ≤ length x = omega arith in
       let q = t - (t - tail) in
@@ -145,7 +139,7 @@ module _ (x : List ℕ) {y : List ℕ} {n t from tail : ℕ} (inside : t ≤ len
       ∙ append_assoc pre some post in
       let long : length x₁ ≡ length x = ap length e₁ ∙ length-paste x to behind q (omega arith) (omega arith) in
       let (i₁, i₂) = new_count from n tail in
-      replace_same x₁ (rw long fits) k i₁ i₂ c j pre some post whole a b y₀ w l₀ (l ∙ sym long) f
+      replace_same x₁ (rw long fits) k i₁ i₂ c pre some post whole a b y₀ w l₀ (l ∙ sym long) f
 
 -- Some words were written into the first n words of the scratch, whatever they are.
 pub record Some (y : List ℕ) (n : ℕ) : Type 0 where

@@ -1,3 +1,2 @@
-pub mod Moves
 pub mod Edits
 pub mod Sources

@@ -2,25 +2,24 @@
 use Prim.Native.Nat.{ℕ, ◌+◌, ◌-◌, ◌*◌, ◌≤◌, ◌<◌}
 use native.Mathlib.Omega.{arith}
 use mathlib.Core.Bool.{Bool}
-use mathlib.Core.Path.{◌≡◌, refl, sym, ap, ◌∙◌, subst}
-use mathlib.Core.List.{List, [], ◌∷◌, ◌++◌, append_assoc}
+use mathlib.Core.Path.{◌≡◌, refl, sym, ap, ◌∙◌}
+use mathlib.Core.List.{List, ◌++◌, append_assoc}
 use lib.ListN.{length, take, length-append}
 use lib.Seq.{length-take-le}
 use Rattle.sql.specs.Schema.{Schema}
 use Rattle.sql.specs.Plan.{Over, Join, Node, leaf, over, join, over_size, join_size, node_size}
-use Rattle.sql.specs.Answer.{Answer, done, refused, ◌>>=◌}
+use Rattle.sql.specs.Answer.{Answer, done, ◌>>=◌}
 use Rattle.sql.specs.Room.{each_source}
 use Rattle.cells.specs.Room.{Short}
 use Rattle.cells.specs.declared.Cell.{Cell}
 use Rattle.cells.specs.Cells.{cell_words, words, sized, start_at, Sized}
-use Rattle.words.specs.Words.{cell, over_own, over_cell, join_own, join_cell, node_words, source_words, source_count}
-use Rattle.words.specs.Place.{NodeHere}
+use Rattle.words.specs.Words.{cell, over_own, over_cell, join_own, join_cell, node_words, source_count}
 use Rattle.words.proofs.Nodes.{node_long, join_left, sources_sized}
 use Rattle.words.proofs.Tags.{by_leaf, by_over, by_join}
 use Rattle.words.proofs.Sizes.{over_long, join_long, words_long}
 use Rattle.nodes.specs.Own.{OwnStart, SourceCount}
 use Rattle.edit.specs.Edit.{Holds, Shares, Held, Left, Edit, Inherited, Reseals}
-use Rattle.edit.proofs.Edits.{total, holds_here, shares_next, left_done, left_stop, left_go, left_with}
+use Rattle.edit.proofs.Edits.{total, holds_here, left_done, left_stop, left_go, left_with}
 
 -- a node without sources
 pub no_sources : {Kept : Node → Node → Type 0} → Inherited Kept → (schema : Schema) (F : ℕ → ℕ → Node → Answer Node) {x : List ℕ} {t lo tail g : ℕ} → SourceCount x lo (t - tail) g → g ≡ 0

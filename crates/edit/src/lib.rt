@@ -2,46 +2,8 @@
 #![tactic(auto)]
 
 ghost use Rattle.std.specs.Prelude.{◌≡◌, ◌+◌, ◌-◌, ◌≤◌, length};
-ghost use Rattle.edit.specs.Edit.{moved, Replaces, Reseals, ReplacesOwn};
+ghost use Rattle.edit.specs.Edit.{Replaces, Reseals, ReplacesOwn};
 ghost use Rattle.cells.specs.Cells.{cell_words};
-
-// The words of x from `end` up to t move up, to stand from word `to` on: the last one first, so that none is overwritten before it is moved.
-fn move_up(x: &mut [u32], end: usize, t: usize, to: usize)
-    requires end_le_t { (end ≤ t) × (t ≤ length x.old) }
-    requires end_le_to { (end ≤ to) × (to + (t - end) ≤ length x.old) }
-    ensures { x.new ≡ moved x.old end t to }
-{
-    let mut i = t - end;
-    while 0 < i {
-        i -= 1;
-        x[to + i] = x[end + i];
-    }
-}
-
-// The words of x from `end` up to t move down, to stand from word `to` on: the first one first.
-fn move_down(x: &mut [u32], end: usize, t: usize, to: usize)
-    requires { (to ≤ end) × ((end ≤ t) × (t ≤ length x.old)) }
-    ensures { x.new ≡ moved x.old end t to }
-{
-    let mut i = 0;
-    while i < t - end {
-        x[to + i] = x[end + i];
-        i += 1;
-    }
-}
-
-// The words of x from `end` up to t move, to stand from word `to` on.
-fn move_words(x: &mut [u32], end: usize, t: usize, to: usize)
-    requires end_le_t { (end ≤ t) × (t ≤ length x.old) }
-    requires end_in_bounds { to + (t - end) ≤ length x.old }
-    ensures { x.new ≡ moved x.old end t to }
-{
-    if end < to {
-        move_up(x, end, t, to);
-        return;
-    }
-    move_down(x, end, t, to);
-}
 
 // The first n words of the scratch y take the place of the words of x from `from` up to t - tail. Where they are as many as those were, the words behind
 // them stay where they are; otherwise these are moved within x, once.
@@ -54,15 +16,15 @@ fn replace(x: &mut [u32], y: &mut [u32], n: usize, t: usize, from: usize, tail: 
     }
     let end = t - tail;
     if n == end - from {
-        cells::copy_all(&y[..n], &mut x[from..end], 0);
+        x[from..end].copy_from_slice(&y[..n]);
         return t;
     }
     if x.len() - from - tail < n {
         return cells::FULL;
     }
     let to = from + n;
-    move_words(x, end, t, to);
-    cells::copy_all(&y[..n], &mut x[from..to], 0);
+    x.copy_within(end..t, to);
+    x[from..to].copy_from_slice(&y[..n]);
     to + tail
 }
 

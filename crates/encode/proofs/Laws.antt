@@ -1,16 +1,15 @@
 -- Laws for the functions of the crate: the loops over bytes and over cells, and the whole sheet.
 -- Assumes nothing.
-use Prim.Native.Nat.{ℕ, suc, ◌+◌, ◌-◌, ◌*◌, ◌/◌, ◌≤◌, ◌<◌}
+use Prim.Native.Nat.{ℕ, ◌+◌, ◌-◌, ◌*◌, ◌/◌, ◌≤◌, ◌<◌}
 use native.Mathlib.Omega.{arith}
 use native.Mathlib.Nat.{mul-div_cancel_left}
-use native.Mathlib.Numerals.{add-one}
 use mathlib.Core.Path.{◌≡◌, refl, sym, ap, ◌∙◌, subst}
 use mathlib.Core.Bool.{Bool, true, false, cond}
 use lib.Dec.{eqb}
 use mathlib.Core.List.{List, [], ◌∷◌, ◌++◌, append_assoc, append-nil}
-use lib.ListN.{length, take, drop, get_or, set, length-append, length-drop, take-append-drop}
-use lib.Seq.{length-take-le, get_or-take, get_or-drop, drop-drop, paste, paste-zero, paste-suc}
-use Rattle.sql.specs.Plan.{Node, node_size}
+use lib.ListN.{length, take, drop, get_or, length-append, length-drop, take-append-drop}
+use lib.Seq.{length-take-le, get_or-take, get_or-drop, drop-drop}
+use Rattle.sql.specs.Plan.{Node}
 use Rattle.sheet.specs.Bytes.{bytes}
 use Rattle.sheet.specs.Parts.{edition, table_count, tables_at, columns_at, cells_at}
 use Rattle.sheet.specs.Cell as Sheet
@@ -30,24 +29,9 @@ use Rattle.cells.proofs.Laws.{part_in, part_is, wrote_up}
 use Rattle.words.specs.Words.{node_words}
 use Rattle.words.specs.Place.{NodeHere}
 use Rattle.words.proofs.Sizes.{words_long}
-use Rattle.encode.specs.Encode.{written, as_cell, cells_in, Small, CellsAt, trailer_of, Lengths, Encodable, Encodes}
+use Rattle.encode.specs.Encode.{written, as_cell, cells_in, Small, CellsAt, trailer_at, Lengths, Encodable, Encodes}
 use Rattle.encode.proofs.Written.{written_none, chain, length_bytes}
 use Rattle.encode.proofs.Says.{node_cells, node_small}
-
--- ---- bytes copied
-
-pub copy_start : (d s : List ℕ) → d ≡ paste d 0 s 0
-copy_start d s = paste-zero d 0 s
-
-pub copy_on : (d₀ s d : List ℕ) (i : ℕ) → i < length d₀ → i < length s → d ≡ paste d₀ 0 s i → set d i (get_or s i 0) ≡ paste d₀ 0 s (i + 1)
-copy_on d₀ s d i h j e =
-    let f : 0 + i ≡ i = omega arith in
-    rw (add-one i) (ap (λ (l : List ℕ). set l i (get_or s i 0)) e ∙ ap (λ (n : ℕ). set (paste d₀ 0 s i) n (get_or s i 0)) (sym f) ∙ paste-suc d₀ 0 s i 0 (omega arith) j)
-
-pub copy_done : (d₀ s d : List ℕ) (i n : ℕ) → n ≤ length s → i ≡ n → d ≡ paste d₀ 0 s i → d ≡ written d₀ 0 (take n s)
-copy_done d₀ s d i n h f e =
-    let g : 0 + i ≡ 0 + length (take n s) = omega (arith, length-take-le n s h) in
-    e ∙ ap (λ (m : ℕ). take i s ++ drop m d₀) g ∙ ap (λ (m : ℕ). take m s ++ drop (0 + length (take n s)) d₀) f
 
 -- ---- cells
 
@@ -174,7 +158,7 @@ module _ (s : List ℕ) {p : Parts} (l : Laid s p) where
   start_long : length (take (cells_at s) s) ≡ cells_at s
   start_long = length-take-le (cells_at s) s (omega (arith, l.cells_end, cells_start l))
 
-  trailer_is : (total : ℕ) → trailer_of p (edition s) total ≡ trailer s total
+  trailer_is : (total : ℕ) → trailer_at p.tables.at p.columns.at p.cells.at (edition s) total ≡ trailer s total
   unfolding trailer
   trailer_is total = rw (text_is l, columns_start l, cells_start l)
 
@@ -212,8 +196,11 @@ module _ (s : List ℕ) {p : Parts} (l : Laid s p) where
       omega (arith, write_long m)
 
   module _ {x : List ℕ} {n : ℕ} {d : List ℕ} (e : Encodable s x n d) where
-    pub room_start : (p.cells.at ≤ length s) × (p.cells.at ≤ length d)
-    room_start = (omega (arith, l.cells_end), omega (arith, e.room, write_long e.node))
+    pub room_start : 0 + length (take p.cells.at s) ≤ length d
+    room_start = omega (arith, length-take-le p.cells.at s (omega (arith, l.cells_end)), e.room, write_long e.node)
+
+    pub first_is : {first : ℕ} → first ≡ 0 + length (take p.cells.at s) → first ≡ p.cells.at
+    first_is f = omega (arith, f, length-take-le p.cells.at s (omega (arith, l.cells_end)))
 
     pub room_cells : {d₁ : List ℕ} {first : ℕ} → length d₁ ≡ length d → first ≡ p.cells.at → CellsAt x n d₁ first
     room_cells q f =
@@ -230,7 +217,7 @@ module _ (s : List ℕ) {p : Parts} (l : Laid s p) where
 
     pub encodes : {d₁ d₂ d₃ : List ℕ} {first last said r : ℕ} → (first ≡ p.cells.at) × (d₁ ≡ written d 0 (take p.cells.at s))
         → (last ≡ first + 16 * length (cells_in (take n x))) × (d₂ ≡ written d₁ first (cells_bytes (cells_in (take n x))))
-        → said ≡ edition s → (r ≡ last + 20) × (d₃ ≡ written d₂ last (trailer_of p said (last + 20)))
+        → said ≡ edition s → (r ≡ last + 20) × (d₃ ≡ written d₂ last (trailer_at p.tables.at p.columns.at p.cells.at said (last + 20)))
         → Encodes s x n d r d₃
     encodes {d₁} {d₂} {d₃} {first} {last} {said} {r} (f, p₁) (g, p₂) o (h, p₃) m u =
         let ks = cells m in
@@ -239,7 +226,7 @@ module _ (s : List ℕ) {p : Parts} (l : Laid s p) where
         let total : last + 20 ≡ cells_at s + 16 * length ks + 20 = omega (arith, cells_start l, ap length c) in
         let q₁ : d₁ ≡ written d 0 (take (cells_at s) s) = p₁ ∙ ap (written d 0) start in
         let q₂ : d₂ ≡ written d₁ first (cells_bytes ks) = p₂ ∙ ap (λ (js : List Sheet.Cell). written d₁ first (cells_bytes js)) c in
-        let q₃ : d₃ ≡ written d₂ last (trailer s (cells_at s + 16 * length ks + 20)) = p₃ ∙ ap (λ (k : ℕ). written d₂ last (trailer_of p k (last + 20))) o ∙ ap (λ (k : ℕ). written d₂ last (trailer_of p (edition s) k)) total ∙ ap (written d₂ last) (trailer_is (cells_at s + 16 * length ks + 20)) in
+        let q₃ : d₃ ≡ written d₂ last (trailer s (cells_at s + 16 * length ks + 20)) = p₃ ∙ ap (λ (k : ℕ). written d₂ last (trailer_at p.tables.at p.columns.at p.cells.at k (last + 20))) o ∙ ap (λ (k : ℕ). written d₂ last (trailer_at p.tables.at p.columns.at p.cells.at (edition s) k)) total ∙ ap (written d₂ last) (trailer_is (cells_at s + 16 * length ks + 20)) in
         let e₁ : first ≡ 0 + length (take (cells_at s) s) = omega (arith, start_long, cells_start l) in
         let x₂ = chain d 0 (take (cells_at s) s) (cells_bytes ks) (omega arith) e₁ q₁ q₂ in
         let e₂ : last ≡ 0 + length (take (cells_at s) s ++ cells_bytes ks) = omega (arith, length-append (take (cells_at s) s) (cells_bytes ks), length_cells_bytes ks, ap length c) in

@@ -1,18 +1,18 @@
 -- Laws on what is written into a list, one piece after the other.
 -- Assumes nothing.
-use Prim.Native.Nat.{ℕ, suc, ◌+◌, ◌*◌, ◌/◌, ◌%◌, ◌≤◌, ◌<◌}
+use Prim.Native.Nat.{ℕ, ◌+◌, ◌*◌, ◌/◌, ◌%◌, ◌≤◌, ◌<◌}
 use native.Mathlib.Omega.{arith}
 use native.Mathlib.Nat.{mod-lt, mod-add-div}
 use mathlib.Core.Path.{◌≡◌, refl, sym, ap, ◌∙◌}
-use mathlib.Core.List.{List, [], ◌∷◌, ◌++◌, append_assoc, append-nil}
-use lib.ListN.{length, take, drop, set, length-append, take-append-drop}
-use lib.Seq.{length-take-le, take_at, drop-append-add, drop-drop, sets-eq}
+use mathlib.Core.List.{List, [], ◌∷◌, ◌++◌, append_assoc}
+use lib.ListN.{length, take, drop, length-append, take-append-drop}
+use lib.Seq.{length-take-le, take_at, drop-append-add, drop-drop}
 use Rattle.sheet.specs.Bytes.{bytes}
 use Rattle.sheet.specs.Write.{cell_bytes}
 use Rattle.sheet_laws.specs.Bytes.{bytes_of_digits}
-use Rattle.layout.specs.declared.Parts.{Parts}
+use Rattle.std.specs.Int.{w64, to_le_bytes}
 use Rattle.cells.specs.declared.Cell.{Cell}
-use Rattle.encode.specs.Encode.{written, as_cell, Small, trailer_of}
+use Rattle.encode.specs.Encode.{written, as_cell, Small, trailer_at}
 
 pub written_none : (d : List ℕ) (at : ℕ) → d ≡ written d at []
 written_none d at =
@@ -35,18 +35,10 @@ chain d at {m} v w {d₁} {d₂} h e p q =
     ∙ drop-drop (length w) (at + length v) d ∙ ap (λ (n : ℕ). drop n d) end in
     q ∙ ap (λ (l : List ℕ). l ++ (w ++ drop (m + length w) d₁)) low ∙ ap (λ (l : List ℕ). front ++ (w ++ l)) high ∙ simp append_assoc
 
-put4 : (d : List ℕ) (at a b c e : ℕ) → at + 4 ≤ length d
-    → set (set (set (set d at a) (at + 1) b) (at + 2) c) (at + 3) e ≡ written d at (a ∷ b ∷ c ∷ e ∷ [])
-put4 d at a b c e h =
-    let e1 : at + 1 ≡ suc at = omega arith in
-    let e2 : at + 2 ≡ suc (suc at) = omega arith in
-    let e3 : at + 3 ≡ suc (suc (suc at)) = omega arith in
-    rw (e1, e2, e3) (sets-eq (a ∷ b ∷ c ∷ e ∷ []) d at h ∙ append_assoc (take at d) (a ∷ b ∷ c ∷ e ∷ []) (drop (at + 4) d))
-
-pub put_bytes : (d : List ℕ) (at w : ℕ) → at + 4 ≤ length d
-    → set (set (set (set d at (w % 256)) (at + 1) (w / 256 % 256)) (at + 2) (w / 65536 % 256)) (at + 3) (w / 16777216 % 256) ≡ written d at (bytes w)
+-- The low half of what the library writes of a number.
+pub low_bytes : (w : ℕ) → take 4 (to_le_bytes w64 w) ≡ bytes w
 unfolding bytes
-put_bytes d at w h = put4 d at (w % 256) (w / 256 % 256) (w / 65536 % 256) (w / 16777216 % 256) h
+low_bytes w = refl
 
 pub length_bytes : (w : ℕ) → length (bytes w) ≡ 4
 unfolding bytes
@@ -88,21 +80,21 @@ cell_put d at k {a = a} {b = b} {c = c} room small (ea, p) (eb, q) (ec, s) (er, 
     ∙ ap (λ (l : List ℕ). k.tag ∷ k.flag ∷ k.origin % 256 ∷ k.origin / 256 ∷ l) (append_assoc (bytes k.a) (bytes k.b) (bytes k.c)) ∙ sym (cell_is k) in
     (omega arith, x3 ∙ ap (written d at) e)
 
-pub trailer_put : (d : List ℕ) (at : ℕ) (p : Parts) (edition : ℕ) {a b c e r : ℕ} {d₁ d₂ d₃ d₄ d₅ : List ℕ} → at + 20 ≤ length d
-    → (a ≡ at + 4) × (d₁ ≡ written d at (bytes p.tables.at))
-    → (b ≡ a + 4) × (d₂ ≡ written d₁ a (bytes p.columns.at))
-    → (c ≡ b + 4) × (d₃ ≡ written d₂ b (bytes p.cells.at))
+pub trailer_put : (d : List ℕ) (at tables columns cells edition : ℕ) {a b c e r : ℕ} {d₁ d₂ d₃ d₄ d₅ : List ℕ} → at + 20 ≤ length d
+    → (a ≡ at + 4) × (d₁ ≡ written d at (bytes tables))
+    → (b ≡ a + 4) × (d₂ ≡ written d₁ a (bytes columns))
+    → (c ≡ b + 4) × (d₃ ≡ written d₂ b (bytes cells))
     → (e ≡ c + 4) × (d₄ ≡ written d₃ c (bytes edition))
     → (r ≡ e + 4) × (d₅ ≡ written d₄ e (bytes (e + 4)))
-    → (r ≡ at + 20) × (d₅ ≡ written d at (trailer_of p edition (at + 20)))
-trailer_put d at p edition {a = a} {b = b} {c = c} {e = e} room (ea, x) (eb, y) (ec, z) (ee, s) (er, t) =
-    let w = bytes p.tables.at in
-    let v = bytes p.columns.at in
-    let u = bytes p.cells.at in
-    let (l1, x1) = two d at a w 4 p.columns.at (omega arith) (length_bytes p.tables.at) ea x y in
-    let (l2, x2) = two d at b (w ++ v) 8 p.cells.at (omega arith) l1 (omega arith) x1 z in
+    → (r ≡ at + 20) × (d₅ ≡ written d at (trailer_at tables columns cells edition (at + 20)))
+trailer_put d at tables columns cells edition {a = a} {b = b} {c = c} {e = e} room (ea, x) (eb, y) (ec, z) (ee, s) (er, t) =
+    let w = bytes tables in
+    let v = bytes columns in
+    let u = bytes cells in
+    let (l1, x1) = two d at a w 4 columns (omega arith) (length_bytes tables) ea x y in
+    let (l2, x2) = two d at b (w ++ v) 8 cells (omega arith) l1 (omega arith) x1 z in
     let (l3, x3) = two d at c ((w ++ v) ++ u) 12 edition (omega arith) l2 (omega arith) x2 s in
     let (l4, x4) = two d at e (((w ++ v) ++ u) ++ bytes edition) 16 (e + 4) (omega arith) l3 (omega arith) x3 t in
     let total : e + 4 ≡ at + 20 = omega arith in
-    let f : (((w ++ v) ++ u) ++ bytes edition) ++ bytes (e + 4) ≡ trailer_of p edition (at + 20) = rw total (simp append_assoc) in
+    let f : (((w ++ v) ++ u) ++ bytes edition) ++ bytes (e + 4) ≡ trailer_at tables columns cells edition (at + 20) = rw total (simp append_assoc) in
     (omega arith, x4 ∙ ap (written d at) f)

@@ -5,10 +5,9 @@ use Rattle.sheet.specs.Bytes.{bytes}
 use Rattle.sheet.specs.Parts.{table_count}
 use Rattle.sheet.specs.Cell as Sheet
 use Rattle.sheet.specs.Check.{text}
-use Rattle.sheet.specs.Write.{cells_bytes, write}
+use Rattle.sheet.specs.Write.{write}
 use Rattle.sheet_laws.specs.Fits.{All, Fits, OriginsBelow}
 use Rattle.layout.specs.Layout.{Whole}
-use Rattle.layout.specs.declared.Parts.{Parts}
 use Rattle.cells.specs.declared.Cell.{Cell}
 use Rattle.words.specs.Words.{node_words}
 use Rattle.words.specs.Place.{NodeHere}
@@ -46,9 +45,9 @@ pub record CellsAt (x : List ℕ) (n : ℕ) (d : List ℕ) (at : ℕ) : Type 0 w
   pub small : All Small (cells_in (take n x))
   pub room : at + 16 * length (cells_in (take n x)) ≤ length d
 
--- the trailer of a sheet of this edition and so many bytes with these parts
-abbrev pub trailer_of : Parts → (edition total : ℕ) → List ℕ
-trailer_of p edition total = bytes p.tables.at ++ (bytes p.columns.at ++ (bytes p.cells.at ++ (bytes edition ++ bytes total)))
+-- the trailer of a sheet of this edition and so many bytes, whose parts start at these
+abbrev pub trailer_at : (tables columns cells edition total : ℕ) → List ℕ
+trailer_at tables columns cells edition total = bytes tables ++ (bytes columns ++ (bytes cells ++ (bytes edition ++ bytes total)))
 
 -- ---- contracts
 

@@ -6,18 +6,23 @@ ghost use Rattle.sheet.specs.Bytes.{bytes};
 ghost use Rattle.sheet.specs.Write.{cell_bytes, cells_bytes};
 ghost use Rattle.layout.specs.Layout.{Whole};
 ghost use Rattle.cells.specs.Room.{most_words};
-ghost use Rattle.encode.specs.Encode.{written, as_cell, cells_in, trailer_of, Small, CellsAt, PlanLong, Lengths, Encodable, Encodes};
+ghost use Rattle.encode.specs.Encode.{written, as_cell, cells_in, trailer_at, Small, CellsAt, PlanLong, Lengths, Encodable, Encodes};
+
+// All bytes of s, from byte `at` of the output on. Where they end is returned.
+pub fn put(out: &mut [u8], at: usize, s: &[u8]) -> usize
+    requires { at + length s.now ≤ length out.old }
+    ensures { (result ≡ at + length s.now) × (out.new ≡ written out.old at s.now) }
+{
+    out[at..at + s.len()].copy_from_slice(s);
+    at + s.len()
+}
 
 // The 4 bytes of a number.
 pub fn put_word(out: &mut [u8], at: usize, w: usize) -> usize
     requires { at + 4 ≤ length out.old }
     ensures { (result ≡ at + 4) × (out.new ≡ written out.old at (bytes w)) }
 {
-    out[at] = (w % 256) as u8;
-    out[at + 1] = (w / 256 % 256) as u8;
-    out[at + 2] = (w / 65536 % 256) as u8;
-    out[at + 3] = (w / 16777216 % 256) as u8;
-    at + 4
+    put(out, at, &w.to_le_bytes()[..4])
 }
 
 // The 16 bytes of a cell: tag, flag and origin are one number.
@@ -41,36 +46,28 @@ fn put_cells(x: &[u32], n: usize, out: &mut [u8], at: usize) -> usize
     ensures { (result ≡ at + 16 * length (cells_in (take n x.now))) × (out.new ≡ written out.old at (cells_bytes (cells_in (take n x.now)))) }
 {
     let mut to = at;
-    let mut i: usize = 0;
-    while i < n {
-        let k = cells::cell_at(x, i + cells::CELL_WORDS);
+    for i in 0..n / cells::CELL_WORDS {
+        let k = cells::cell_at(x, (i + 1) * cells::CELL_WORDS);
         to = put_cell(out, to, k);
-        i += cells::CELL_WORDS;
     }
     to
 }
 
-// The first n bytes of s at the start of out.
-fn put_start(s: &[u8], n: usize, out: &mut [u8]) -> usize
-    requires { (n ≤ length s.now) × (n ≤ length out.old) }
-    ensures { (result ≡ n) × (out.new ≡ written out.old 0 (take n s.now)) }
-{
-    let mut i: usize = 0;
-    while i < n {
-        out[i] = s[i];
-        i += 1;
-    }
-    i
-}
-
-// The trailer of a sheet of this edition that ends with it.
-fn put_trailer(out: &mut [u8], at: usize, p: layout::Parts, edition: usize) -> usize
+// The trailer of a sheet of this edition that ends with it, and whose parts start at these bytes.
+pub fn put_trailer(
+    out: &mut [u8],
+    at: usize,
+    tables: usize,
+    columns: usize,
+    cells: usize,
+    edition: usize,
+) -> usize
     requires { at + 20 ≤ length out.old }
-    ensures { (result ≡ at + 20) × (out.new ≡ written out.old at (trailer_of p edition (at + 20))) }
+    ensures { (result ≡ at + 20) × (out.new ≡ written out.old at (trailer_at tables columns cells edition (at + 20))) }
 {
-    let a = put_word(out, at, p.tables.at);
-    let b = put_word(out, a, p.columns.at);
-    let c = put_word(out, b, p.cells.at);
+    let a = put_word(out, at, tables);
+    let b = put_word(out, a, columns);
+    let c = put_word(out, b, cells);
     let d = put_word(out, c, edition);
     put_word(out, d, d + 4)
 }
@@ -91,8 +88,8 @@ pub fn encode(s: &[u8], x: &[u32], n: usize, out: &mut [u8]) -> usize
     ensures { Encodes s.now x.now n out.old result out.new }
 {
     let p = layout::parts_of(s);
-    let first = put_start(s, p.cells.at, out);
+    let first = put(out, 0, &s[..p.cells.at]);
     let last = put_cells(x, n, out, first);
     let edition = layout::word_at(s, s.len() - 8);
-    put_trailer(out, last, p, edition)
+    put_trailer(out, last, p.tables.at, p.columns.at, p.cells.at, edition)
 }

@@ -9,6 +9,7 @@ use mathlib.Core.List.{List}
 use lib.Dec.{T, eqb}
 use lib.IntN.{ℤ}
 use lib.ListN.{length}
+use mir.Val.{bool_byte}
 use lib.Ieee as Ieee
 use lib.Ieee.{binary64}
 use lib.Ieee.Bits.{to_bits-of_bits, nan_bits_is}
@@ -89,13 +90,10 @@ pub null_cell : (og : ℕ) → of_halves og 1 0 ≡ cell og (constant_cell null)
 unfolding cell
 null_cell og = refl
 
-pub true_cell : (og : ℕ) → of_halves og 2 1 ≡ cell og (constant_cell (boolean true))
+pub boolean_cell : (og : ℕ) (b : Bool) → of_halves og 2 (bool_byte b) ≡ cell og (constant_cell (boolean b))
 unfolding cell
-true_cell og = refl
-
-pub false_cell : (og : ℕ) → of_halves og 2 0 ≡ cell og (constant_cell (boolean false))
-unfolding cell
-false_cell og = refl
+boolean_cell og true = refl
+boolean_cell og false = refl
 
 pub integer_cell : (og : ℕ) (i : ℤ) → of_halves og 3 (integer_bits i) ≡ cell og (constant_cell (datum (integer i)))
 unfolding cell

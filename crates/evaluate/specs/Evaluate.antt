@@ -1,9 +1,9 @@
 -- What the code's constants and operators stand for. A contract speaks of every constant, or operator, that a cell says.
-use Rattle.std.specs.Prelude.{ℕ, ◌<◌, ◌≡◌, List, length}
+use Rattle.std.specs.Prelude.{ℕ, ◌<◌, ◌≡◌, List, length, Result}
 use Rattle.value.specs.Value as Defined
 use Rattle.value.specs.Meaning.{meaning, outcome_of}
 use Rattle.value.specs.declared.Value.{Value}
-use Rattle.value.specs.declared.Result.{Result}
+use Rattle.value.specs.declared.Error.{Error}
 use Rattle.sql.specs.Expression.{Unary, Binary, evaluate_unary, evaluate_binary}
 use Rattle.sheet.specs.Content.{low, high, unary_tag, binary_tag, constant_cell}
 use Rattle.sheet_laws.specs.Fits.{ValueFits}
@@ -37,8 +37,8 @@ pub record BinaryTag (o : ℕ) : Type 0 where
   pub is : binary_tag p ≡ o
 
 -- r is what the operator with tag o gives.
-abbrev pub EvaluatesUnary : ℕ → Value → Result → Type 0
+abbrev pub EvaluatesUnary : ℕ → Value → Result Value Error → Type 0
 EvaluatesUnary o v r = (text : List ℕ) (p : Unary) → unary_tag p ≡ o → outcome_of text r ≡ evaluate_unary p (meaning text v)
 
-abbrev pub EvaluatesBinary : List ℕ → ℕ → Value → Value → Result → Type 0
+abbrev pub EvaluatesBinary : List ℕ → ℕ → Value → Value → Result Value Error → Type 0
 EvaluatesBinary text o v w r = (p : Binary) → binary_tag p ≡ o → outcome_of text r ≡ evaluate_binary p (meaning text v) (meaning text w)

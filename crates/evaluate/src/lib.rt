@@ -9,38 +9,33 @@ ghost use Rattle.words.specs.Words.{cell};
 ghost use Rattle.evaluate.specs.Evaluate.{of_halves, ConstantCell, Reads, UnaryTag, BinaryTag, EvaluatesUnary, EvaluatesBinary};
 
 use cells::Cell;
-use value::{Result, Value};
+use value::{Error, Value};
 
 // The value that a constant's cell says.
 pub fn value_of(k: Cell) -> Value
     requires { ConstantCell k }
     ensures { Reads k result }
 {
-    let t = k.tag;
-    match t {
-        1 => Value::Null,
-        2 => Value::Boolean(k.a == 1),
-        3 => Value::Integer(value::integer_of_bits(joined(k.a, k.b))),
-        4 => Value::Float(value::float_of_bits(joined(k.a, k.b))),
+    match k.tag {
+        tags::NULL => Value::Null,
+        tags::BOOLEAN => Value::Boolean(k.a == 1),
+        tags::INTEGER => Value::Integer(value::integer_of_bits(joined(k.a, k.b))),
+        tags::FLOAT => Value::Float(value::float_of_bits(joined(k.a, k.b))),
         _ => Value::String(k.a),
     }
 }
 
 // The cell of a constant with this value and origin.
+#[tactic(auto, using(crate::proofs::Laws::null_cell, crate::proofs::Laws::boolean_cell, crate::proofs::Laws::integer_cell, crate::proofs::Laws::float_cell, crate::proofs::Laws::string_cell))]
 pub fn cell_of(v: Value, origin: u32) -> Cell
     ensures { (text : List ℕ) → result ≡ cell origin (constant_cell (meaning text v)) }
 {
     match v {
-        Value::Null => constant(1, 0, origin),
-        Value::Boolean(b) => {
-            if b {
-                return constant(2, 1, origin);
-            }
-            constant(2, 0, origin)
-        }
-        Value::Integer(i) => constant(3, value::integer_bits(i), origin),
-        Value::Float(x) => constant(4, value::float_bits(x), origin),
-        Value::String(r) => constant(5, r as u64, origin),
+        Value::Null => constant(tags::NULL, 0, origin),
+        Value::Boolean(b) => constant(tags::BOOLEAN, u64::from(b), origin),
+        Value::Integer(i) => constant(tags::INTEGER, value::integer_bits(i), origin),
+        Value::Float(x) => constant(tags::FLOAT, value::float_bits(x), origin),
+        Value::String(r) => constant(tags::STRING, u64::from(r), origin),
     }
 }
 
@@ -49,7 +44,7 @@ fn joined(low: u32, high: u32) -> u64
     requires { (low < 4294967296) × (high < 4294967296) }
     ensures { result ≡ wide low high }
 {
-    low as u64 + 4294967296 * (high as u64)
+    u64::from(low) + 4294967296 * u64::from(high)
 }
 
 // The cell with this tag, the halves of a number of 64 bits, and this origin.
@@ -67,7 +62,7 @@ fn constant(tag: u32, bits: u64, origin: u32) -> Cell
 }
 
 // The operator with tag o, which has one operand.
-pub fn evaluate_unary(o: u32, v: Value) -> Result
+pub fn evaluate_unary(o: u32, v: Value) -> Result<Value, Error>
     requires { UnaryTag o }
     ensures { EvaluatesUnary o v result }
 {
@@ -82,7 +77,7 @@ pub fn evaluate_unary(o: u32, v: Value) -> Result
 }
 
 // The operator with tag o, which has two operands. Strings refer to bytes of `text`.
-pub fn evaluate_binary(text: &[u8], o: u32, v: Value, w: Value) -> Result
+pub fn evaluate_binary(text: &[u8], o: u32, v: Value, w: Value) -> Result<Value, Error>
     requires { BinaryTag o }
     ensures { EvaluatesBinary text.now o v w result }
 {

@@ -13,12 +13,10 @@ use Rattle.cells.specs.Cells.{cell_words, tag_at, start_at}
 use Rattle.words.specs.Words.{root}
 use Rattle.words.specs.Place.{ExpressionHere}
 use Rattle.words.proofs.Expressions.{tag, by_binary, root_tag, here_in, here_left, here_right}
-use Rattle.column_lookup.specs.declared.Lookup.{Lookup}
-use Rattle.column_lookup.specs.declared.Lookup.TheVariants as Lookup
-use Rattle.column_lookup.specs.Lookup.{found, LooksUp}
+use Rattle.std.specs.Prelude as code
+use Rattle.std.specs.Prelude.{Some, None}
 use Rattle.conjuncts.proofs.Lists.{ands_and, ands_one}
 use Rattle.first_lookup.specs.declared.FoundLookup.{FoundLookup}
-use Rattle.first_lookup.specs.declared.FoundLookup.TheVariants.{At, None}
 use Rattle.first_lookup.specs.First.{Marks, with_mark, first_here, first_marked, Stands, FindsFirst, by_mark, FindsOne}
 
 -- the first of two lists' lookups, with what remains of both lists
@@ -59,26 +57,26 @@ module _ (schema : Schema) (table : ℕ) (marks : List Bool) (m : Marks schema t
 
 -- ---- of two operands
 
-wider : (s : List ℕ) (lo hi : ℕ) {from to : ℕ} → lo ≤ from → to ≤ hi → (q : FoundLookup) (f : Option Found) → Stands s from to q f → Stands s lo hi q f
-wider s lo hi i j (At a b c) none h = h
-wider s lo hi i j (At a b c) (some f) h = let (l, k) = h.0 in ((omega arith, omega arith), h.1)
+wider : (s : List ℕ) (lo hi : ℕ) {from to : ℕ} → lo ≤ from → to ≤ hi → (q : code.Option FoundLookup) (f : Option Found) → Stands s from to q f → Stands s lo hi q f
+wider s lo hi i j (Some q) none h = h
+wider s lo hi i j (Some q) (some f) h = let (l, k) = h.0 in ((omega arith, omega arith), h.1)
 wider s lo hi i j None none h = h
 wider s lo hi i j None (some f) h = h
 
-earlier : (s : List ℕ) (lo hi a b c : ℕ) (xs ys : List Expression) (f g : Option Found) → Stands s lo hi (At a b c) f → Stands s lo hi (At a b c) (after xs ys f g)
-earlier s lo hi a b c xs ys none g h = absurd h
-earlier s lo hi a b c xs ys (some f) g h = h
+earlier : (s : List ℕ) (lo hi : ℕ) (q : FoundLookup) (xs ys : List Expression) (f g : Option Found) → Stands s lo hi (Some q) f → Stands s lo hi (Some q) (after xs ys f g)
+earlier s lo hi q xs ys none g h = absurd h
+earlier s lo hi q xs ys (some f) g h = h
 
-later : (s : List ℕ) (lo hi mid : ℕ) (q : FoundLookup) (xs ys : List Expression) (f g : Option Found) → Stands s lo mid None f → Stands s lo hi q g → Stands s lo hi q (after xs ys f g)
+later : (s : List ℕ) (lo hi mid : ℕ) (q : code.Option FoundLookup) (xs ys : List Expression) (f g : Option Found) → Stands s lo mid None f → Stands s lo hi q g → Stands s lo hi q (after xs ys f g)
 later s lo hi mid q xs ys (some f) g h k = absurd h
-later s lo hi mid (At a b c) xs ys none none h k = k
-later s lo hi mid (At a b c) xs ys none (some g) h k = k
+later s lo hi mid (Some q) xs ys none none h k = k
+later s lo hi mid (Some q) xs ys none (some g) h k = k
 later s lo hi mid None xs ys none none h k = k
 later s lo hi mid None xs ys none (some g) h k = k
 
 module _ (marks : List Bool) {s : List ℕ} {lo hi : ℕ} where
   module _ {mid : ℕ} (st : mid ≡ start_at s (hi - cell_words)) (h : tag_at s hi ≡ 10) where
-    in_two : (q : FoundLookup)
+    in_two : (q : code.Option FoundLookup)
         → ((l r : Expression) → ExpressionHere s lo mid l → ExpressionHere s mid (hi - cell_words) r → Stands s lo hi q (after (ands l) (ands r) (first_marked marks (ands l)) (first_marked marks (ands r))))
         → FindsFirst marks s lo hi q
     in_two q f e u = by_binary (λ e. ExpressionHere s lo hi e → tag (root e) ≡ 10 → Stands s lo hi q (first_marked marks (ands e)))
@@ -86,22 +84,22 @@ module _ (marks : List Bool) {s : List ℕ} {lo hi : ℕ} where
         (f l r (here_left st og o l r t) (here_right st og o l r t)))
         e (omega (arith, root_tag e u)) (omega (arith, root_tag e u)) u (sym (root_tag e u) ∙ h)
 
-    pub first_earlier : {r : FoundLookup} {a b c : ℕ} → r ≡ At a b c → FindsFirst marks s lo mid r → FindsFirst marks s lo hi (At a b c)
-    first_earlier {r} {a} {b} {c} q f = in_two (At a b c) (λ x y u v.
-        earlier s lo hi a b c (ands x) (ands y) (first_marked marks (ands x)) (first_marked marks (ands y))
-        (wider s lo hi (omega arith) (omega (arith, here_in y v)) (At a b c) (first_marked marks (ands x))
-        (subst (λ (p : FoundLookup). Stands s lo mid p (first_marked marks (ands x))) q (f x u))))
+    pub first_earlier : {r : code.Option FoundLookup} {q : FoundLookup} → r ≡ Some q → FindsFirst marks s lo mid r → FindsFirst marks s lo hi (Some q)
+    first_earlier {r} {q} z f = in_two (Some q) (λ x y u v.
+        earlier s lo hi q (ands x) (ands y) (first_marked marks (ands x)) (first_marked marks (ands y))
+        (wider s lo hi (omega arith) (omega (arith, here_in y v)) (Some q) (first_marked marks (ands x))
+        (subst (λ (p : code.Option FoundLookup). Stands s lo mid p (first_marked marks (ands x))) z (f x u))))
 
-    pub first_later : {r : FoundLookup} (q : FoundLookup) → r ≡ None → FindsFirst marks s lo mid r → FindsFirst marks s mid (hi - cell_words) q → FindsFirst marks s lo hi q
+    pub first_later : {r : code.Option FoundLookup} (q : code.Option FoundLookup) → r ≡ None → FindsFirst marks s lo mid r → FindsFirst marks s mid (hi - cell_words) q → FindsFirst marks s lo hi q
     first_later q z f g = in_two q (λ x y u v.
         later s lo hi mid q (ands x) (ands y) (first_marked marks (ands x)) (first_marked marks (ands y))
-        (subst (λ (p : FoundLookup). Stands s lo mid p (first_marked marks (ands x))) z (f x u))
+        (subst (λ (p : code.Option FoundLookup). Stands s lo mid p (first_marked marks (ands x))) z (f x u))
         (wider s lo hi (omega (arith, here_in x u)) (omega arith) q (first_marked marks (ands y)) (g y v)))
 
   -- ---- of one conjunct
 
   module _ (e : Expression) (u : ExpressionHere s lo hi e) where
-    marked : (c : ℕ) (t : Bool) → Stands s lo hi (cond t (At lo hi c) None) (first_here e [] (cond t (some c) none) none)
+    marked : (c : ℕ) (t : Bool) → Stands s lo hi (cond t (Some (record { start = lo; end = hi; column = c })) None) (first_here e [] (cond t (some c) none) none)
     marked c true = ((omega arith, omega arith), (refl, u))
     marked c false = tt
 
@@ -109,23 +107,7 @@ module _ (marks : List Bool) {s : List ℕ} {lo hi : ℕ} where
     one_stands none = tt
     one_stands (some c) = marked c (get_or marks c false)
 
-  pub first_one : (tag_at s hi ≡ 10 → ⊥) → {r : FoundLookup} → FindsOne marks s lo hi r → FindsFirst marks s lo hi r
+  pub first_one : (tag_at s hi ≡ 10 → ⊥) → {r : code.Option FoundLookup} → FindsOne marks s lo hi r → FindsFirst marks s lo hi r
   first_one h {r} f e u = subst (λ (xs : List Expression). Stands s lo hi r (first_marked marks xs)) (sym (ands_one e (λ z. h (root_tag e u ∙ z))))
-      (subst (λ (q : FoundLookup). Stands s lo hi q (first_here e [] (with_mark marks (is_column_lookup e)) none)) (sym (f e u))
+      (subst (λ (q : code.Option FoundLookup). Stands s lo hi q (first_here e [] (with_mark marks (is_column_lookup e)) none)) (sym (f e u))
       (one_stands e u (is_column_lookup e)))
-
-  -- ---- by the lookup's column
-
-  pub one_none : {r : Lookup} → r ≡ Lookup.None → LooksUp s lo hi r → FindsOne marks s lo hi None
-  one_none q f e u = ap (λ (x : Lookup). by_mark marks lo hi (found x)) (sym q) ∙ ap (by_mark marks lo hi) (f e u)
-
-  module _ {r : Lookup} {c : ℕ} (q : r ≡ Lookup.Column c) (f : LooksUp s lo hi r) {b : Bool} (k : b ≡ get_or marks c false) where
-    one_by : {t : Bool} → b ≡ t → FindsOne marks s lo hi (cond t (At lo hi c) None)
-    one_by z e u = ap (λ (t : Bool). cond t (At lo hi c) None) (sym z ∙ k)
-        ∙ (ap (λ (x : Lookup). by_mark marks lo hi (found x)) (sym q) ∙ ap (by_mark marks lo hi) (f e u))
-
-    pub one_marked : b ≡ true → FindsOne marks s lo hi (At lo hi c)
-    one_marked z = one_by z
-
-    pub one_unmarked : b ≡ false → FindsOne marks s lo hi None
-    one_unmarked z = one_by z

@@ -14,17 +14,15 @@ use Rattle.words.specs.Place.{ExpressionHere, ExpressionAt}
 use Rattle.words.proofs.Expressions.{tag, by_binary, root_tag, here_left, here_right}
 use Rattle.conjuncts.specs.Conjuncts.{GatheredAt, Appends, AppendsEach}
 use Rattle.conjuncts.proofs.Lists.{ands_and, ands_one, shift_none}
-use Rattle.conjuncts.proofs.Appending.{appends_none, appends_then, gathered_more}
+use Rattle.conjuncts.proofs.Appending.{appends_then, gathered_more}
 use Rattle.first_lookup.specs.declared.FoundLookup.{FoundLookup}
-use Rattle.first_lookup.specs.declared.FoundLookup.TheVariants.{At, None}
+use Rattle.std.specs.Prelude as code
+use Rattle.std.specs.Prelude.{Some, None, is_some}
 use Rattle.first_lookup.specs.declared.Rest.{Rest}
 use Rattle.first_lookup.specs.First.{is_marked, with_mark, first_here, first_marked, by_mark, FindsOne, remaining, meets, Left, LeavesOne, Leaves}
 
 no_some : {A B : Type 0} {a : A} → none ≡ some a → B
 no_some h = absurd (let z : ◌≡◌ {A = ℕ} 0 1 = cc in omega arith)
-
-no_place : {B : Type 0} {a b c : ℕ} → None ≡ At a b c → B
-no_place h = absurd (let z : ◌≡◌ {A = ℕ} 0 1 = cc in omega arith)
 
 -- ---- lists
 
@@ -78,6 +76,14 @@ module _ (marks : List Bool) where
 
 -- ---- of two operands, and of one conjunct
 
+some_marked : (marks : List Bool) (lo hi : ℕ) (o : Option ℕ) → is_marked marks o ≡ is_some (by_mark marks lo hi o)
+some_marked marks lo hi none = refl
+some_marked marks lo hi (some i) = test (get_or marks i false) (record { start = lo; end = hi; column = i })
+  where
+    test : (t : Bool) (f : FoundLookup) → t ≡ is_some (cond t (Some f) None)
+    test true f = refl
+    test false f = refl
+
 module _ (new : ℕ) (marks : List Bool) (met : Bool) {s : List ℕ} {lo hi : ℕ} {d : List ℕ} {from at : ℕ} where
   pub leaves_and : {mid : ℕ} → mid ≡ start_at s (hi - cell_words) → tag_at s hi ≡ 10 → {p r : Rest} {d₁ d₂ : List ℕ} → length d₁ ≡ length d
       → Leaves new marks met s lo mid d from at p d₁ → Leaves new marks p.met s mid (hi - cell_words) d₁ from p.at r d₂ → Leaves new marks met s lo hi d from at r d₂
@@ -101,41 +107,24 @@ module _ (new : ℕ) (marks : List Bool) (met : Bool) {s : List ℕ} {lo hi : �
   appended {m} {d'} w e u = subst (λ (x : Expression). Appends new d from at (x ∷ []) m d') (shift_none e) (w e u)
 
   pub met_before : met ≡ true → {m : ℕ} {d' : List ℕ} → AppendsEach new (λ e. shift_column_down 0 e ∷ []) s lo hi d from at m d'
-      → LeavesOne new marks met s lo hi d from at (record { at = m; met = true }) d'
-  met_before z {m} {d'} w e u = subst (λ (i : Bool). Left new d from at (remaining marks i (e ∷ [])) (meets marks i (e ∷ [])) (record { at = m; met = true }) d') (sym z)
+      → LeavesOne new marks met s lo hi d from at (record { at = m; met = met }) d'
+  met_before z {m} {d'} w e u = subst (λ (i : Bool). Left new d from at (remaining marks i (e ∷ [])) (meets marks i (e ∷ [])) (record { at = m; met = i }) d') (sym z)
       (record { appends = appended w e u; meeting = refl })
 
-  module _ (z : met ≡ false) {r : FoundLookup} (f : FindsOne marks s lo hi r) where
-    by_mark_of : {t : Bool} {m : ℕ} {d' : List ℕ} → ((e : Expression) → ExpressionHere s lo hi e → is_marked marks (is_column_lookup e) ≡ t)
+  module _ (z : met ≡ false) {r : code.Option FoundLookup} (f : FindsOne marks s lo hi r) where
+    by_test_of : (t : Bool) → is_some r ≡ t → {m : ℕ} {d' : List ℕ}
         → ((e : Expression) → ExpressionHere s lo hi e → Appends new d from at (cons_if (not t) e []) m d') → LeavesOne new marks met s lo hi d from at (record { at = m; met = t }) d'
-    by_mark_of {t} {m} {d'} g w e u = subst (λ (i : Bool). Left new d from at (remaining marks i (e ∷ [])) (meets marks i (e ∷ [])) (record { at = m; met = t }) d') (sym z)
+    by_test_of t q {m} {d'} w e u =
+        let k : is_marked marks (is_column_lookup e) ≡ t = some_marked marks lo hi (is_column_lookup e) ∙ (ap is_some (sym (f e u)) ∙ q) in
+        subst (λ (i : Bool). Left new d from at (remaining marks i (e ∷ [])) (meets marks i (e ∷ [])) (record { at = m; met = t }) d') (sym z)
         (record {
-          appends = subst (λ (i : Bool). Appends new d from at (cons_if (not i) e []) m d') (sym (g e u)) (w e u);
-          meeting = sym (g e u);
+          appends = subst (λ (i : Bool). Appends new d from at (cons_if (not i) e []) m d') (sym k) (w e u);
+          meeting = sym k;
         })
 
-    pub met_here : {a b c : ℕ} → r ≡ At a b c → LeavesOne new marks met s lo hi d from at (record { at = at; met = true }) d
-    met_here {a} {b} {c} q = by_mark_of (λ e u. marked (is_column_lookup e) (sym (f e u) ∙ q)) (λ e u. appends_none new)
-      where
-        test : (i : ℕ) (t : Bool) → cond t (At lo hi i) None ≡ At a b c → t ≡ true
-        test i true k = refl
-        test i false k = no_place k
-
-        marked : (o : Option ℕ) → by_mark marks lo hi o ≡ At a b c → is_marked marks o ≡ true
-        marked none k = no_place k
-        marked (some i) k = test i (get_or marks i false) k
-
-    pub not_met : r ≡ None → {m : ℕ} {d' : List ℕ} → AppendsEach new (λ e. shift_column_down 0 e ∷ []) s lo hi d from at m d'
-        → LeavesOne new marks met s lo hi d from at (record { at = m; met = false }) d'
-    not_met q w = by_mark_of (λ e u. unmarked (is_column_lookup e) (sym (f e u) ∙ q)) (appended w)
-      where
-        test : (i : ℕ) (t : Bool) → cond t (At lo hi i) None ≡ None → t ≡ false
-        test i true k = no_place (sym k)
-        test i false k = refl
-
-        unmarked : (o : Option ℕ) → by_mark marks lo hi o ≡ None → is_marked marks o ≡ false
-        unmarked none k = refl
-        unmarked (some i) k = test i (get_or marks i false) k
+    pub not_met : is_some r ≡ false → {m : ℕ} {d' : List ℕ} → AppendsEach new (λ e. shift_column_down 0 e ∷ []) s lo hi d from at m d'
+        → LeavesOne new marks met s lo hi d from at (record { at = m; met = met }) d'
+    not_met q {m} {d'} w = subst (λ (i : Bool). LeavesOne new marks met s lo hi d from at (record { at = m; met = i }) d') (sym z) (by_test_of false q (appended w))
 
 -- What the call for the left operand left, as the call for the right one asks for it.
 pub left_gathered : (new : ℕ) (marks : List Bool) (met : Bool) {s : List ℕ} {lo hi : ℕ} {d : List ℕ} {from at : ℕ} {r : Rest} {d₁ : List ℕ} → GatheredAt d from at → length d₁ ≡ length d

@@ -2,7 +2,7 @@
 use Prim.Native.Nat.{ℕ, ◌+◌, ◌*◌, ◌/◌, ◌≤◌, ◌<◌}
 use native.Mathlib.Omega.{arith}
 use borrow.Author.Tests.{eq-eqb, ne_eqb}
-use mathlib.Core.Bool.{Bool, true, false, ◌||◌}
+use mathlib.Core.Bool.{Bool, false, ◌||◌}
 use mathlib.Core.Path.{◌≡◌, sym, ap, ◌∙◌}
 use mathlib.Core.List.{List}
 use lib.Dec.{eqb}
@@ -29,8 +29,8 @@ module _ (key : ℕ) (records : List ℕ) where
           getD_range (λ i. eqb i key || eqb (byte records (i * 16 + 5)) 1) false 0 (length records / 16) c h
           ∙ ap (λ (i : ℕ). eqb i key || eqb (byte records (i * 16 + 5)) 1) e
 
-      pub key_said : c ≡ key → true ≡ get_or (marks_in key records) c false
-      key_said e = sym (said ∙ ap (λ (b : Bool). b || eqb (byte records (c * 16 + 5)) 1) (eq-eqb c key e))
+      pub key_said : c ≡ key → eqb c key ≡ get_or (marks_in key records) c false
+      key_said e = eq-eqb c key e ∙ sym (said ∙ ap (λ (b : Bool). b || eqb (byte records (c * 16 + 5)) 1) (eq-eqb c key e))
 
       pub index_said : (c ≡ key → ⊥) → {r : ℕ} → r ≡ byte records (c * 16 + 5) → eqb r 1 ≡ get_or (marks_in key records) c false
       index_said e {r} f =

@@ -1,5 +1,6 @@
 -- The first conjunct that is a lookup by an index, where it stands, and the conjuncts that remain.
-use Rattle.std.specs.Prelude.{ℕ, ◌+◌, ◌*◌, ◌/◌, ◌≤◌, Bool, false, not, ◌||◌, cond, ◌≡◌, List, [], ◌∷◌, map, eqb, length, get_or}
+use Rattle.std.specs.Prelude as code
+use Rattle.std.specs.Prelude.{ℕ, ◌+◌, ◌*◌, ◌/◌, ◌≤◌, Bool, false, not, ◌||◌, cond, ◌≡◌, List, [], ◌∷◌, map, eqb, length, get_or, Some, None}
 use Rattle.std.proofs.Math.Option.{Option, none, some}
 use Rattle.sql.specs.Schema.{Schema}
 use Rattle.sql.specs.Expression.{Expression, ands, is_column_lookup}
@@ -9,7 +10,6 @@ use Rattle.sheet.specs.Bytes.{byte}
 use Rattle.words.specs.Place.{ExpressionHere}
 use Rattle.conjuncts.specs.Conjuncts.{Appends}
 use Rattle.first_lookup.specs.declared.FoundLookup.{FoundLookup}
-use Rattle.first_lookup.specs.declared.FoundLookup.TheVariants.{At, None}
 use Rattle.first_lookup.specs.declared.Rest.{Rest}
 
 -- Whether a lookup can go by each column that has a record, of 16 bytes: it is the primary key, which is column `key`, or byte 5 of its record says that it has an
@@ -41,22 +41,22 @@ first_marked marks [] = none
 first_marked marks (e ∷ es) = first_here e es (with_mark marks (is_column_lookup e)) (first_marked marks es)
 
 -- An answer says where the conjunct stands in s, between lo and hi, and its column; or that there is none.
-abbrev pub Stands : List ℕ → ℕ → ℕ → FoundLookup → Option Found → Type 0
-Stands s lo hi (At a b c) none = ⊥
-Stands s lo hi (At a b c) (some f) = ((lo ≤ a) × (b ≤ hi)) × ((f.column_number ≡ c) × ExpressionHere s a b f.conjunct)
+abbrev pub Stands : List ℕ → ℕ → ℕ → code.Option FoundLookup → Option Found → Type 0
+Stands s lo hi (Some q) none = ⊥
+Stands s lo hi (Some q) (some f) = ((lo ≤ q.start) × (q.end ≤ hi)) × ((f.column_number ≡ q.column) × ExpressionHere s q.start q.end f.conjunct)
 Stands s lo hi None none = Unit
 Stands s lo hi None (some f) = ⊥
 
 -- the first among the conjuncts of the expression from lo up to hi
-abbrev pub FindsFirst : List Bool → List ℕ → ℕ → ℕ → FoundLookup → Type 0
+abbrev pub FindsFirst : List Bool → List ℕ → ℕ → ℕ → code.Option FoundLookup → Type 0
 FindsFirst marks s lo hi r = (e : Expression) → ExpressionHere s lo hi e → Stands s lo hi r (first_marked marks (ands e))
 
 -- of one conjunct
-abbrev pub by_mark : List Bool → ℕ → ℕ → Option ℕ → FoundLookup
+abbrev pub by_mark : List Bool → ℕ → ℕ → Option ℕ → code.Option FoundLookup
 by_mark marks lo hi none = None
-by_mark marks lo hi (some c) = cond (get_or marks c false) (At lo hi c) None
+by_mark marks lo hi (some c) = cond (get_or marks c false) (Some (record { start = lo; end = hi; column = c })) None
 
-abbrev pub FindsOne : List Bool → List ℕ → ℕ → ℕ → FoundLookup → Type 0
+abbrev pub FindsOne : List Bool → List ℕ → ℕ → ℕ → code.Option FoundLookup → Type 0
 FindsOne marks s lo hi r = (e : Expression) → ExpressionHere s lo hi e → r ≡ by_mark marks lo hi (is_column_lookup e)
 
 -- ---- what remains: the conjuncts but the first lookup of a marked column, or all of them if that was met before

@@ -7,11 +7,14 @@ ghost use Rattle.words.specs.Place.{ExpressionAt};
 ghost use Rattle.conjuncts.specs.Conjuncts.{GatheredAt};
 ghost use Rattle.first_lookup.specs.First.{marks_in, FindsOne, FindsFirst, LeavesOne, Leaves};
 
+use words::Expression;
+
 // Where a conjunct stands, from a word up to another, and the column that it looks up.
 #[derive(Clone, Copy)]
-pub enum FoundLookup {
-    At(usize, usize, u32),
-    None,
+pub struct FoundLookup {
+    pub start: usize,
+    pub end: usize,
+    pub column: u32,
 }
 
 // The words written, and whether the lookup was met.
@@ -28,38 +31,39 @@ fn has_index(key: usize, columns: &[u8], c: usize) -> bool
     if columns.len() / 16 <= c {
         return false;
     }
-    if c == key {
-        return true;
-    }
-    layout::byte_at(columns, c * 16 + 5) == 1
+    c == key || layout::byte_at(columns, c * 16 + 5) == 1
 }
 
 // The conjunct from lo to hi, if it looks up a marked column.
-fn find_one(s: &[u32], lo: usize, hi: usize, key: usize, columns: &[u8]) -> FoundLookup
+fn find_one(s: &[u32], lo: usize, hi: usize, key: usize, columns: &[u8]) -> Option<FoundLookup>
     requires { ExpressionAt s.now lo hi }
     ensures { FindsOne (marks_in key columns.now) s.now lo hi result }
 {
-    let found = column_lookup::is_column_lookup(s, lo, hi);
-    let column_lookup::Lookup::Column(c) = found else {
-        return FoundLookup::None;
-    };
-    if has_index(key, columns, c as usize) {
-        return FoundLookup::At(lo, hi, c);
-    }
-    FoundLookup::None
+    let conjunct = Expression { words: s, lo, hi };
+    let column = column_lookup::is_column_lookup(conjunct)?;
+    has_index(key, columns, column as usize).then_some(FoundLookup {
+        start: lo,
+        end: hi,
+        column,
+    })
 }
 
 // The first conjunct of the expression from lo to hi that looks up a marked column.
-pub fn find_lookup(s: &[u32], lo: usize, hi: usize, key: usize, columns: &[u8]) -> FoundLookup
+pub fn find_lookup(
+    s: &[u32],
+    lo: usize,
+    hi: usize,
+    key: usize,
+    columns: &[u8],
+) -> Option<FoundLookup>
     requires { ExpressionAt s.now lo hi }
     ensures { FindsFirst (marks_in key columns.now) s.now lo hi result }
 {
     if cells::tag_at(s, hi) == tags::AND {
         let end = hi - cells::CELL_WORDS;
         let mid = cells::start(s, end);
-        let earlier = find_lookup(s, lo, mid, key, columns);
-        if let FoundLookup::At(a, b, c) = earlier {
-            return FoundLookup::At(a, b, c);
+        if let Some(earlier) = find_lookup(s, lo, mid, key, columns) {
+            return Some(earlier);
         }
         return find_lookup(s, mid, end, key, columns);
     }
@@ -84,16 +88,11 @@ fn remaining_one(
     requires gathered_at { GatheredAt d.old from at }
     ensures { LeavesOne origin (marks_in key columns.now) met s.now lo hi d.old from at result d.new }
 {
-    if met {
-        let m = conjuncts::append(s, lo, hi, d, from, at, 0, origin);
-        return Rest { at: m, met: true };
-    }
-    let here = find_one(s, lo, hi, key, columns);
-    let FoundLookup::None = here else {
+    if !met && find_one(s, lo, hi, key, columns).is_some() {
         return Rest { at, met: true };
-    };
+    }
     let m = conjuncts::append(s, lo, hi, d, from, at, 0, origin);
-    Rest { at: m, met: false }
+    Rest { at: m, met }
 }
 
 // The conjuncts of the expression from lo to hi but the first that looks up a marked column; all of them if that was met before.

@@ -5,7 +5,7 @@ use borrow.Author.Tests.{ne_eqb}
 use mathlib.Core.Path.{◌≡◌, refl, sym, ap, ◌∙◌}
 use mathlib.Core.Bool.{Bool, true, false, ◌&&◌, ◌||◌}
 use lib.Dec.{eqb}
-use Rattle.value.specs.Value.{Truth, False, Unknown, True, Datum, integer, float, string, Value, truth, datum}
+use Rattle.value.specs.Value.{Truth, False, Unknown, True, Datum, integer, float, string, truth, datum}
 use Rattle.sql.specs.Expression.{origin, Logical, And, Or, Unary, Binary, logical, Equal, function, Expression, constant, column, unary, binary, contains_column}
 use Rattle.sql.specs.Answer.{done, refused}
 use Rattle.sql.specs.Optimizer.{Operand, deciding, neutral, undetermined, operand, decided, simplify_logical, simplify, fold_by, fold}

@@ -1,4 +1,5 @@
 -- Laws on what is appended, and on what stays where something is appended after it.
+use Rattle.std.specs.Prelude.{Ok, Err}
 use Prim.Native.Nat.{ℕ, ◌+◌, ◌≤◌}
 use native.Mathlib.Omega.{arith}
 use mathlib.Core.Path.{◌≡◌, refl, sym, ap, ◌∙◌}
@@ -12,9 +13,8 @@ use Rattle.cells.specs.Room.{Short, Wrote}
 use Rattle.cells.proofs.Laws.{fits, part_in}
 use Rattle.words.specs.Words.{expression_words}
 use Rattle.words.specs.Place.{ExpressionHere}
-use Rattle.fold_operator.specs.Left.{Appended, Left, Leaves}
-use Rattle.fold_operator.specs.declared.Folded.{Folded}
-use Rattle.fold_operator.specs.declared.Folded.TheVariants as Folded
+use Rattle.fold_operator.specs.declared.Failure.{Failure}
+use Rattle.fold_operator.specs.Left.{Appended, Left, Leaves, Folded}
 
 -- ---- a part as something that was appended
 
@@ -79,20 +79,20 @@ pub leaves_moved : {d d₁ : List ℕ} {at : ℕ} {a : Answer Expression} {r : F
 leaves_moved {d} {d₁} {at} {a} {r} {d'} e h = record { left = go a r h.left }
   where
     go : (a : Answer Expression) (r : Folded) → Left d₁ at a r d' → Left d at a r d'
-    go (done y) (Folded.Done n) h = record { ends = h.ends; kept = h.kept ∙ ap (λ (l : List ℕ). l ++ expression_words y) e }
-    go (done y) (Folded.Refused j q) h = h
-    go (refused k p) (Folded.Done n) h = h
-    go (refused k p) (Folded.Refused j q) h = h
+    go (done y) (Ok n) h = record { ends = h.ends; kept = h.kept ∙ ap (λ (l : List ℕ). l ++ expression_words y) e }
+    go (done y) (Err why) h = h
+    go (refused k p) (Ok n) h = h
+    go (refused k p) (Err why) h = h
 
 -- A refusal is handed on.
-pub leaves_refused : {d₁ d : List ℕ} {at₁ at : ℕ} {j q : ℕ} {d₂ d' : List ℕ} (a : Answer Expression) (f : Expression → Answer Expression)
-    → Leaves d₁ at₁ a (Folded.Refused j q) d₂ → Leaves d at (a >>= f) (Folded.Refused j q) d'
+pub leaves_refused : {d₁ d : List ℕ} {at₁ at : ℕ} {why : Failure} {d₂ d' : List ℕ} (a : Answer Expression) (f : Expression → Answer Expression)
+    → Leaves d₁ at₁ a (Err why) d₂ → Leaves d at (a >>= f) (Err why) d'
 leaves_refused (done y) f h = absurd h.left
 leaves_refused (refused k p) f h = record { left = h.left }
 
 -- What is done is gone on with.
 pub leaves_done : {d₁ d : List ℕ} {at₁ at m : ℕ} {r : Folded} {d₂ d' : List ℕ} (a : Answer Expression) (f : Expression → Answer Expression)
-    → Leaves d₁ at₁ a (Folded.Done m) d₂ → ((y : Expression) → a ≡ done y → Appended d₁ at₁ (expression_words y) m d₂ → Leaves d at (f y) r d')
+    → Leaves d₁ at₁ a (Ok m) d₂ → ((y : Expression) → a ≡ done y → Appended d₁ at₁ (expression_words y) m d₂ → Leaves d at (f y) r d')
     → Leaves d at (a >>= f) r d'
 leaves_done (done y) f h k = k y refl h.left
 leaves_done (refused j p) f h k = absurd h.left
@@ -101,5 +101,5 @@ leaves_done (refused j p) f h k = absurd h.left
 pub leaves_as : {d : List ℕ} {at : ℕ} {a b : Answer Expression} {r : Folded} {d' : List ℕ} → a ≡ b → Leaves d at b r d' → Leaves d at a r d'
 leaves_as e h = rw e h
 
-pub leaves_words : {d : List ℕ} {at n : ℕ} {y : Expression} {d' : List ℕ} → Appended d at (expression_words y) n d' → Leaves d at (done y) (Folded.Done n) d'
+pub leaves_words : {d : List ℕ} {at n : ℕ} {y : Expression} {d' : List ℕ} → Appended d at (expression_words y) n d' → Leaves d at (done y) (Ok n) d'
 leaves_words a = record { left = a }

@@ -5,12 +5,12 @@ use mathlib.Core.Path.{◌≡◌, refl, sym, ap, ap₂, ◌∙◌, subst}
 use mathlib.Core.Bool.{Bool, true, false}
 use mathlib.Core.List.{List, []}
 use lib.ListN.{length, length-append}
-use Rattle.value.specs.Value.{Truth, False, Unknown, True, Datum, integer, float, string, Value, truth, datum, Result, ok, number}
-use Rattle.value.specs.Meaning.{meaning, outcome_of, error}
+use Rattle.value.specs.Value.{Truth, False, Unknown, True, Datum, integer, float, string, Value, truth, datum, Result, ok}
+use Rattle.value.specs.Meaning.{meaning, outcome_of}
 use Rattle.value.specs.declared.Value as Declared
 use Rattle.value.specs.declared.Error as DeclaredError
-use Rattle.value.specs.declared.Result as DeclaredResult
-use Rattle.sql.specs.Expression.{origin, Expression, constant, column, unary, binary, bind, evaluate_unary, evaluate_binary}
+use Rattle.std.specs.Prelude as Std
+use Rattle.sql.specs.Expression.{Expression, constant, column, unary, binary, bind, evaluate_unary, evaluate_binary}
 use Rattle.sql.specs.Answer.{done, at_place}
 use Rattle.sql.specs.Optimizer.{fold}
 use Rattle.sheet.specs.Content.{unary_tag, binary_tag, constant_cell}
@@ -25,9 +25,7 @@ use Rattle.words.proofs.Expressions as expressions
 use Rattle.words.proofs.Writing.{plain}
 use Rattle.words.proofs.Sizes.{sized_long}
 use Rattle.evaluate.specs.Evaluate.{ConstantCell, Reads, EvaluatesUnary, EvaluatesBinary}
-use Rattle.fold_operator.specs.declared.Folded.{Folded}
-use Rattle.fold_operator.specs.declared.Folded.TheVariants as Folded
-use Rattle.fold_operator.specs.Left.{Settled, SettledAt, Appended, Leaves}
+use Rattle.fold_operator.specs.Left.{Folded, Settled, SettledAt, Appended, Leaves}
 use Rattle.fold_operator.specs.Steps.{OperandOf, Deciding, Neutral, Writes, FoldsUnary, OperandsAt, Simplifies, BinaryAt, FoldsBinary, FoldsNeutral}
 use Rattle.fold_operator.proofs.Parts.{part_appended, appended, here_in, here_wrote, leaves_as, leaves_words}
 use Rattle.fold_operator.proofs.Operands.{decision, deciding_root, left_decides, right_decides, right_is_neutral, neither, neutral_simplified, neutral_truth, neutral_datum, fold_unary_kept, fold_left_kept, fold_right_kept}
@@ -99,14 +97,13 @@ module _ {text d : List ℕ} {at m n o : ℕ} (t : BinaryAt text d at m n o) whe
 
 module _ (place og : ℕ) {d : List ℕ} {at : ℕ} {d' : List ℕ} where
   pub value_written : {n : ℕ} {k : Cell} (v : Declared.Value) → ((text : List ℕ) → k ≡ cell og (constant_cell (meaning text v)))
-      → Seals d at at k n d' → (r : DeclaredResult.Result) → r ≡ DeclaredResult.TheVariants.Ok v → Writes d at r place og (Folded.Done n) d'
-  value_written v q w r e text short h = leaves_as (ap (λ (x : DeclaredResult.Result). at_place place (bind (outcome_of text x) (λ v. ok (constant og v)))) e)
+      → Seals d at at k n d' → (r : Std.Result Declared.Value DeclaredError.Error) → r ≡ Std.Ok v → Writes d at r place og (Std.Ok n) d'
+  value_written v q w r e text short h = leaves_as (ap (λ (x : Std.Result Declared.Value DeclaredError.Error). at_place place (bind (outcome_of text x) (λ v. ok (constant og v)))) e)
       (leaves_words (constant_written og (meaning text v) (q text) w short h))
 
-  pub error_written : {j : ℕ} (e : DeclaredError.Error) → j ≡ number (error e)
-      → (r : DeclaredResult.Result) → r ≡ DeclaredResult.TheVariants.Err e → Writes d at r place og (Folded.Refused j place) d'
-  error_written e q r f text short h =
-      leaves_as (ap (λ (x : DeclaredResult.Result). at_place place (bind (outcome_of text x) (λ v. ok (constant og v)))) f) (record { left = (q, refl) })
+  pub error_written : (e : DeclaredError.Error) → (r : Std.Result Declared.Value DeclaredError.Error) → r ≡ Std.Err e → Writes d at r place og (Std.Err (record { error = e; place = place })) d'
+  error_written e r f text short h =
+      leaves_as (ap (λ (x : Std.Result Declared.Value DeclaredError.Error). at_place place (bind (outcome_of text x) (λ v. ok (constant og v)))) f) (record { left = (refl, refl) })
 
 -- ---- fold_unary
 
@@ -117,13 +114,13 @@ over {d} {at} {n} {j} {d'} {b} og t q a short room w =
     appended (subst (λ (x : Cell). Wrote d at (sized b x) j d') q (w d b refl a)) short (omega (arith, sized_long b (plain og t)))
 
 module _ (o place og : ℕ) {d : List ℕ} {at n : ℕ} {d' : List ℕ} where
-  pub unary_kept : {j : ℕ} {k : Cell} → Short d → n + cell_words ≤ length d → k ≡ plain og o → 6 ≤ tag_at d n → Seals d at n k j d' → FoldsUnary d at n o place og (Folded.Done j) d'
+  pub unary_kept : {j : ℕ} {k : Cell} → Short d → n + cell_words ≤ length d → k ≡ plain og o → 6 ≤ tag_at d n → Seals d at n k j d' → FoldsUnary d at n o place og (Std.Ok j) d'
   unfolding expression_words cell
   unary_kept {j} short room q h w text p y e u s =
       leaves_as (fold_unary_kept place og p y (s.column_left (omega (arith, root_tag y u))))
       (leaves_words (over og (unary_tag p) (q ∙ ap (plain og) (sym e)) (here_wrote y u) short (omega (arith, (part_appended u.part).ends)) w))
 
-  pub unary_constant : {answer : Folded} {k : Cell} → Short d → n + cell_words ≤ length d → (v : Declared.Value) (r : DeclaredResult.Result) → k ≡ cell_at d n → tag_at d n < 6 → Reads k v → EvaluatesUnary o v r
+  pub unary_constant : {answer : Folded} {k : Cell} → Short d → n + cell_words ≤ length d → (v : Declared.Value) (r : Std.Result Declared.Value DeclaredError.Error) → k ≡ cell_at d n → tag_at d n < 6 → Reads k v → EvaluatesUnary o v r
       → Writes d at r place og answer d' → FoldsUnary d at n o place og answer d'
   unary_constant {answer} short room v r q h f g w text p y e u s =
       by_constant (λ y. ExpressionHere d at n y → Settled text y → Leaves d at (fold place (unary og p y)) answer d')
@@ -163,15 +160,15 @@ module _ (o og : ℕ) {d : List ℕ} {at m n : ℕ} where
 -- ---- fold_binary
 
 module _ (text : List ℕ) (o place og : ℕ) {d : List ℕ} {at m n : ℕ} {d' : List ℕ} (short : Short d) (room : n + cell_words ≤ length d) where
-  pub binary_left_kept : {i : ℕ} → 6 ≤ tag_at d m → Simplifies d at m n o og i d' → FoldsBinary text d at m n o place og (Folded.Done i) d'
+  pub binary_left_kept : {i : ℕ} → 6 ≤ tag_at d m → Simplifies d at m n o og i d' → FoldsBinary text d at m n o place og (Std.Ok i) d'
   binary_left_kept h w p x y e u v s t z =
       leaves_as (fold_left_kept place og p x y (s.column_left (omega (arith, root_tag x u)))) (leaves_words (w p x y e u v z short room))
 
-  pub binary_right_kept : {i : ℕ} → 6 ≤ tag_at d n → Simplifies d at m n o og i d' → FoldsBinary text d at m n o place og (Folded.Done i) d'
+  pub binary_right_kept : {i : ℕ} → 6 ≤ tag_at d n → Simplifies d at m n o og i d' → FoldsBinary text d at m n o place og (Std.Ok i) d'
   binary_right_kept h w p x y e u v s t z =
       leaves_as (fold_right_kept place og p x y (t.column_left (omega (arith, root_tag y v)))) (leaves_words (w p x y e u v z short room))
 
-  pub binary_constants : {answer : Folded} {j k : Cell} (a b : Declared.Value) (r : DeclaredResult.Result) → j ≡ cell_at d m → k ≡ cell_at d n → tag_at d m < 6 → tag_at d n < 6
+  pub binary_constants : {answer : Folded} {j k : Cell} (a b : Declared.Value) (r : Std.Result Declared.Value DeclaredError.Error) → j ≡ cell_at d m → k ≡ cell_at d n → tag_at d m < 6 → tag_at d n < 6
       → Reads j a → Reads k b → EvaluatesBinary text o a b r → Writes d at r place og answer d' → FoldsBinary text d at m n o place og answer d'
   binary_constants {answer} a b r q l h i f g ev w p x y e u v s t z =
       by_constant (λ x. ExpressionHere d at m x → Settled text x → Leaves d at (fold place (binary og p x y)) answer d')
@@ -185,18 +182,18 @@ module _ (text : List ℕ) (o place og : ℕ) {d : List ℕ} {at m n : ℕ} {d' 
 -- ---- fold_neutral
 
 module _ (place og : ℕ) {d : List ℕ} {at n : ℕ} where
-  pub neutral_value : {j k : Cell} {i : ℕ} {d' : List ℕ} → Short d → k ≡ cell_at d n → k.tag < 3 → j ≡ moved og k → Seals d at at j i d' → FoldsNeutral d at n place og (Folded.Done i) d'
-  neutral_value {j} {k} {i} {d'} short q h s w text p x y z u _ = by_truth (λ y. ExpressionHere d at n y → Leaves d at (fold place (binary og p x y)) (Folded.Done i) d')
+  pub neutral_value : {j k : Cell} {i : ℕ} {d' : List ℕ} → Short d → k ≡ cell_at d n → k.tag < 3 → j ≡ moved og k → Seals d at at j i d' → FoldsNeutral d at n place og (Std.Ok i) d'
+  neutral_value {j} {k} {i} {d'} short q h s w text p x y z u _ = by_truth (λ y. ExpressionHere d at n y → Leaves d at (fold place (binary og p x y)) (Std.Ok i) d')
       (λ own t u. let (h₁, h₂) = expressions.here_in (constant own (truth t)) u in
       leaves_as (neutral_truth place og own t p x z) (leaves_words (constant_moved og (truth t) (constant own (truth t)) u refl q s w short (omega arith))))
       y (omega (arith, root_tag y u, ap (λ (x : Cell). x.tag) q)) u
 
-  pub neutral_mismatch : {k : Cell} {j : ℕ} {d' : List ℕ} → k ≡ cell_at d n → 3 ≤ k.tag → k.tag < 6 → j ≡ 13 → FoldsNeutral d at n place og (Folded.Refused j place) d'
-  neutral_mismatch {k} {j} {d'} q h i e text p x y z u s = by_datum (λ y. Leaves d at (fold place (binary og p x y)) (Folded.Refused j place) d')
-      (λ own g. leaves_as (neutral_datum place og own g p x z) (record { left = (e, refl) }))
+  pub neutral_mismatch : {k : Cell} {d' : List ℕ} → k ≡ cell_at d n → 3 ≤ k.tag → k.tag < 6 → FoldsNeutral d at n place og (Std.Err (record { error = DeclaredError.TheVariants.Mismatch; place = place })) d'
+  neutral_mismatch {k} {d'} q h i text p x y z u s = by_datum (λ y. Leaves d at (fold place (binary og p x y)) (Std.Err (record { error = DeclaredError.TheVariants.Mismatch; place = place })) d')
+      (λ own g. leaves_as (neutral_datum place og own g p x z) (record { left = (refl, refl) }))
       y (omega (arith, root_tag y u, ap (λ (x : Cell). x.tag) q)) (omega (arith, root_tag y u, ap (λ (x : Cell). x.tag) q))
 
-  pub neutral_column : {k : Cell} → k ≡ cell_at d n → 6 ≤ k.tag → FoldsNeutral d at n place og (Folded.Done n) d
+  pub neutral_column : {k : Cell} → k ≡ cell_at d n → 6 ≤ k.tag → FoldsNeutral d at n place og (Std.Ok n) d
   neutral_column q h text p x y z u s =
       let c = s.column_left (omega (arith, root_tag y u, ap (λ (x : Cell). x.tag) q)) in
       leaves_as (fold_right_kept place og p x y c ∙ ap done (neutral_simplified og p x y z c)) (leaves_words (part_appended u.part))

@@ -1,5 +1,5 @@
 -- What an expression folds to, and what is left of it in the slice that is written.
-use Rattle.std.specs.Prelude.{ℕ, ◌+◌, ◌≤◌, ◌≡◌, true, List, ◌++◌, length, take}
+use Rattle.std.specs.Prelude.{ℕ, ◌+◌, ◌≤◌, ◌≡◌, true, List, ◌++◌, length, take, Result, Ok, Err}
 use Rattle.sql.specs.Expression.{Expression, contains_column}
 use Rattle.sql.specs.Answer.{Answer, done, refused}
 use Rattle.sheet.specs.Content.{cell_of}
@@ -7,8 +7,9 @@ use Rattle.sheet_laws.specs.Fits.{ValueFits}
 use Rattle.sound.specs.Expressions.{MadeOf}
 use Rattle.words.specs.Words.{root, expression_words}
 use Rattle.words.specs.Place.{ExpressionHere}
-use Rattle.fold_operator.specs.declared.Folded.{Folded}
-use Rattle.fold_operator.specs.declared.Folded.TheVariants as Folded
+use Rattle.fold_operator.specs.declared.Failure.{Failure}
+use Rattle.value.specs.Value.{number}
+use Rattle.value.specs.Meaning.{error}
 use Rattle.sheet.specs.Tags
 
 -- The expression's constants are ones that a sheet with this text may hold.
@@ -31,12 +32,20 @@ pub record Appended (d : List ℕ) (at : ℕ) (w : List ℕ) (n : ℕ) (d' : Lis
   pub ends : n ≡ at + length w
   pub kept : take n d' ≡ take at d ++ w
 
+-- Where what is folded ends, or why it can't be.
+abbrev pub Folded : Type 0
+Folded = Result ℕ Failure
+
+-- The number of the refusal that a failure gives.
+abbrev pub number_of : Failure → ℕ
+number_of why = number (error why.error)
+
 -- The words of what is done, appended, and where they end; or the refusal's number and place.
 abbrev pub Left : List ℕ → ℕ → Answer Expression → Folded → List ℕ → Type 0
-Left d at (done y) (Folded.Done n) d' = Appended d at (expression_words y) n d'
-Left d at (done y) (Folded.Refused number place) d' = ⊥
-Left d at (refused number place) (Folded.Done n) d' = ⊥
-Left d at (refused number place) (Folded.Refused said at_cell) d' = (said ≡ number) × (at_cell ≡ place)
+Left d at (done y) (Ok n) d' = Appended d at (expression_words y) n d'
+Left d at (done y) (Err why) d' = ⊥
+Left d at (refused number place) (Ok n) d' = ⊥
+Left d at (refused number place) (Err why) d' = (number_of why ≡ number) × (why.place ≡ place)
 
 -- That is what an answer leaves.
 pub record Leaves (d : List ℕ) (at : ℕ) (answer : Answer Expression) (r : Folded) (d' : List ℕ) : Type 0 where

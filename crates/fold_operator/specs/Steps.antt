@@ -1,8 +1,9 @@
 -- What the steps at one operator do, once its operands are folded.
-use Rattle.std.specs.Prelude.{ℕ, ◌+◌, ◌≤◌, ◌<◌, ◌≡◌, Bool, true, false, ◌&&◌, List, eqb, length}
+use Rattle.std.specs.Prelude.{ℕ, ◌+◌, ◌≤◌, ◌<◌, ◌≡◌, Bool, true, false, ◌&&◌, List, eqb, length, Result}
 use Rattle.value.specs.Value.{ok}
 use Rattle.value.specs.Meaning.{outcome_of}
-use Rattle.value.specs.declared.Result.{Result}
+use Rattle.value.specs.declared.Error.{Error}
+use Rattle.value.specs.declared.Value.{Value}
 use Rattle.sql.specs.Expression.{origin, Unary, Binary, logical, Equal, function, Expression, constant, unary, binary, bind}
 use Rattle.sql.specs.Answer.{at_place}
 use Rattle.sql.specs.Optimizer.{Operand, deciding, neutral, undetermined, operand, fold, simplify}
@@ -13,9 +14,7 @@ use Rattle.cells.specs.Room.{Short}
 use Rattle.words.specs.Words.{cell, root, expression_words}
 use Rattle.words.specs.Place.{ExpressionHere}
 use Rattle.evaluate.specs.Evaluate.{UnaryTag, BinaryTag}
-use Rattle.fold_operator.specs.declared.Folded.{Folded}
-use Rattle.fold_operator.specs.Left.{Settled, SettledAt, Appended, Leaves}
-use Rattle.sheet.specs.Tags
+use Rattle.fold_operator.specs.Left.{Folded, Settled, SettledAt, Appended, Leaves}
 
 -- ---- operands of And and Or
 
@@ -89,7 +88,7 @@ pub record OperandAt (d : List ℕ) (at n : ℕ) : Type 0 where
   pub few : Short d
 
 -- the value of an operator with origin og, or the refusal for its error
-abbrev pub Writes : List ℕ → ℕ → Result → (place og : ℕ) → Folded → List ℕ → Type 0
+abbrev pub Writes : List ℕ → ℕ → Result Value Error → (place og : ℕ) → Folded → List ℕ → Type 0
 Writes d at r place og answer d' =
     (text : List ℕ) → Short d → at + cell_words ≤ length d → Leaves d at (at_place place (bind (outcome_of text r) (λ v. ok (constant og v)))) answer d'
 

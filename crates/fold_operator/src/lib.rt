@@ -5,24 +5,20 @@ ghost use Rattle.std.specs.Prelude.{ℕ, ◌+◌, ◌≤◌, ◌<◌, ◌≡◌}
 ghost use Rattle.fold_operator.specs.Steps.{boolean_cell, OperandOf, Deciding, Neutral, Writes, UnaryAt, FoldsUnary, OperandsAt, Simplifies, BinaryAt, FoldsBinary, OperandAt, FoldsNeutral};
 
 use cells::Cell;
-use value::{Error, Result};
+use value::{Error, Value};
 
+// Why an operator has no value, and the number of its cell. What folds gives where what it has written ends, or such a failure.
 #[derive(Clone, Copy)]
-pub enum Folded {
-    // What is folded ends before this word.
-    Done(usize),
-    // The number of the refusal, and its place.
-    Refused(u32, usize),
+pub struct Failure {
+    pub error: Error,
+    pub place: usize,
 }
 
 // Whether a cell is the Boolean with number b.
 fn is_boolean(k: Cell, b: u32) -> bool
     ensures { result ≡ boolean_cell k b }
 {
-    if k.tag == tags::BOOLEAN {
-        return k.a == b;
-    }
-    false
+    k.tag == tags::BOOLEAN && k.a == b
 }
 
 // Whether the operand with cell k decides the operator with tag o: false does And, true does Or.
@@ -70,34 +66,40 @@ fn operator(o: u32, origin: u32) -> Cell
 fn with_origin(k: Cell, origin: u32) -> Cell
     ensures { result ≡ record { origin = origin; tag = k.tag; flag = k.flag; a = k.a; b = k.b; c = k.c } }
 {
-    Cell {
-        origin,
-        tag: k.tag,
-        flag: k.flag,
-        a: k.a,
-        b: k.b,
-        c: k.c,
-    }
+    Cell { origin, ..k }
 }
 
 // An operator's value, as a constant with the operator's origin, after the first `at` words of d, or the refusal for its error.
-fn write(d: &mut [u32], at: usize, r: Result, place: usize, origin: u32) -> Folded
+fn write(
+    d: &mut [u32],
+    at: usize,
+    r: Result<Value, Error>,
+    place: usize,
+    origin: u32,
+) -> Result<usize, Failure>
     ensures { Writes d.old at r place origin result d.new }
 {
     match r {
-        Result::Ok(v) => Folded::Done(cells::put(d, at, at, evaluate::cell_of(v, origin))),
-        Result::Err(e) => Folded::Refused(value::number(e), place),
+        Ok(v) => Ok(cells::put(d, at, at, evaluate::cell_of(v, origin))),
+        Err(error) => Err(Failure { error, place }),
     }
 }
 
 // `fold` of the operator with tag o, whose operand stands in d from `at` to n.
-pub fn fold_unary(d: &mut [u32], at: usize, n: usize, o: u32, place: usize, origin: u32) -> Folded
+pub fn fold_unary(
+    d: &mut [u32],
+    at: usize,
+    n: usize,
+    o: u32,
+    place: usize,
+    origin: u32,
+) -> Result<usize, Failure>
     requires { UnaryAt d.old at n o }
     ensures { FoldsUnary d.old at n o place origin result d.new }
 {
     let k = cells::cell_at(d, n);
     if tags::COLUMN <= k.tag {
-        return Folded::Done(cells::put(d, at, n, operator(o, origin)));
+        return Ok(cells::put(d, at, n, operator(o, origin)));
     }
     write(
         d,
@@ -138,17 +140,17 @@ pub fn fold_binary(
     o: u32,
     place: usize,
     origin: u32,
-) -> Folded
+) -> Result<usize, Failure>
     requires { BinaryAt text.now d.old at m n o }
     ensures { FoldsBinary text.now d.old at m n o place origin result d.new }
 {
     let left = cells::cell_at(d, m);
     if tags::COLUMN <= left.tag {
-        return Folded::Done(simplify(d, at, m, n, o, origin));
+        return Ok(simplify(d, at, m, n, o, origin));
     }
     let right = cells::cell_at(d, n);
     if tags::COLUMN <= right.tag {
-        return Folded::Done(simplify(d, at, m, n, o, origin));
+        return Ok(simplify(d, at, m, n, o, origin));
     }
     write(
         d,
@@ -161,16 +163,25 @@ pub fn fold_binary(
 
 // `fold` of And or Or, whose left operand is neutral, and whose right one stands in d from `at` to n: that operand, if it is no constant but Null or a Boolean. A
 // constant takes the operator's origin.
-pub fn fold_neutral(d: &mut [u32], at: usize, n: usize, place: usize, origin: u32) -> Folded
+pub fn fold_neutral(
+    d: &mut [u32],
+    at: usize,
+    n: usize,
+    place: usize,
+    origin: u32,
+) -> Result<usize, Failure>
     requires { OperandAt d.old at n }
     ensures { FoldsNeutral d.old at n place origin result d.new }
 {
     let k = cells::cell_at(d, n);
     if k.tag < tags::INTEGER {
-        return Folded::Done(cells::put(d, at, at, with_origin(k, origin)));
+        return Ok(cells::put(d, at, at, with_origin(k, origin)));
     }
     if k.tag < tags::COLUMN {
-        return Folded::Refused(value::number(Error::Mismatch), place);
+        return Err(Failure {
+            error: Error::Mismatch,
+            place,
+        });
     }
-    Folded::Done(n)
+    Ok(n)
 }

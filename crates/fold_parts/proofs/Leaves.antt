@@ -1,14 +1,14 @@
 -- Laws on what answers leave.
-use Prim.Native.Nat.{ℕ, ◌+◌, ◌≤◌}
+use Rattle.std.specs.Prelude.{Ok, Err}
+use Prim.Native.Nat.{ℕ, ◌≤◌}
 use native.Mathlib.Omega.{arith}
 use mathlib.Core.Path.{◌≡◌, refl, sym, ap, ◌∙◌, subst}
 use mathlib.Core.List.{List, [], ◌++◌, append_assoc, append-nil}
-use lib.ListN.{length, take, length-append}
+use lib.ListN.{take, length-append}
 use Rattle.sql.specs.Answer.{Answer, done, refused, ◌>>=◌}
 use Rattle.sound.specs.Answers.{Answered}
-use Rattle.fold_operator.specs.Left.{Appended}
-use Rattle.fold_operator.specs.declared.Folded.{Folded}
-use Rattle.fold_operator.specs.declared.Folded.TheVariants as Folded
+use Rattle.fold_operator.specs.declared.Failure.{Failure}
+use Rattle.fold_operator.specs.Left.{Appended, Folded}
 use Rattle.fold_parts.specs.Leaves.{Left, Leaves, Bounded, UpTo}
 
 -- ---- what is appended
@@ -41,18 +41,18 @@ pub up_to_more : {n m : ℕ} {r : Folded} → n ≤ m → UpTo n r → UpTo m r
 up_to_more {n} {m} {r} h k = record { ends = go r k.ends }
   where
     go : (r : Folded) → Bounded n r → Bounded m r
-    go (Folded.Done i) k = omega arith
-    go (Folded.Refused j p) k = tt
+    go (Ok i) k = omega arith
+    go (Err why) k = tt
 
 -- A refusal is handed on.
-pub refused_on : {A B : Type 0} {f : A → List ℕ} {g : B → List ℕ} {d₁ d : List ℕ} {at₁ at : ℕ} {j q : ℕ} {d₂ d' : List ℕ} (a : Answer A) (k : A → Answer B)
-    → Leaves f d₁ at₁ a (Folded.Refused j q) d₂ → Leaves g d at (a >>= k) (Folded.Refused j q) d'
+pub refused_on : {A B : Type 0} {f : A → List ℕ} {g : B → List ℕ} {d₁ d : List ℕ} {at₁ at : ℕ} {why : Failure} {d₂ d' : List ℕ} (a : Answer A) (k : A → Answer B)
+    → Leaves f d₁ at₁ a (Err why) d₂ → Leaves g d at (a >>= k) (Err why) d'
 refused_on (done y) k h = absurd h.left
 refused_on (refused i p) k h = record { left = h.left }
 
 -- What is done is gone on with.
 pub done_on : {A B : Type 0} {f : A → List ℕ} {g : B → List ℕ} {d₁ d : List ℕ} {at₁ at m : ℕ} {r : Folded} {d₂ d' : List ℕ} (a : Answer A) (k : A → Answer B)
-    → Leaves f d₁ at₁ a (Folded.Done m) d₂ → ((y : A) → a ≡ done y → Appended d₁ at₁ (f y) m d₂ → Leaves g d at (k y) r d')
+    → Leaves f d₁ at₁ a (Ok m) d₂ → ((y : A) → a ≡ done y → Appended d₁ at₁ (f y) m d₂ → Leaves g d at (k y) r d')
     → Leaves g d at (a >>= k) r d'
 done_on (done y) k h l = l y refl h.left
 done_on (refused j p) k h l = absurd h.left
@@ -63,10 +63,10 @@ pub made_into : {A B : Type 0} {f : A → List ℕ} {g : B → List ℕ} {d : Li
 made_into {A} {B} {f} {g} {d} {at} {r} {d'} a k e h = record { left = go a r h.left }
   where
     go : (a : Answer A) (r : Folded) → Left f d at a r d' → Left g d at (a >>= λ y. done (k y)) r d'
-    go (done y) (Folded.Done n) h = appended_as (e y) h
-    go (done y) (Folded.Refused j p) h = h
-    go (refused i q) (Folded.Done n) h = h
-    go (refused i q) (Folded.Refused j p) h = h
+    go (done y) (Ok n) h = appended_as (e y) h
+    go (done y) (Err why) h = h
+    go (refused i q) (Ok n) h = h
+    go (refused i q) (Err why) h = h
 
 -- and back
 pub made_of : {A B : Type 0} {f : A → List ℕ} {g : B → List ℕ} {d : List ℕ} {at : ℕ} {r : Folded} {d' : List ℕ} (a : Answer A) (k : A → B)
@@ -74,10 +74,10 @@ pub made_of : {A B : Type 0} {f : A → List ℕ} {g : B → List ℕ} {d : List
 made_of {A} {B} {f} {g} {d} {at} {r} {d'} a k e h = record { left = go a r h.left }
   where
     go : (a : Answer A) (r : Folded) → Left g d at (a >>= λ y. done (k y)) r d' → Left f d at a r d'
-    go (done y) (Folded.Done n) h = appended_as (e y) h
-    go (done y) (Folded.Refused j p) h = h
-    go (refused i q) (Folded.Done n) h = h
-    go (refused i q) (Folded.Refused j p) h = h
+    go (done y) (Ok n) h = appended_as (e y) h
+    go (done y) (Err why) h = h
+    go (refused i q) (Ok n) h = h
+    go (refused i q) (Err why) h = h
 
 -- one more behind what is there
 pub one_behind : {A B : Type 0} {f : A → List ℕ} {g : B → List ℕ} {d : List ℕ} {at : ℕ} {w : List ℕ} {m : ℕ} {d₁ : List ℕ} {r : Folded} {d₂ : List ℕ} (a : Answer A) (k : A → B)
@@ -85,10 +85,10 @@ pub one_behind : {A B : Type 0} {f : A → List ℕ} {g : B → List ℕ} {d : L
 one_behind {A} {B} {f} {g} {d} {at} {w} {m} {d₁} {r} {d₂} a k e b h = record { left = go a r h.left }
   where
     go : (a : Answer A) (r : Folded) → Left f d₁ m a r d₂ → Left g d at (a >>= λ y. done (k y)) r d₂
-    go (done y) (Folded.Done n) h = appended_as (e y) (appended_then b h)
-    go (done y) (Folded.Refused j p) h = h
-    go (refused i q) (Folded.Done n) h = h
-    go (refused i q) (Folded.Refused j p) h = h
+    go (done y) (Ok n) h = appended_as (e y) (appended_then b h)
+    go (done y) (Err why) h = h
+    go (refused i q) (Ok n) h = h
+    go (refused i q) (Err why) h = h
 
 -- ---- answers that are equal
 

@@ -1,35 +1,34 @@
 -- What folding parts leaves, from what the calls leave.
+use Rattle.std.specs.Prelude.{Ok, Err}
 use Prim.Native.Nat.{ℕ, ◌+◌, ◌-◌, ◌*◌, ◌≤◌, ◌<◌}
 use native.Mathlib.Omega.{arith}
 use mathlib.Core.Path.{◌≡◌, refl, sym, ap, ◌∙◌, subst}
-use mathlib.Core.List.{List, [], ◌∷◌, ◌++◌, map, append-nil}
-use lib.ListN.{length, take, length-append}
-use Rattle.sql.specs.Expression.{origin, IsNull, IsNaN, Identity, Negate, SquareRoot, Unary, Not, function, Expression, constant, column, unary, binary, size}
-use Rattle.sql.specs.Plan.{sum, row_size}
+use mathlib.Core.List.{List, [], ◌∷◌, ◌++◌, map}
+use lib.ListN.{length, length-append}
+use Rattle.sql.specs.Expression.{origin, IsNull, IsNaN, Identity, Negate, SquareRoot, Not, function, Expression, constant, column, unary, binary, size}
+use Rattle.sql.specs.Plan.{sum}
 use Rattle.sql.specs.Answer.{Answer, done, refused, ◌>>=◌}
 use Rattle.sql.specs.Optimizer.{fold_expression, fold_each}
-use Rattle.sheet.specs.Content.{Content, cell_of, unary_tag}
+use Rattle.sheet.specs.Content.{Content}
 use Rattle.sheet_laws.specs.Fits.{All}
 use Rattle.cells.specs.declared.Cell.{Cell}
 use Rattle.cells.specs.Cells.{cell_words, sized, cell_at, tag_at, start_at, Part, Sized}
-use Rattle.cells.specs.Room.{Short, Wrote, Seals}
+use Rattle.cells.specs.Room.{Short, Seals}
 use Rattle.cells.proofs.Laws.{part_left, part_right, part_in, body_part, cell_in, tag_is, start_is, has_size, seam}
 use Rattle.cells.proofs.Laws as cells
 use Rattle.words.specs.Words.{cell, root, expression_words, operand_words, all_words}
-use Rattle.words.specs.Place.{ExpressionHere}
 use Rattle.words.proofs.Expressions.{tag, tag_cell, shape, constant_tag, binary_range}
 use Rattle.words.proofs.Sizes.{sized_long, expression_long}
-use Rattle.fold_operator.specs.Left.{ConstantsFit, Appended}
+use Rattle.fold_operator.specs.declared.Failure.{Failure}
+use Rattle.fold_operator.specs.Left.{ConstantsFit, Appended, Folded}
 use Rattle.fold_operator.specs.Left as expression
-use Rattle.fold_operator.specs.declared.Folded.{Folded}
-use Rattle.fold_operator.specs.declared.Folded.TheVariants as Folded
 use Rattle.fold_operator.proofs.Parts.{appended, wrote}
 use Rattle.folding.specs.Folding.{Foldable, FoldableAt, Folds}
-use Rattle.folding.proofs.Recursion.{as_answer, result_at}
+use Rattle.folding.proofs.Recursion.{result_at}
 use Rattle.fold_parts.specs.Leaves.{Left, Leaves, Bounded, UpTo}
 use Rattle.fold_parts.specs.Parts.{OwnPart, alone, under, part_words, part_size, fold_own_part, fold_own_parts, PartFits, Numbers, PartsHere, PartsAt, FoldsParts, PartHere, PartAt, FoldsPart}
-use Rattle.fold_parts.proofs.Leaves.{appended_none, appended_as, answer_as, said_as, up_to_as, up_to_more, refused_on, done_on, made_into, made_of, one_behind}
-use Rattle.fold_parts.proofs.Each.{LastOf, last_of, all_those, all_last, words_last, words_long, words_of_map, each_last, each_made}
+use Rattle.fold_parts.proofs.Leaves.{appended_none, answer_as, said_as, up_to_as, up_to_more, refused_on, done_on, made_into, made_of, one_behind}
+use Rattle.fold_parts.proofs.Each.{last_of, all_those, all_last, words_last, words_long, words_of_map, each_last, each_made}
 
 -- ---- a part's words
 
@@ -126,29 +125,29 @@ module _ {text s : List ℕ} {lo hi : ℕ} where
 
 -- ---- fold_parts
 
-pub parts_bound : {text s : List ℕ} {lo hi : ℕ} {d : List ℕ} {at : ℕ} {q : Folded} {d' : List ℕ} {m : ℕ} → q ≡ Folded.Done m → FoldsParts text s lo hi d at q d' → m ≤ at + (hi - lo)
+pub parts_bound : {text s : List ℕ} {lo hi : ℕ} {d : List ℕ} {at : ℕ} {q : Folded} {d' : List ℕ} {m : ℕ} → q ≡ Ok m → FoldsParts text s lo hi d at q d' → m ≤ at + (hi - lo)
 parts_bound e g = (up_to_as e g.within).ends
 
 module _ {text s : List ℕ} {lo hi : ℕ} {d : List ℕ} {at : ℕ} where
-  pub parts_none : hi ≤ lo → FoldsParts text s lo hi d at (Folded.Done at) d
+  pub parts_none : hi ≤ lo → FoldsParts text s lo hi d at (Ok at) d
   parts_none h = record { leaves = go; within = record { ends = omega arith } }
     where
-      go : (first : ℕ) (ps : List OwnPart) → lo ≡ cell_words * first → PartsHere text s lo hi ps → Leaves (all_words part_words) d at (fold_own_parts first ps) (Folded.Done at) d
+      go : (first : ℕ) (ps : List OwnPart) → lo ≡ cell_words * first → PartsHere text s lo hi ps → Leaves (all_words part_words) d at (fold_own_parts first ps) (Ok at) d
       go first [] e u = record { left = appended_none d at }
       go first (p ∷ ps) e u =
           absurd (omega (arith, u.stand.high, length-append (part_words p) (all_words part_words ps), ap length (part_shape p), sized_long (below p) (cell (part_origin p) (part_root p))))
 
   module _ (h : lo < hi) {mid : ℕ} (st : mid ≡ start_at s hi) {d₁ : List ℕ} {q : Folded} (g : FoldsParts text s lo mid d at q d₁) where
-    pub parts_refused : {j p : ℕ} → q ≡ Folded.Refused j p → FoldsParts text s lo hi d at (Folded.Refused j p) d₁
-    parts_refused {j} {p} e = record {
-      leaves = λ first ps n u. by_last (λ ps. Leaves (all_words part_words) d at (fold_own_parts first ps) (Folded.Refused j p) d₁)
+    pub parts_refused : {why : Failure} → q ≡ Err why → FoldsParts text s lo hi d at (Err why) d₁
+    parts_refused {why} e = record {
+      leaves = λ first ps n u. by_last (λ ps. Leaves (all_words part_words) d at (fold_own_parts first ps) (Err why) d₁)
           (λ ps x v. answer_as (sym (each_last fold_own_part part_size ps x first))
           (refused_on (fold_own_parts first ps) (λ ys. fold_own_part (first + sum part_size ps) x >>= λ y. done (ys ++ (y ∷ []))) (said_as e (g.leaves first ps n (those_here ps x v st)))))
           h ps u;
       within = record { ends = tt };
     }
 
-    pub parts_done : {m : ℕ} {r : Folded} {d₂ : List ℕ} → q ≡ Folded.Done m → lo ≤ mid → mid ≤ hi → FoldsPart text s mid hi d₁ m r d₂ → FoldsParts text s lo hi d at r d₂
+    pub parts_done : {m : ℕ} {r : Folded} {d₂ : List ℕ} → q ≡ Ok m → lo ≤ mid → mid ≤ hi → FoldsPart text s mid hi d₁ m r d₂ → FoldsParts text s lo hi d at r d₂
     parts_done {m} {r} {d₂} e i j f = record {
       leaves = λ first ps n u. by_last (λ ps. Leaves (all_words part_words) d at (fold_own_parts first ps) r d₂)
           (λ ps x v. answer_as (sym (each_last fold_own_part part_size ps x first))
@@ -197,10 +196,10 @@ as_leaves : {d : List ℕ} {at : ℕ} {r : Folded} {d' : List ℕ} (a : Answer E
 as_leaves {d} {at} {r} {d'} a h = record { left = go a r h.left }
   where
     go : (a : Answer Expression) (r : Folded) → expression.Left d at a r d' → Left expression_words d at a r d'
-    go (done y) (Folded.Done n) h = h
-    go (done y) (Folded.Refused j p) h = h
-    go (refused i q) (Folded.Done n) h = h
-    go (refused i q) (Folded.Refused j p) h = h
+    go (done y) (Ok n) h = h
+    go (done y) (Err why) h = h
+    go (refused i q) (Ok n) h = h
+    go (refused i q) (Err why) h = h
 
 alone_words : (es : List Expression) → all_words part_words (map alone es) ≡ all_words expression_words es
 alone_words es = words_of_map expression_words part_words alone (λ e. refl) es
@@ -240,8 +239,8 @@ module _ {text s : List ℕ} {lo hi : ℕ} where
     within_of {n} {r} t h room long g = record { ends = go r g }
       where
         go : (r : Folded) → Folds text n s lo hi d at r d₁ → Bounded (at + (hi - lo)) r
-        go (Folded.Done m) g = (result_at n (alone_at h t) g room long).within
-        go (Folded.Refused j p) g = tt
+        go (Ok m) g = (result_at n (alone_at h t) g room long).within
+        go (Err why) g = tt
 
     pub part_alone : {n : ℕ} {r : Folded} → PartAt text s lo hi → tag_at s hi < 40 → Numbers lo n → at + (hi - lo) ≤ length d → length d₁ ≡ length d
         → Folds text n s lo hi d at r d₁ → FoldsPart text s lo hi d at r d₁
@@ -264,23 +263,23 @@ module _ {text s : List ℕ} {lo hi : ℕ} where
       row_left : (first og : ℕ) (es : List Expression) (k : Content) → lo ≡ cell_words * first → PartHere text s lo hi (under og es k) → Leaves (all_words expression_words) d at (fold_each fold_expression size first es) q d₁
       row_left first og es k e u = made_of (fold_each fold_expression size first es) (map alone) alone_words (answer_as (fold_alone es first) (g.leaves first (map alone es) e (under_here og es k u)))
 
-      pub under_refused : {j p : ℕ} → q ≡ Folded.Refused j p → FoldsPart text s lo hi d at (Folded.Refused j p) d₁
-      under_refused {j} {p} z = record {
-        leaves = λ first x e u. by_under (λ x. Leaves part_words d at (fold_own_part first x) (Folded.Refused j p) d₁)
+      pub under_refused : {why : Failure} → q ≡ Err why → FoldsPart text s lo hi d at (Err why) d₁
+      under_refused {why} z = record {
+        leaves = λ first x e u. by_under (λ x. Leaves part_words d at (fold_own_part first x) (Err why) d₁)
             (λ og es k v. refused_on (fold_each fold_expression size first es) (λ xs. done (under og xs k)) (said_as z (row_left first og es k e v)))
             h x u;
         within = record { ends = tt };
       }
 
       -- The cell is put behind what is done.
-      pub under_done : {m n : ℕ} {c : Cell} {d₂ : List ℕ} → PartAt text s lo hi → q ≡ Folded.Done m → (at + (hi - lo) ≤ length d) × Short d → length d₁ ≡ length d → c ≡ cell_at s hi → Seals d₁ at m c n d₂
-          → FoldsPart text s lo hi d at (Folded.Done n) d₂
+      pub under_done : {m n : ℕ} {c : Cell} {d₂ : List ℕ} → PartAt text s lo hi → q ≡ Ok m → (at + (hi - lo) ≤ length d) × Short d → length d₁ ≡ length d → c ≡ cell_at s hi → Seals d₁ at m c n d₂
+          → FoldsPart text s lo hi d at (Ok n) d₂
       under_done {m} {n} {c} {d₂} t z (room, few) long ce w = record {
-        leaves = λ first x e u. by_under (λ x. Leaves part_words d at (fold_own_part first x) (Folded.Done n) d₂)
+        leaves = λ first x e u. by_under (λ x. Leaves part_words d at (fold_own_part first x) (Ok n) d₂)
             (λ og es k v. done_on (fold_each fold_expression size first es) (λ xs. done (under og xs k)) (said_as z (row_left first og es k e v))
             (λ xs f a. record { left = sealed_on og es k v xs a }))
             h x u;
-        within = by_under (λ x. UpTo (at + (hi - lo)) (Folded.Done n)) (λ og es k v. ended t.first og es k t.numbered v) h t.p t.here;
+        within = by_under (λ x. UpTo (at + (hi - lo)) (Ok n)) (λ og es k v. ended t.first og es k t.numbered v) h t.p t.here;
       }
         where
           sealed_on : (og : ℕ) (es : List Expression) (k : Content) → PartHere text s lo hi (under og es k) → (xs : List Expression) → Appended d at (all_words expression_words xs) m d₁
@@ -297,10 +296,10 @@ module _ {text s : List ℕ} {lo hi : ℕ} where
                   → at + length (sized (all_words expression_words xs) c) ≤ length d
               sealed_room c xs a i b = omega (arith, sized_long (all_words expression_words xs) c, a.ends)
 
-          ended : (first og : ℕ) (es : List Expression) (k : Content) → lo ≡ cell_words * first → PartHere text s lo hi (under og es k) → UpTo (at + (hi - lo)) (Folded.Done n)
+          ended : (first og : ℕ) (es : List Expression) (k : Content) → lo ≡ cell_words * first → PartHere text s lo hi (under og es k) → UpTo (at + (hi - lo)) (Ok n)
           ended first og es k e v = go (fold_each fold_expression size first es) (said_as z (row_left first og es k e v))
             where
-              go : (a : Answer (List Expression)) → Leaves (all_words expression_words) d at a (Folded.Done m) d₁ → UpTo (at + (hi - lo)) (Folded.Done n)
+              go : (a : Answer (List Expression)) → Leaves (all_words expression_words) d at a (Ok m) d₁ → UpTo (at + (hi - lo)) (Ok n)
               go (done xs) l =
                   let (i, j) = stands_in (under og es k) v.stand in
                   let y = sealed_on og es k v xs l.left in

@@ -1,5 +1,5 @@
 -- A node's own parts, and what folding them does.
-use Rattle.std.specs.Prelude.{ℕ, ◌+◌, ◌-◌, ◌*◌, ◌≤◌, ◌<◌, Bool, ◌≡◌, List, [], ◌∷◌, map, length}
+use Rattle.std.specs.Prelude.{ℕ, ◌+◌, ◌-◌, ◌*◌, ◌<◌, Bool, true, false, ◌≡◌, List, [], ◌∷◌, map, length}
 use Rattle.std.proofs.Math.Option.{Option, none, some}
 use Rattle.sql.specs.Expression.{Marked, Expression}
 use Rattle.sql.specs.Plan.{Label, Leaf, scan, lookup, nothing, values, limit, offset, order, projection, remap, aggregate, Over, filter, other, Join, nested_loop, hash, Node, leaf, over, join}
@@ -9,7 +9,7 @@ use Rattle.sheet_laws.specs.Fits.{All}
 use Rattle.words.specs.Words.{leaf_own, over_own, join_own}
 use Rattle.words.specs.Place.{NodeHere}
 use Rattle.nodes.specs.Own.{OwnStart}
-use Rattle.fold_operator.specs.declared.Folded.{Folded}
+use Rattle.fold_operator.specs.Left.{Folded}
 use Rattle.fold_parts.specs.Leaves.{Leaves, UpTo}
 use Rattle.fold_parts.specs.Parts.{OwnPart, alone, under, PartFits}
 use Rattle.cells.specs.Cells.{cell_words}
@@ -53,34 +53,34 @@ own_parts (leaf og l) = leaf_parts l
 own_parts (over og o n) = over_parts o
 own_parts (join og outer j l r) = join_parts j
 
--- 1 for a node whose own expressions are visited, 0 for one without any, and for Aggregate
-abbrev pub leaf_visited : Leaf → ℕ
-leaf_visited (scan t al q) = 1
-leaf_visited (lookup a t al vs) = 0
-leaf_visited (nothing ls) = 0
-leaf_visited (values rs) = 1
+-- Whether a node's own expressions are visited: not where it has none, nor in Aggregate.
+abbrev pub leaf_visited : Leaf → Bool
+leaf_visited (scan t al q) = true
+leaf_visited (lookup a t al vs) = false
+leaf_visited (nothing ls) = false
+leaf_visited (values rs) = true
 
-abbrev pub over_visited : Over → ℕ
-over_visited (filter e) = 1
-over_visited (other (limit n)) = 0
-over_visited (other (offset n)) = 0
-over_visited (other (order ks)) = 1
-over_visited (other (projection is)) = 1
-over_visited (other (remap ts)) = 0
-over_visited (other (aggregate es gs)) = 0
+abbrev pub over_visited : Over → Bool
+over_visited (filter e) = true
+over_visited (other (limit n)) = false
+over_visited (other (offset n)) = false
+over_visited (other (order ks)) = true
+over_visited (other (projection is)) = true
+over_visited (other (remap ts)) = false
+over_visited (other (aggregate es gs)) = false
 
-abbrev pub join_visited : Join → ℕ
-join_visited (nested_loop q) = 1
-join_visited (hash i j) = 0
+abbrev pub join_visited : Join → Bool
+join_visited (nested_loop q) = true
+join_visited (hash i j) = false
 
-abbrev pub visited : Node → ℕ
+abbrev pub visited : Node → Bool
 visited (leaf og l) = leaf_visited l
 visited (over og o n) = over_visited o
 visited (join og outer j l r) = join_visited j
 
 -- ---- contracts
 
-abbrev pub Visits : List ℕ → ℕ → ℕ → ℕ → Type 0
+abbrev pub Visits : List ℕ → ℕ → ℕ → Bool → Type 0
 Visits s lo hi r = (p : Node) → NodeHere s lo hi p → r ≡ visited p
 
 -- p stands in s from word lo up to hi, and its own parts fit.

@@ -8,8 +8,7 @@ use Rattle.sheet.specs.Content.{Content, cell_of}
 use Rattle.sheet_laws.specs.Fits.{All}
 use Rattle.cells.specs.Cells.{cell_words, sized, Part}
 use Rattle.words.specs.Words.{cell, all_words, expression_words}
-use Rattle.fold_operator.specs.declared.Folded.{Folded}
-use Rattle.fold_operator.specs.Left.{ConstantsFit}
+use Rattle.fold_operator.specs.Left.{Folded, ConstantsFit}
 use Rattle.fold_parts.specs.Leaves.{Leaves, UpTo}
 use Rattle.sheet.specs.Tags
 

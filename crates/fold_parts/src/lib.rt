@@ -10,7 +10,7 @@ ghost use Rattle.nodes.specs.Own.{OwnStart};
 ghost use Rattle.fold_parts.specs.Parts.{Numbers, PartsAt, FoldsParts, PartAt, FoldsPart};
 ghost use Rattle.fold_parts.specs.Own.{Visits, OwnAt, FoldsOwn};
 
-use fold_operator::Folded;
+use fold_operator::Failure;
 
 // The number of the cell that starts at a word.
 fn number(at: usize) -> usize
@@ -21,24 +21,36 @@ fn number(at: usize) -> usize
 
 // All parts from lo to hi, from the first to the last. The last one's start is known from its end, so that those before it are folded by a call.
 #[cycle(fold_expressions_fold_part_fold_parts)]
-fn fold_parts(text: &[u8], s: &[u32], lo: usize, hi: usize, d: &mut [u32], at: usize) -> Folded
+fn fold_parts(
+    text: &[u8],
+    s: &[u32],
+    lo: usize,
+    hi: usize,
+    d: &mut [u32],
+    at: usize,
+) -> Result<usize, Failure>
     requires parts_at { PartsAt text.now s.now lo hi }
     requires lo_in_bounds { (at + (hi - lo) ≤ length d.old) × Short d.old }
     ensures { FoldsParts text.now s.now lo hi d.old at result d.new }
 {
     if hi <= lo {
-        return Folded::Done(at);
+        return Ok(at);
     }
     let mid = cells::start(s, hi);
-    match fold_parts(text, s, lo, mid, d, at) {
-        Folded::Done(m) => fold_part(text, s, mid, hi, d, m),
-        Folded::Refused(number, place) => Folded::Refused(number, place),
-    }
+    let m = fold_parts(text, s, lo, mid, d, at)?;
+    fold_part(text, s, mid, hi, d, m)
 }
 
 // One part: an expression, or the expressions below the cell of an Item, a Key or a Row.
 #[cycle(fold_expressions_fold_part_fold_parts)]
-fn fold_part(text: &[u8], s: &[u32], lo: usize, hi: usize, d: &mut [u32], at: usize) -> Folded
+fn fold_part(
+    text: &[u8],
+    s: &[u32],
+    lo: usize,
+    hi: usize,
+    d: &mut [u32],
+    at: usize,
+) -> Result<usize, Failure>
     requires part_at { PartAt text.now s.now lo hi }
     requires lo_in_bounds { (at + (hi - lo) ≤ length d.old) × Short d.old }
     ensures { FoldsPart text.now s.now lo hi d.old at result d.new }
@@ -46,10 +58,8 @@ fn fold_part(text: &[u8], s: &[u32], lo: usize, hi: usize, d: &mut [u32], at: us
     if cells::tag_at(s, hi) < tags::PARTS {
         return folding::fold_expression(text, s, lo, hi, d, at, number(lo));
     }
-    match fold_expressions(text, s, lo, hi - cells::CELL_WORDS, d, at) {
-        Folded::Done(n) => Folded::Done(cells::put(d, at, n, cells::cell_at(s, hi))),
-        Folded::Refused(number, place) => Folded::Refused(number, place),
-    }
+    let n = fold_expressions(text, s, lo, hi - cells::CELL_WORDS, d, at)?;
+    Ok(cells::put(d, at, n, cells::cell_at(s, hi)))
 }
 
 // The expressions from lo to end, where the cell over them starts. An Item and a Key have one, which needs no walk through a list.
@@ -61,13 +71,13 @@ fn fold_expressions(
     end: usize,
     d: &mut [u32],
     at: usize,
-) -> Folded
+) -> Result<usize, Failure>
     requires parts_at { PartsAt text.now s.now lo end × (lo < end → tag_at s.now end < 40) }
     requires lo_in_bounds { (at + (end - lo) ≤ length d.old) × Short d.old }
     ensures { FoldsParts text.now s.now lo end d.old at result d.new }
 {
     if end <= lo {
-        return Folded::Done(at);
+        return Ok(at);
     }
     if cells::start(s, end) == lo {
         return folding::fold_expression(text, s, lo, end, d, at, number(lo));
@@ -75,26 +85,20 @@ fn fold_expressions(
     fold_parts(text, s, lo, end, d, at)
 }
 
-// Whether the own expressions of a node are visited, 1 or 0: those of 51 Filter, 56 NestedLoopJoin, 59 Order, 60 Projection, 62 Scan and 63 Values are.
-// A table would be written to the stack, and this is met in the frame of each node.
-fn is_visited(s: &[u32], lo: usize, hi: usize) -> usize
+// Whether the own expressions of a node are visited.
+fn is_visited(s: &[u32], lo: usize, hi: usize) -> bool
     requires { NodeAt s.now lo hi }
     ensures { Visits s.now lo hi result }
 {
-    let tag = cells::tag_at(s, hi);
-    if tag == tags::FILTER {
-        return 1;
-    }
-    if tag == tags::NESTED_LOOP_JOIN {
-        return 1;
-    }
-    if tag < tags::ORDER {
-        return 0;
-    }
-    if tag == tags::REMAP {
-        return 0;
-    }
-    1
+    matches!(
+        cells::tag_at(s, hi),
+        tags::FILTER
+            | tags::NESTED_LOOP_JOIN
+            | tags::ORDER
+            | tags::PROJECTION
+            | tags::SCAN
+            | tags::VALUES
+    )
 }
 
 // The own parts, from word m on, of the node from lo to hi. Those that aren't visited are copied.
@@ -106,13 +110,13 @@ pub fn fold_own(
     d: &mut [u32],
     at: usize,
     m: usize,
-) -> Folded
+) -> Result<usize, Failure>
     requires own_at { OwnAt text.now s.now lo hi m }
     requires m_in_bounds { (at + (hi - m) ≤ length d.old) × Short d.old }
     ensures { FoldsOwn text.now s.now lo hi d.old at m result d.new }
 {
-    if is_visited(s, lo, hi) == 1 {
+    if is_visited(s, lo, hi) {
         return fold_parts(text, s, m, hi - cells::CELL_WORDS, d, at);
     }
-    Folded::Done(cells::copy(s, m, hi - cells::CELL_WORDS, d, at))
+    Ok(cells::copy(s, m, hi - cells::CELL_WORDS, d, at))
 }

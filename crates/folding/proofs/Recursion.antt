@@ -1,4 +1,5 @@
 -- What the recursion leaves, from what its calls have.
+use Rattle.std.specs.Prelude.{Ok, Err}
 use Prim.Native.Nat.{ℕ, ◌+◌, ◌-◌, ◌*◌, ◌≤◌, ◌<◌}
 use native.Mathlib.Omega.{arith}
 use mathlib.Core.Path.{◌≡◌, refl, sym, ap, ◌∙◌, subst}
@@ -21,10 +22,9 @@ use Rattle.words.proofs.Expressions.{by_leaf, by_unary, by_binary, root_is, root
 use Rattle.words.proofs.Expressions as expressions
 use Rattle.words.proofs.Writing.{sealed}
 use Rattle.words.proofs.Sizes.{expression_long}
-use Rattle.fold_operator.specs.declared.Folded.{Folded}
-use Rattle.fold_operator.specs.declared.Folded.TheVariants as Folded
+use Rattle.fold_operator.specs.declared.Failure.{Failure}
+use Rattle.fold_operator.specs.Left.{Folded, Appended, Leaves, Settled, SettledAt}
 use Rattle.evaluate.specs.Evaluate.{UnaryTag, BinaryTag}
-use Rattle.fold_operator.specs.Left.{Appended, Leaves, Settled, SettledAt}
 use Rattle.folding.specs.Folding.{Counts, Foldable, FoldableAt, Folds, RightAt, FoldsRight}
 use Rattle.fold_operator.specs.Steps.{OperandOf, Neutral, UnaryAt, FoldsUnary, BinaryAt, FoldsBinary, OperandAt, FoldsNeutral}
 use Rattle.fold_operator.proofs.Parts.{appended, appended_part, before_stays, here_in, here_kept, leaves_moved, leaves_refused, leaves_done, leaves_words}
@@ -88,11 +88,6 @@ module _ {text s : List ℕ} {lo hi c : ℕ} where
 
 -- ---- what an operand has folded to
 
--- the answer of a call, by its case
-pub as_answer : (first : ℕ) {text s : List ℕ} {lo hi : ℕ} {d : List ℕ} {at : ℕ} {r q : Folded} {d' : List ℕ} → r ≡ q
-    → Folds text first s lo hi d at r d' → Folds text first s lo hi d at q d'
-as_answer first {d = d} {at} {d' = d'} h g e f = subst (λ (x : Folded). Leaves d at (fold_expression first e) x d') h (g e f)
-
 pub record ResultAt (text d : List ℕ) (at room n : ℕ) (d₁ : List ℕ) : Type 0 where
   pub stands : SettledAt text d₁ at n
   pub within : n ≤ at + room
@@ -108,11 +103,11 @@ module _ {text s : List ℕ} {lo hi : ℕ} (first : ℕ) {d : List ℕ} {at m : 
       let i = expression_long y in
       ((record { part = appended_part a (omega arith) }, answer_is (Settled text) (fold_expression first e) y (expression_settled text first e f.fits) h), omega (arith, a.ends))
 
-  pub result_at : FoldableAt text s lo hi → Folds text first s lo hi d at (Folded.Done m) d₁ → at + (hi - lo) ≤ length d → length d₁ ≡ length d
+  pub result_at : FoldableAt text s lo hi → Folds text first s lo hi d at (Ok m) d₁ → at + (hi - lo) ≤ length d → length d₁ ≡ length d
       → ResultAt text d at (hi - lo) m d₁
   result_at t g room long = go (fold_expression first t.e) refl (g t.e t.foldable)
     where
-      go : (a : Answer Expression) → fold_expression first t.e ≡ a → Leaves d at a (Folded.Done m) d₁ → ResultAt text d at (hi - lo) m d₁
+      go : (a : Answer Expression) → fold_expression first t.e ≡ a → Leaves d at a (Ok m) d₁ → ResultAt text d at (hi - lo) m d₁
       go (done y) e h = let ((u, s), w) = result_here t.e y t.foldable e h.left room long in
           record { stands = record { y = y; here = u; settled = s }; within = w; before = before_stays h.left (omega arith) }
       go (refused j p) e h = absurd h.left
@@ -121,22 +116,22 @@ module _ {text s : List ℕ} {lo hi : ℕ} (first : ℕ) {d : List ℕ} {at m : 
 
 module _ {text s : List ℕ} {lo hi : ℕ} (first : ℕ) {d : List ℕ} {at : ℕ} where
   pub folds_leaf : {k : Cell} {n : ℕ} {d' : List ℕ} → k ≡ cell_at s hi → tag_at s hi < 10 → at + (hi - lo) ≤ length d → Short d → Seals d at at k n d'
-      → Folds text first s lo hi d at (Folded.Done n) d'
+      → Folds text first s lo hi d at (Ok n) d'
   unfolding expression_words
-  folds_leaf {k} {n} {d'} q h room few w e f = by_leaf (λ e. ExpressionHere s lo hi e → Leaves d at (fold_expression first e) (Folded.Done n) d')
+  folds_leaf {k} {n} {d'} q h room few w e f = by_leaf (λ e. ExpressionHere s lo hi e → Leaves d at (fold_expression first e) (Ok n) d')
       (λ og v u. leaves_words (appended (sealed (constant og v) u q refl (nothing d at) w) few (omega (arith, here_long (constant og v) u))))
       (λ og i u. leaves_words (appended (sealed (column og i) u q refl (nothing d at) w) few (omega (arith, here_long (column og i) u))))
       e (omega (arith, root_tag e f.here)) f.here
 
-  pub unary_refused : {j p : ℕ} {d' : List ℕ} → 30 ≤ tag_at s hi → Folds text first s lo (hi - cell_words) d at (Folded.Refused j p) d'
-      → Folds text first s lo hi d at (Folded.Refused j p) d'
-  unary_refused {j} {p} {d'} h g e f = by_unary (λ e. Foldable text s lo hi e → Leaves d at (fold_expression first e) (Folded.Refused j p) d')
+  pub unary_refused : {why : Failure} {d' : List ℕ} → 30 ≤ tag_at s hi → Folds text first s lo (hi - cell_words) d at (Err why) d'
+      → Folds text first s lo hi d at (Err why) d'
+  unary_refused {why} {d'} h g e f = by_unary (λ e. Foldable text s lo hi e → Leaves d at (fold_expression first e) (Err why) d')
       (λ og o x f. leaves_refused (fold_expression first x) (λ y. fold (first + size x) (unary og o y)) (g x (foldable_operand og o x f)))
       e (omega (arith, root_tag e f.here)) f
 
   -- what fold_unary asks
   pub unary_ready : {n tag_of : ℕ} {d₁ : List ℕ} → 30 ≤ tag_at s hi → tag_of ≡ tag_at s hi → FoldableAt text s lo hi → at + (hi - lo) ≤ length d → Short d → length d₁ ≡ length d
-      → Folds text first s lo (hi - cell_words) d at (Folded.Done n) d₁ → UnaryAt d₁ at n tag_of
+      → Folds text first s lo (hi - cell_words) d at (Ok n) d₁ → UnaryAt d₁ at n tag_of
   unary_ready {n} {tag_of} {d₁} h oe t room few long g =
       let (b₁, b₂) = foldable_in t in
       let (b₃, b₄) = foldable_in (operand_at h t) in
@@ -144,7 +139,7 @@ module _ {text s : List ℕ} {lo hi : ℕ} (first : ℕ) {d : List ℕ} {at : �
       record { text = text; short = t.short; operator = subst UnaryTag (sym oe) (unary_of h t); operand = q.stands; few = omega arith; room = omega (arith, q.within) }
 
   pub unary_done : {c n tag_of og_of : ℕ} {d₁ : List ℕ} {answer : Folded} {d₂ : List ℕ} → 30 ≤ tag_at s hi → tag_of ≡ tag_at s hi → og_of ≡ origin_at s hi → Counts lo (hi - cell_words) c → at + (hi - lo) ≤ length d → Short d → length d₁ ≡ length d
-      → Folds text first s lo (hi - cell_words) d at (Folded.Done n) d₁ → FoldsUnary d₁ at n tag_of (first + c) og_of answer d₂
+      → Folds text first s lo (hi - cell_words) d at (Ok n) d₁ → FoldsUnary d₁ at n tag_of (first + c) og_of answer d₂
       → Folds text first s lo hi d at answer d₂
   unary_done {c} {n} {tag_of} {og_of} {d₁} {answer} {d₂} h oe ge k room few long g w e f = by_unary (λ e. Foldable text s lo hi e → Leaves d at (fold_expression first e) answer d₂)
       (λ og o x f. let i = foldable_operand og o x f in
@@ -159,13 +154,13 @@ module _ {text s : List ℕ} {lo hi : ℕ} (first : ℕ) {d : List ℕ} {at : �
       e (omega (arith, root_tag e f.here)) f
 
   module _ {mid : ℕ} (st : mid ≡ start_at s (hi - cell_words)) (h : 10 ≤ tag_at s hi) (k : tag_at s hi < 30) where
-    pub left_refused : {j p : ℕ} {d' : List ℕ} → Folds text first s lo mid d at (Folded.Refused j p) d' → Folds text first s lo hi d at (Folded.Refused j p) d'
-    left_refused {j} {p} {d'} g e f = by_binary (λ e. Foldable text s lo hi e → Leaves d at (fold_expression first e) (Folded.Refused j p) d')
+    pub left_refused : {why : Failure} {d' : List ℕ} → Folds text first s lo mid d at (Err why) d' → Folds text first s lo hi d at (Err why) d'
+    left_refused {why} {d'} g e f = by_binary (λ e. Foldable text s lo hi e → Leaves d at (fold_expression first e) (Err why) d')
         (λ og o l r f. leaves_refused (fold_expression first l) (λ x. fold_expression (first + size l) r >>= λ y. fold (first + (size l + size r)) (binary og o x y)) (g l (foldable_left st og o l r f)))
         e (omega (arith, root_tag e f.here)) (omega (arith, root_tag e f.here)) f
 
     pub right_ready : {m : ℕ} {d₁ : List ℕ} → FoldableAt text s lo hi → at + (hi - lo) ≤ length d → (first ≤ lo) × Short d → length d₁ ≡ length d
-        → Folds text first s lo mid d at (Folded.Done m) d₁ → RightAt text s lo hi d₁ at first mid m
+        → Folds text first s lo mid d at (Ok m) d₁ → RightAt text s lo hi d₁ at first mid m
     right_ready t room (numbered, few) long g =
         let (b₁, b₂) = foldable_in (left_at st h k t) in
         let (b₃, b₄) = foldable_in (right_at st h k t) in
@@ -173,7 +168,7 @@ module _ {text s : List ℕ} {lo hi : ℕ} (first : ℕ) {d : List ℕ} {at : �
         record { operator = t; low_tag = h; high_tag = k; starts = st; left = q.stands; room = omega (arith, q.within); few = omega arith; numbered = numbered }
 
     pub left_done : {m : ℕ} {d₁ : List ℕ} {answer : Folded} {d₂ : List ℕ} → at + (hi - lo) ≤ length d → length d₁ ≡ length d
-        → Folds text first s lo mid d at (Folded.Done m) d₁ → FoldsRight text s lo hi d₁ at first mid m answer d₂ → Folds text first s lo hi d at answer d₂
+        → Folds text first s lo mid d at (Ok m) d₁ → FoldsRight text s lo hi d₁ at first mid m answer d₂ → Folds text first s lo hi d at answer d₂
     left_done {m} {d₁} {answer} {d₂} room long g w e f = by_binary (λ e. Foldable text s lo hi e → Leaves d at (fold_expression first e) answer d₂)
         (λ og o l r f. let i = foldable_left st og o l r f in
         let (b, t) = expressions.here_in l i.here in
@@ -194,15 +189,15 @@ module _ {text s : List ℕ} {lo hi : ℕ} {d : List ℕ} {at first mid m : ℕ}
       let j = here_long r (here_right t.starts og o l r f.here) in
       (kc (size l) i, kb (size l + size r) (omega arith))
 
-  pub right_refused : {at₁ j p : ℕ} {d₁ : List ℕ} → Folds text (first + c) s mid (hi - cell_words) d at₁ (Folded.Refused j p) d₁ → FoldsRight text s lo hi d at first mid m (Folded.Refused j p) d₁
-  right_refused {at₁} {j} {p} {d₁} g og o l r x f u s =
+  pub right_refused : {at₁ : ℕ} {why : Failure} {d₁ : List ℕ} → Folds text (first + c) s mid (hi - cell_words) d at₁ (Err why) d₁ → FoldsRight text s lo hi d at first mid m (Err why) d₁
+  right_refused {at₁} {why} {d₁} g og o l r x f u s =
       let (e₁, e₂) = numbers og o l r f in
       leaves_refused (fold_expression (first + size l) r) (λ y. fold (first + (size l + size r)) (binary og o x y))
-      (subst (λ (n : ℕ). Leaves d at₁ (fold_expression (first + n) r) (Folded.Refused j p) d₁) e₁ (g r (foldable_right t.starts og o l r f)))
+      (subst (λ (n : ℕ). Leaves d at₁ (fold_expression (first + n) r) (Err why) d₁) e₁ (g r (foldable_right t.starts og o l r f)))
 
   -- the right operand in the place of a neutral left one
   pub right_alone : {tag_of og_of : ℕ} {k : Cell} {q : Bool} {n : ℕ} {d₁ : List ℕ} {answer : Folded} {d₂ : List ℕ} → tag_of ≡ tag_at s hi → og_of ≡ origin_at s hi → k ≡ cell_at d m → Neutral tag_of k q → q ≡ true → length d₁ ≡ length d
-      → Folds text (first + c) s mid (hi - cell_words) d at (Folded.Done n) d₁ → FoldsNeutral d₁ at n (first + b) og_of answer d₂ → FoldsRight text s lo hi d at first mid m answer d₂
+      → Folds text (first + c) s mid (hi - cell_words) d at (Ok n) d₁ → FoldsNeutral d₁ at n (first + b) og_of answer d₂ → FoldsRight text s lo hi d at first mid m answer d₂
   right_alone {tag_of} {og_of} {k} {q} {n} {d₁} {answer} {d₂} oe ge ke z qe long g w og o l r x f u sx =
       let (e₁, e₂) = numbers og o l r f in
       let i = foldable_right t.starts og o l r f in
@@ -210,7 +205,7 @@ module _ {text s : List ℕ} {lo hi : ℕ} {d : List ℕ} {at first mid m : ℕ}
       let (h₃, h₄) = expressions.here_in r i.here in
       let room = t.room in
       leaves_done (fold_expression (first + size l) r) (λ y. fold (first + (size l + size r)) (binary og o x y))
-      (subst (λ (j : ℕ). Leaves d at (fold_expression (first + j) r) (Folded.Done n) d₁) e₁ (g r i))
+      (subst (λ (j : ℕ). Leaves d at (fold_expression (first + j) r) (Ok n) d₁) e₁ (g r i))
       (λ y e a. let ((v, sy), h₅) = result_here (first + size l) r y i e a (omega arith) long in
       leaves_moved (before_stays a (omega arith))
       (subst (λ (j : ℕ). Leaves d₁ at (fold (first + j) (binary og o x y)) answer d₂) e₂
@@ -218,7 +213,7 @@ module _ {text s : List ℕ} {lo hi : ℕ} {d : List ℕ} {at first mid m : ℕ}
       (w text o x y (sym (z o x (sym (oe ∙ root_tag (binary og o l r) f.here)) (ke ∙ root_is x u)) ∙ qe) v sy))))
 
   pub right_done : {tag_of og_of : ℕ} {k : Cell} {q : Bool} {n : ℕ} {d₁ : List ℕ} {answer : Folded} {d₂ : List ℕ} → tag_of ≡ tag_at s hi → og_of ≡ origin_at s hi → k ≡ cell_at d m → Neutral tag_of k q → q ≡ false → length d₁ ≡ length d
-      → Folds text (first + c) s mid (hi - cell_words) d m (Folded.Done n) d₁ → FoldsBinary text d₁ at m n tag_of (first + b) og_of answer d₂
+      → Folds text (first + c) s mid (hi - cell_words) d m (Ok n) d₁ → FoldsBinary text d₁ at m n tag_of (first + b) og_of answer d₂
       → FoldsRight text s lo hi d at first mid m answer d₂
   right_done {tag_of} {og_of} {k} {q} {n} {d₁} {answer} {d₂} oe ge ke z qe long g w og o l r x f u sx =
       let (e₁, e₂) = numbers og o l r f in
@@ -229,7 +224,7 @@ module _ {text s : List ℕ} {lo hi : ℕ} {d : List ℕ} {at first mid m : ℕ}
       let few = t.few in
       let tag_is = sym (oe ∙ root_tag (binary og o l r) f.here) in
       leaves_done (fold_expression (first + size l) r) (λ y. fold (first + (size l + size r)) (binary og o x y))
-      (subst (λ (j : ℕ). Leaves d m (fold_expression (first + j) r) (Folded.Done n) d₁) e₁ (g r i))
+      (subst (λ (j : ℕ). Leaves d m (fold_expression (first + j) r) (Ok n) d₁) e₁ (g r i))
       (λ y e a. let ((v, sy), h₅) = result_here (first + size l) r y i e a (omega arith) long in
       let kept = before_stays a h₂ in
       leaves_moved (sym (take-take at m d₁ h₁) ∙ (ap (take at) kept ∙ take-take at m d h₁))
@@ -250,7 +245,7 @@ module _ {text s : List ℕ} {lo hi : ℕ} {d : List ℕ} {at first mid m : ℕ}
   left_in = expressions.here_in t.left.y t.left.here
 
   -- the right operand's result, wherever it was written
-  pub right_result : {n at₁ : ℕ} {d₁ : List ℕ} (next : ℕ) → at₁ ≤ m → length d₁ ≡ length d → Folds text next s mid (hi - cell_words) d at₁ (Folded.Done n) d₁
+  pub right_result : {n at₁ : ℕ} {d₁ : List ℕ} (next : ℕ) → at₁ ≤ m → length d₁ ≡ length d → Folds text next s mid (hi - cell_words) d at₁ (Ok n) d₁
       → ResultAt text d at₁ (hi - cell_words - mid) n d₁
   right_result next h long g = let (h₁, h₂) = foldable_in the_right in let room = t.room in result_at next the_right g (omega arith) long
 
@@ -261,11 +256,11 @@ module _ {text s : List ℕ} {lo hi : ℕ} {d : List ℕ} {at first mid m : ℕ}
   pub left_operand : {tag_of : ℕ} {k : Cell} → tag_of ≡ tag_at s hi → k ≡ cell_at d m → OperandOf tag_of k
   left_operand oe ke = record { operator = the_operator oe; e = t.left.y; is = ke ∙ root_is t.left.y t.left.here }
 
-  pub neutral_ready : {n at₁ : ℕ} {d₁ : List ℕ} (next : ℕ) → at₁ ≤ m → length d₁ ≡ length d → Folds text next s mid (hi - cell_words) d at₁ (Folded.Done n) d₁ → OperandAt d₁ at₁ n
+  pub neutral_ready : {n at₁ : ℕ} {d₁ : List ℕ} (next : ℕ) → at₁ ≤ m → length d₁ ≡ length d → Folds text next s mid (hi - cell_words) d at₁ (Ok n) d₁ → OperandAt d₁ at₁ n
   neutral_ready next h long g = let few = t.few in record { text = text; operand = (right_result next h long g).stands; few = omega arith }
 
   pub binary_ready : {n tag_of : ℕ} {k : Cell} {q : Bool} {d₁ : List ℕ} (next : ℕ) → (oe : tag_of ≡ tag_at s hi) → (ke : k ≡ cell_at d m) → Neutral tag_of k q → q ≡ false → length d₁ ≡ length d
-      → Folds text next s mid (hi - cell_words) d m (Folded.Done n) d₁ → BinaryAt text d₁ at m n tag_of
+      → Folds text next s mid (hi - cell_words) d m (Ok n) d₁ → BinaryAt text d₁ at m n tag_of
   binary_ready next oe ke z qe long g =
       let v = right_result next (omega arith) long g in
       let o = the_operator oe in

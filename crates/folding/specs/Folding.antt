@@ -6,8 +6,7 @@ use Rattle.sql.specs.Optimizer.{fold, fold_expression}
 use Rattle.cells.specs.Cells.{cell_words, tag_at, start_at}
 use Rattle.cells.specs.Room.{Short}
 use Rattle.words.specs.Place.{ExpressionHere}
-use Rattle.fold_operator.specs.declared.Folded.{Folded}
-use Rattle.fold_operator.specs.Left.{ConstantsFit, Settled, SettledAt, Leaves}
+use Rattle.fold_operator.specs.Left.{Folded, ConstantsFit, Settled, SettledAt, Leaves}
 use Rattle.sheet.specs.Tags
 
 -- e stands in s from word lo up to hi, and its constants fit.

@@ -5,7 +5,7 @@ ghost use Rattle.std.specs.Prelude.{ℕ, ◌+◌, ◌-◌, ◌≤◌, ◌<◌, �
 ghost use Rattle.cells.specs.Room.{Short};
 ghost use Rattle.folding.specs.Folding.{Counts, FoldableAt, Folds, RightAt, FoldsRight};
 
-use fold_operator::Folded;
+use fold_operator::Failure;
 
 // The number of cells from word lo up to hi.
 fn count(lo: usize, hi: usize) -> usize
@@ -26,29 +26,23 @@ pub fn fold_expression(
     d: &mut [u32],
     at: usize,
     first: usize,
-) -> Folded
+) -> Result<usize, Failure>
     requires foldable_at { FoldableAt text.now s.now lo hi }
     requires lo_in_bounds { (at + (hi - lo) ≤ length d.old) × ((first ≤ lo) × Short d.old) }
     ensures { Folds text.now first s.now lo hi d.old at result d.new }
 {
     let k = cells::cell_at(s, hi);
     if k.tag < tags::BINARY {
-        return Folded::Done(cells::put(d, at, at, k));
+        return Ok(cells::put(d, at, at, k));
     }
     let end = hi - cells::CELL_WORDS;
     if tags::UNARY <= k.tag {
-        return match fold_operand(text, s, lo, end, d, at, first) {
-            Folded::Done(n) => {
-                fold_operator::fold_unary(d, at, n, k.tag, first + count(lo, end), k.origin)
-            }
-            Folded::Refused(number, place) => Folded::Refused(number, place),
-        };
+        let n = fold_operand(text, s, lo, end, d, at, first)?;
+        return fold_operator::fold_unary(d, at, n, k.tag, first + count(lo, end), k.origin);
     }
     let mid = cells::start(s, end);
-    match fold_operand(text, s, lo, mid, d, at, first) {
-        Folded::Done(m) => fold_right(text, s, lo, hi, d, at, first, mid, m),
-        Folded::Refused(number, place) => Folded::Refused(number, place),
-    }
+    let m = fold_operand(text, s, lo, mid, d, at, first)?;
+    fold_right(text, s, lo, hi, d, at, first, mid, m)
 }
 
 // An operand of an operator, from lo to hi. Half of all operands are leaves, which need no call of fold_expression (LLVM puts this function into its
@@ -62,14 +56,14 @@ fn fold_operand(
     d: &mut [u32],
     at: usize,
     first: usize,
-) -> Folded
+) -> Result<usize, Failure>
     requires foldable_at { FoldableAt text.now s.now lo hi }
     requires lo_in_bounds { (at + (hi - lo) ≤ length d.old) × ((first ≤ lo) × Short d.old) }
     ensures { Folds text.now first s.now lo hi d.old at result d.new }
 {
     let k = cells::cell_at(s, hi);
     if k.tag < tags::BINARY {
-        return Folded::Done(cells::put(d, at, at, k));
+        return Ok(cells::put(d, at, at, k));
     }
     fold_expression(text, s, lo, hi, d, at, first)
 }
@@ -87,7 +81,7 @@ fn fold_right(
     first: usize,
     mid: usize,
     m: usize,
-) -> Folded
+) -> Result<usize, Failure>
     requires { RightAt text.now s.now lo hi d.old at first mid m }
     ensures { FoldsRight text.now s.now lo hi d.old at first mid m result d.new }
 {
@@ -97,13 +91,9 @@ fn fold_right(
     let next = first + count(lo, mid);
     let place = first + count(lo, end);
     if fold_operator::is_neutral(o, cells::cell_at(d, m)) {
-        return match fold_operand(text, s, mid, end, d, at, next) {
-            Folded::Done(n) => fold_operator::fold_neutral(d, at, n, place, origin),
-            Folded::Refused(number, p) => Folded::Refused(number, p),
-        };
+        let n = fold_operand(text, s, mid, end, d, at, next)?;
+        return fold_operator::fold_neutral(d, at, n, place, origin);
     }
-    match fold_operand(text, s, mid, end, d, m, next) {
-        Folded::Done(n) => fold_operator::fold_binary(text, d, at, m, n, o, place, origin),
-        Folded::Refused(number, p) => Folded::Refused(number, p),
-    }
+    let n = fold_operand(text, s, mid, end, d, m, next)?;
+    fold_operator::fold_binary(text, d, at, m, n, o, place, origin)
 }

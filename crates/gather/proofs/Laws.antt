@@ -1,23 +1,25 @@
 -- Laws on stretches of bytes: their first eight bytes, and how two of them are compared.
 -- Assumes nothing.
-use Prim.Native.Nat.{ℕ, zero, suc, ◌+◌, ◌-◌, ◌*◌, ◌/◌, ◌%◌, ◌≤◌, ◌<◌}
+use Prim.Native.Nat.{ℕ, ◌+◌, ◌-◌, ◌*◌, ◌≤◌, ◌<◌}
 use native.Mathlib.Omega.{arith}
-use borrow.Author.Tests.{eq-eqb, ne_eqb}
-use mathlib.Core.Path.{◌≡◌, refl, sym, ap, ap₂, ◌∙◌, subst}
+use borrow.Author.Tests.{ltb-true, ltb-false, eq-eqb}
+use mathlib.Core.Path.{◌≡◌, refl, sym, ap, ap₂, ◌∙◌}
 use mathlib.Core.Logic.{◌≢◌}
 use mathlib.Core.Bool.{Bool, true, false, ◌&&◌}
 use mathlib.Core.List.{List, [], ◌∷◌, ◌++◌}
-use lib.Dec.{eqb}
-use lib.ListN.{length, take, drop, get_or, length-take, length-drop, get_or-eq_default}
-use lib.Seq.{get_or-take, get_or-drop, take-append-add, take-suc}
-use Rattle.value.specs.Meaning.{bytes_at}
+use lib.Dec.{eqb, ltb}
+use lib.Pointwise.{pointwise}
+use Rattle.std.specs.Int.{w64, from_le_bytes}
+use Prim.Native.Nat.{min}
+use lib.ListN.{replicate, get_or-append, get_or-replicate, length, take, drop, get_or, length-take, length-drop, get_or-eq_default}
+use lib.Seq.{get_or-append-add, get_or-take, get_or-drop, take-append-add}
 use Rattle.sheet.specs.Bytes.{byte, word, bytes}
 use Rattle.sheet_laws.specs.Fits.{Word}
 use Rattle.sheet_laws.specs.Plan.{Bytes}
 use Rattle.sheet_laws.proofs.Plan.{word_bound}
-use Rattle.sheet_laws.specs.Bytes.{next, word_next}
+use Rattle.sheet_laws.specs.Bytes.{word_next}
 use Rattle.compact.specs.Strings.{same}
-use Rattle.compact.proofs.StringLaws.{same_true, same_self}
+use Rattle.compact.proofs.StringLaws.{same_true}
 use Rattle.gather.specs.Gather.{stretch, eight, mark_of, Begins}
 
 -- ---- a byte of a stretch
@@ -31,9 +33,37 @@ byte_in s at n i h = sym (get_or-take n (drop at s) i 0 h ∙ get_or-drop at s i
 pub byte_behind : (s : List ℕ) (at n i : ℕ) → at + n ≤ length s → n ≤ i → 0 ≡ byte (stretch s at n) i
 byte_behind s at n i h l = sym (get_or-eq_default (stretch s at n) 0 (omega (arith, length_stretch s at n h)))
 
-pub word_is : (t : List ℕ) (i : ℕ) {a b c d : ℕ} → a ≡ byte t i → b ≡ byte t (i + 1) → c ≡ byte t (i + 2) → d ≡ byte t (i + 3) → a + 256 * b + 65536 * c + 16777216 * d ≡ word t i
+-- Eight bytes as one number, if they are those that a string begins with, and zeros behind it.
+pub mark_is : (t w : List ℕ) → ((i : ℕ) → i < 8 → get_or w i 0 ≡ byte t i) → from_le_bytes w64 w ≡ mark_of t
 unfolding word
-word_is t i p q r u = cc
+mark_is t w h =
+    let b0 = h 0 (omega arith) in
+    let b1 = h 1 (omega arith) in
+    let b2 = h 2 (omega arith) in
+    let b3 = h 3 (omega arith) in
+    let b4 = h 4 (omega arith) in
+    let b5 = h 5 (omega arith) in
+    let b6 = h 6 (omega arith) in
+    let b7 = h 7 (omega arith) in
+    omega arith
+
+pub front_is : (s : List ℕ) (at n k : ℕ) (front : List ℕ) → at + n ≤ length s → k ≡ min n 8 → front ≡ take k (drop at s) → (i : ℕ) → i < 8
+    → get_or (front ++ drop k (replicate 8 0)) i 0 ≡ byte (stretch s at n) i
+front_is s at n k front h e f i l = go (ltb i k) refl
+  where
+    long : length front ≡ k
+    long = ap length f ∙ omega (arith, length-take k (drop at s), length-drop at s)
+
+    go : (b : Bool) → ltb i k ≡ b → get_or (front ++ drop k (replicate 8 0)) i 0 ≡ byte (stretch s at n) i
+    go true t =
+        let m = ltb-true i k t in
+        get_or-append front (drop k (replicate 8 0)) 0 i (omega (arith, long))
+        ∙ (ap (λ (x : List ℕ). get_or x i 0) f ∙ (get_or-take k (drop at s) i 0 m ∙ sym (get_or-take n (drop at s) i 0 (omega arith))))
+    go false t =
+        let m = ltb-false i k t in
+        let same_place : i ≡ length front + (i - k) = omega (arith, long) in
+        ap (λ (j : ℕ). get_or (front ++ drop k (replicate 8 0)) j 0) same_place
+        ∙ (get_or-append-add front (drop k (replicate 8 0)) (i - k) 0 ∙ (get_or-drop k (replicate 8 0) (i - k) 0 ∙ (get_or-replicate 8 (k + (i - k)) 0 0 (omega arith) ∙ byte_behind s at n i h (omega arith))))
 
 -- ---- comparing
 
@@ -85,37 +115,20 @@ rest_eight s bs a b n i h k l r e =
           ∙ ap₂ (λ (x y : ℕ). same (stretch s x m) (stretch s y m)) pe qe;
     }
 
--- one byte
-stretch_cons : (s : List ℕ) (at m : ℕ) → at < length s → stretch s at (suc m) ≡ byte s at ∷ stretch s (at + 1) m
-stretch_cons s at m h = ap (take (suc m)) (next s at (at + 1) refl h)
+-- The library compares byte by byte.
+pointwise_same : (xs ys : List ℕ) → pointwise eqb xs ys ≡ same xs ys
+pointwise_same [] [] = refl
+pointwise_same [] (y ∷ ys) = refl
+pointwise_same (x ∷ xs) [] = refl
+pointwise_same (x ∷ xs) (y ∷ ys) = ap (λ (t : Bool). eqb x y && t) (pointwise_same xs ys)
 
-pub rest_one : (s : List ℕ) (a b n i : ℕ) → a + n ≤ length s → b + n ≤ length s → i < n → Rest s a b n i → byte s (a + i) ≡ byte s (b + i) → Rest s a b n (i + 1)
-rest_one s a b n i h k l r e =
-    let m = n - (i + 1) in
-    let split : n - i ≡ suc m = omega arith in
-    let pe : a + i + 1 ≡ a + (i + 1) = omega arith in
-    let qe : b + i + 1 ≡ b + (i + 1) = omega arith in
-    record {
-      within = omega arith;
-      is = r.is ∙ ap (λ (j : ℕ). same (stretch s (a + i) j) (stretch s (b + i) j)) split
-          ∙ ap₂ same (stretch_cons s (a + i) m (omega arith)) (stretch_cons s (b + i) m (omega arith))
-          ∙ ap (λ (t : Bool). t && same (stretch s (a + i + 1) m) (stretch s (b + i + 1) m)) (eq-eqb (byte s (a + i)) (byte s (b + i)) e)
-          ∙ ap₂ (λ (x y : ℕ). same (stretch s x m) (stretch s y m)) pe qe;
-    }
-
-pub rest_differs : (s : List ℕ) (a b n i : ℕ) → a + n ≤ length s → b + n ≤ length s → i < n → Rest s a b n i → byte s (a + i) ≢ byte s (b + i)
-    → false ≡ same (stretch s a n) (stretch s b n)
-rest_differs s a b n i h k l r e =
-    let m = n - (i + 1) in
-    let split : n - i ≡ suc m = omega arith in
-    sym (r.is ∙ ap (λ (j : ℕ). same (stretch s (a + i) j) (stretch s (b + i) j)) split
-    ∙ ap₂ same (stretch_cons s (a + i) m (omega arith)) (stretch_cons s (b + i) m (omega arith))
-    ∙ ap (λ (t : Bool). t && same (stretch s (a + i + 1) m) (stretch s (b + i + 1) m)) (ne_eqb (byte s (a + i)) (byte s (b + i)) e))
-
-pub rest_done : (s : List ℕ) (a b n i : ℕ) → n ≤ i → Rest s a b n i → true ≡ same (stretch s a n) (stretch s b n)
-rest_done s a b n i h r =
-    let z : n - i ≡ 0 = omega arith in
-    sym (r.is ∙ ap (λ (j : ℕ). same (stretch s (a + i) j) (stretch s (b + i) j)) z)
+pub rest_same : (s : List ℕ) (a b n i : ℕ) → Rest s a b n i
+    → pointwise eqb (take (a + n - (a + i)) (drop (a + i) s)) (take (b + n - (b + i)) (drop (b + i) s)) ≡ same (stretch s a n) (stretch s b n)
+rest_same s a b n i r =
+    let p : a + n - (a + i) ≡ n - i = omega arith in
+    let q : b + n - (b + i) ≡ n - i = omega arith in
+    pointwise_same (take (a + n - (a + i)) (drop (a + i) s)) (take (b + n - (b + i)) (drop (b + i) s))
+    ∙ ap₂ (λ (x y : ℕ). same (stretch s (a + i) x) (stretch s (b + i) y)) p q ∙ sym r.is
 
 -- ---- strings that differ
 

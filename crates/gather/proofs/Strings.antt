@@ -1,49 +1,55 @@
 -- Laws on the strings that are held: where one is found, and what one more reference leads to.
 -- Assumes nothing.
-use Prim.Native.Nat.{ℕ, zero, suc, ◌+◌, ◌-◌, ◌*◌, ◌/◌, ◌%◌, ◌≤◌, ◌<◌}
+use Prim.Native.Nat.{ℕ, zero, suc, ◌+◌, ◌*◌, ◌/◌, ◌%◌, ◌≤◌, ◌<◌}
 use native.Mathlib.Omega.{arith}
 use native.Mathlib.Numerals.{add-one}
-use borrow.Author.Tests.{ltb-true}
+use borrow.Author.Tests.{clash}
 use mathlib.Core.Path.{◌≡◌, refl, sym, ap, ap₂, ◌∙◌, subst}
 use mathlib.Core.Logic.{◌≢◌}
-use mathlib.Core.Bool.{Bool, true, false, ◌&&◌, ◌||◌, cond}
-use mathlib.Core.List.{List, [], ◌∷◌, ◌++◌, map, append_assoc, append-nil}
+use mathlib.Core.Bool.{Bool, true, false, ◌||◌, cond}
+use mathlib.Core.List.{List, [], ◌∷◌, ◌++◌, map}
 use lib.ListN.{length, take, drop, get_or, set, length-append, length-map, length-set, take-append-drop, get_or-map}
-use lib.Seq.{get_or-take, drop-cons, drop-length, take-suc, take-suc-set, length-take-le, take-take}
+use lib.Seq.{get_or-take, drop-cons, take-suc, take-suc-set, length-take-le, take_all}
 use Rattle.value.specs.Meaning.{bytes_at}
 use Rattle.sheet.specs.Bytes.{word}
 use Rattle.sheet_laws.specs.Fits.{All}
 use Rattle.sound.specs.Lists.{all_append, get_d_of}
 use Rattle.compact.specs.Strings.{same, empty, among, add, keep, kept, joined, offset_in, reference_to}
-use Rattle.compact.proofs.StringLaws.{Grows, Has, keep_grows, keep_has, has_grows, offset_stays, same_self}
+use Rattle.compact.proofs.StringLaws.{Grows, Has, keep_grows, keep_has, offset_stays, same_self}
 use Rattle.compact.proofs.Blocks.{map_append}
-use Rattle.gather.specs.Gather.{stretch, eight, mark_of, Inside, index_in, starts, held, Holds, Room, Fits, Places, Gathers, Gathered}
-use Rattle.gather.specs.declared.Placed.{Placed}
+use Rattle.gather.specs.Gather.{stretch, mark_of, Inside, index_in, starts, held, Holds, Finds, Fits, Gathers, Gathered}
+use Rattle.gather.specs.declared.Total.{Total}
 use Rattle.gather.specs.declared.Kept.{Kept}
+use Rattle.gather.specs.declared.TooLong.{TooLong}
+use Rattle.std.specs.Prelude.{None, Some, Result, Ok, Err, IsErr}
 use Rattle.gather.proofs.Laws.{length_stretch, same_marks, same_lengths}
 
 -- ---- what is held at a place
 
-pub held_at : (s olds : List ℕ) (count j : ℕ) → j < count → get_or (held s olds count) j [] ≡ bytes_at s (get_or olds j 0)
-held_at s olds count j h = get_or-map (bytes_at s) (take count olds) j 0 ∙ ap (bytes_at s) (get_or-take count olds j 0 h)
+-- no string
+abbrev pub nothing : Kept
+nothing = record { reference = 0; mark = 0; place = 0 }
+
+pub held_at : (s : List ℕ) (ks : List Kept) (j : ℕ) → get_or (held s ks) j [] ≡ bytes_at s (get_or ks j nothing).reference
+held_at s ks j = get_or-map (λ (k : Kept). bytes_at s k.reference) ks j nothing
 
 no_mark : mark_of [] ≡ 0
 unfolding word
 no_mark = refl
 
-pub mark_at : (s olds marks : List ℕ) (count j : ℕ) → j < count → take count marks ≡ map mark_of (held s olds count) → get_or marks j 0 ≡ mark_of (bytes_at s (get_or olds j 0))
-mark_at s olds marks count j h e =
-    sym (get_or-take count marks j 0 h)
-    ∙ ap (λ (l : List ℕ). get_or l j 0) e
-    ∙ ap (λ (d : ℕ). get_or (map mark_of (held s olds count)) j d) (sym no_mark)
-    ∙ get_or-map mark_of (held s olds count) j []
-    ∙ ap mark_of (held_at s olds count j h)
+pub mark_at : (s : List ℕ) (ks : List Kept) (j : ℕ) → Holds s ks → (get_or ks j nothing).mark ≡ mark_of (bytes_at s (get_or ks j nothing).reference)
+mark_at s ks j h =
+    sym (get_or-map (λ (k : Kept). k.mark) ks j nothing)
+    ∙ ap (λ (l : List ℕ). get_or l j 0) h.marks_are
+    ∙ ap (λ (d : ℕ). get_or (map mark_of (held s ks)) j d) (sym no_mark)
+    ∙ get_or-map mark_of (held s ks) j []
+    ∙ ap mark_of (held_at s ks j)
 
-pub inside_at : (s olds : List ℕ) (count j : ℕ) → j < count → All (Inside s) (take count olds) → Inside s (get_or olds j 0)
-inside_at s olds count j h a = subst (Inside s) (get_or-take count olds j 0 h) (get_d_of (Inside s) (take count olds) j 0 a (record { within = omega arith; small = omega arith }))
+pub inside_at : (s : List ℕ) (ks : List Kept) (j : ℕ) → All (λ k. Inside s k.reference) ks → Inside s (get_or ks j nothing).reference
+inside_at s ks j a = get_d_of (λ (k : Kept). Inside s k.reference) ks j nothing a (record { within = omega arith; small = omega arith })
 
-pub length_held : (s olds : List ℕ) (count : ℕ) → count ≤ length olds → length (held s olds count) ≡ count
-length_held s olds count h = length-map (take count olds) (bytes_at s) ∙ length-take-le count olds h
+pub length_held : (s : List ℕ) (ks : List Kept) → length (held s ks) ≡ length ks
+length_held s ks = length-map ks (λ (k : Kept). bytes_at s k.reference)
 
 -- ---- is it this one
 
@@ -61,39 +67,34 @@ this_length s old at n e h = h ∙ ap (λ (m : ℕ). same (stretch s (old % 6553
 
 -- ---- finding
 
-pub record Seeking (ks : List (List ℕ)) (t : List ℕ) (count j : ℕ) : Type 0 where
-  pub within : j ≤ count
-  pub is : index_in ks t ≡ j + index_in (drop j ks) t
-
-pub seek_start : (ks : List (List ℕ)) (t : List ℕ) (count : ℕ) → Seeking ks t count 0
-seek_start ks t count = record { within = omega arith; is = omega arith }
+-- None of the first j is it.
+abbrev pub Seeking : (ks : List (List ℕ)) (t : List ℕ) (j : ℕ) → Type 0
+Seeking ks t j = index_in ks t ≡ j + index_in (drop j ks) t
 
 index_at : (ks : List (List ℕ)) (t : List ℕ) (j : ℕ) → j < length ks → index_in (drop j ks) t ≡ cond (same (get_or ks j []) t) 0 (suc (index_in (drop (suc j) ks) t))
 index_at ks t j h = ap (λ (l : List (List ℕ)). index_in l t) (drop-cons ks j [] h)
 
-pub seek_hit : (s olds : List ℕ) (count : ℕ) (t : List ℕ) (j : ℕ) → count ≤ length olds → j < count → Seeking (held s olds count) t count j
-    → true ≡ same (bytes_at s (get_or olds j 0)) t → j ≡ index_in (held s olds count) t
-seek_hit s olds count t j l h k e =
-    let ks = held s olds count in
+pub seek_hit : (s : List ℕ) (held_now : List Kept) (t : List ℕ) (j : ℕ) → j < length held_now → Seeking (held s held_now) t j
+    → true ≡ same (bytes_at s (get_or held_now j nothing).reference) t → Finds (held s held_now) t (Some j)
+seek_hit s held_now t j h k e =
+    let ks = held s held_now in
+    let l = length_held s held_now in
     let z : index_in (drop j ks) t ≡ 0 =
-    index_at ks t j (omega (arith, length_held s olds count l)) ∙ ap (λ (b : Bool). cond b 0 (suc (index_in (drop (suc j) ks) t))) (ap (λ (u : List ℕ). same u t) (held_at s olds count j h) ∙ sym e) in
-    omega (arith, k.is, z)
+    index_at ks t j (omega arith) ∙ ap (λ (b : Bool). cond b 0 (suc (index_in (drop (suc j) ks) t))) (ap (λ (u : List ℕ). same u t) (held_at s held_now j) ∙ sym e) in
+    (omega arith, omega (arith, k, z))
 
-pub seek_miss : (s olds : List ℕ) (count : ℕ) (t : List ℕ) (j : ℕ) → count ≤ length olds → j < count → Seeking (held s olds count) t count j
-    → false ≡ same (bytes_at s (get_or olds j 0)) t → Seeking (held s olds count) t count (j + 1)
-seek_miss s olds count t j l h k e =
-    let ks = held s olds count in
+pub seek_miss : (s : List ℕ) (held_now : List Kept) (t : List ℕ) (j : ℕ) → j < length held_now → Seeking (held s held_now) t j
+    → false ≡ same (bytes_at s (get_or held_now j nothing).reference) t → Seeking (held s held_now) t (j + 1)
+seek_miss s held_now t j h k e =
+    let ks = held s held_now in
+    let l = length_held s held_now in
     let z : index_in (drop j ks) t ≡ suc (index_in (drop (suc j) ks) t) =
-    index_at ks t j (omega (arith, length_held s olds count l)) ∙ ap (λ (b : Bool). cond b 0 (suc (index_in (drop (suc j) ks) t))) (ap (λ (u : List ℕ). same u t) (held_at s olds count j h) ∙ sym e) in
+    index_at ks t j (omega arith) ∙ ap (λ (b : Bool). cond b 0 (suc (index_in (drop (suc j) ks) t))) (ap (λ (u : List ℕ). same u t) (held_at s held_now j) ∙ sym e) in
     let y : index_in (drop (suc j) ks) t ≡ index_in (drop (j + 1) ks) t = ap (λ (i : ℕ). index_in (drop i ks) t) (sym (add-one j)) in
-    record { within = omega arith; is = omega (arith, k.is, z, y) }
+    omega (arith, k, z, y)
 
-pub seek_done : (s olds : List ℕ) (count : ℕ) (t : List ℕ) (j : ℕ) → count ≤ length olds → count ≤ j → Seeking (held s olds count) t count j → j ≡ index_in (held s olds count) t
-seek_done s olds count t j l h k =
-    let ks = held s olds count in
-    let e : j ≡ length ks = omega (arith, length_held s olds count l, k.within) in
-    let z : index_in (drop j ks) t ≡ 0 = ap (λ (i : ℕ). index_in (drop i ks) t) e ∙ ap (λ (x : List (List ℕ)). index_in x t) (drop-length ks) in
-    omega (arith, k.is, z)
+pub seek_done : (s : List ℕ) (held_now : List Kept) (t : List ℕ) (j : ℕ) → length held_now ≤ j → Seeking (held s held_now) t j → Finds (held s held_now) t None
+seek_done s held_now t j h k = omega (arith, k, length_held s held_now)
 
 -- ---- what the place says
 
@@ -147,10 +148,10 @@ starts_short o (k ∷ ks) zero = omega arith
 starts_short o (k ∷ ks) (suc j) = omega (arith, starts_short (o + length k) ks j, length-append k (joined ks))
 
 -- A new offset is no more than the bytes kept.
-pub start_short : (s olds marks news : List ℕ) (count j : ℕ) → Holds s olds marks news count → j < count → get_or news j 0 ≤ length (joined (held s olds count))
-start_short s olds marks news count j h l =
-    let e : get_or news j 0 ≡ get_or (starts 0 (held s olds count)) j 0 = sym (get_or-take count news j 0 l) ∙ ap (λ (x : List ℕ). get_or x j 0) h.news_are in
-    omega (arith, e, starts_short 0 (held s olds count) j)
+pub place_short : (s : List ℕ) (ks : List Kept) (j : ℕ) → Holds s ks → (get_or ks j nothing).place ≤ length (joined (held s ks))
+place_short s ks j h =
+    let e : (get_or ks j nothing).place ≡ get_or (starts 0 (held s ks)) j 0 = sym (get_or-map (λ (k : Kept). k.place) ks j nothing) ∙ ap (λ (x : List ℕ). get_or x j 0) h.places_are in
+    omega (arith, e, starts_short 0 (held s ks) j)
 
 -- ---- one reference more
 
@@ -177,89 +178,96 @@ or_false true b p q = absurd (let z : ◌≡◌ {A = ℕ} 0 1 = cc in omega arit
 refers_filled : (ks : List (List ℕ)) (t : List ℕ) → empty t ≡ false → reference_to ks t ≡ offset_in ks t + 65536 * length t
 refers_filled ks t e = ap (λ (b : Bool). cond b 0 (offset_in ks t + 65536 * length t)) e
 
-module _ (s olds marks news : List ℕ) (count r : ℕ) (h : Holds s olds marks news count) (i : Inside s r) where
-  abbrev ks : List (List ℕ)
-  ks = held s olds count
+module _ (s : List ℕ) (buffer : List Kept) (t : Total) (r : ℕ) (h : Holds s (take t.count buffer)) (room : t.count < length buffer) (i : Inside s r)
+    (bytes_are : t.bytes ≡ length (joined (held s (take t.count buffer)))) (few : t.bytes ≤ 8192) where
+  abbrev old : List Kept
+  old = take t.count buffer
 
-  abbrev t : List ℕ
-  t = bytes_at s r
+  abbrev held_old : List (List ℕ)
+  held_old = held s old
 
-  length_t : length t ≡ r / 65536
-  length_t = length_stretch s (r % 65536) (r / 65536) i.within
+  abbrev x : List ℕ
+  x = bytes_at s r
 
-  kept_same : (reference bytes : ℕ) → add ks t ≡ ks → bytes ≡ length (joined ks) → reference ≡ reference_to ks t
-      → Places s ks r olds marks news count (record { count = count; bytes = bytes; reference = reference })
-  kept_same reference bytes e b f =
+  length_old : length old ≡ t.count
+  length_old = length-take-le t.count buffer (omega arith)
+
+  length_x : length x ≡ r / 65536
+  length_x = length_stretch s (r % 65536) (r / 65536) i.within
+
+  kept_same : (reference : ℕ) → add held_old x ≡ held_old → reference ≡ reference_to held_old x → Fits s old r buffer t reference
+  kept_same reference e f =
       record {
-        bytes = b ∙ ap (λ (l : List (List ℕ)). length (joined l)) (sym e);
-        fits = λ z. record { strings = sym e; holds = h; one = omega arith; refers = f ∙ ap (λ (l : List (List ℕ)). reference_to l t) (sym e) };
+        within = omega arith;
+        strings = sym e;
+        holds = h;
+        one = omega (arith, length_old);
+        bytes = bytes_are ∙ ap (λ (l : List (List ℕ)). length (joined l)) (sym e);
+        short = few;
+        refers = f ∙ ap (λ (l : List (List ℕ)). reference_to l x) (sym e);
       }
 
   -- an empty string
-  pub place_empty : (bytes : ℕ) → bytes ≡ length (joined ks) → r / 65536 ≡ 0 → Places s ks r olds marks news count (record { count = count; bytes = bytes; reference = 0 })
-  place_empty bytes b z =
-      let e : t ≡ [] = ap (λ (n : ℕ). take n (drop (r % 65536) s)) z in
-      kept_same 0 bytes (ap (λ (u : List ℕ). add ks u) e) b (sym (ap (reference_to ks) e))
+  pub place_empty : r / 65536 ≡ 0 → Fits s old r buffer t 0
+  place_empty z =
+      let e : x ≡ [] = ap (λ (n : ℕ). take n (drop (r % 65536) s)) z in
+      kept_same 0 (ap (λ (u : List ℕ). add held_old u) e) (sym (ap (reference_to held_old) e))
+
+  same_place : (j : ℕ) → j < length held_old → get_or old j nothing ≡ get_or buffer j nothing
+  same_place j l = get_or-take t.count buffer j nothing (omega (arith, length_held s old, length_old))
+
+  pub place_small : (j : ℕ) → Finds held_old x (Some j) → (get_or buffer j nothing).place ≤ 8192
+  place_small j (l, e) = omega (arith, place_short s old j h, ap (λ (k : Kept). k.place) (same_place j l), bytes_are)
 
   -- one that is held
-  pub place_held : (bytes j : ℕ) → bytes ≡ length (joined ks) → r / 65536 ≢ 0 → j ≡ index_in ks t → j < count
-      → Places s ks r olds marks news count (record { count = count; bytes = bytes; reference = get_or news j 0 + 65536 * (r / 65536) })
-  place_held bytes j b ne e l =
-      let found : index_in ks t < length ks = omega (arith, length_held s olds count h.olds_long, e) in
-      let start : get_or news j 0 ≡ offset_in ks t =
-      sym (get_or-take count news j 0 l) ∙ ap (λ (x : List ℕ). get_or x j 0) h.news_are ∙ ap (λ (k : ℕ). get_or (starts 0 ks) k 0) e ∙ start_found 0 ks t found ∙ omega arith in
-      let full = filled t (λ z. ne (sym length_t ∙ z)) in
-      kept_same (get_or news j 0 + 65536 * (r / 65536)) bytes (add_nothing ks t (or_true (empty t) (among t ks) (among_found ks t found))) b
-      (omega (arith, start, length_t) ∙ sym (refers_filled ks t full))
+  pub place_held : (j : ℕ) → r / 65536 ≢ 0 → Finds held_old x (Some j) → Fits s old r buffer t ((get_or buffer j nothing).place + 65536 * (r / 65536))
+  place_held j ne (l, e) =
+      let found : index_in held_old x < length held_old = omega (arith, e) in
+      let start : (get_or buffer j nothing).place ≡ offset_in held_old x =
+      ap (λ (k : Kept). k.place) (sym (same_place j l)) ∙ sym (get_or-map (λ (k : Kept). k.place) old j nothing) ∙ ap (λ (y : List ℕ). get_or y j 0) h.places_are
+      ∙ ap (λ (k : ℕ). get_or (starts 0 held_old) k 0) e ∙ start_found 0 held_old x found ∙ omega arith in
+      let full = filled x (λ z. ne (sym length_x ∙ z)) in
+      kept_same ((get_or buffer j nothing).place + 65536 * (r / 65536)) (add_nothing held_old x (or_true (empty x) (among x held_old) (among_found held_old x found)))
+      (omega (arith, start, length_x) ∙ sym (refers_filled held_old x full))
 
-  module _ (ne : r / 65536 ≢ 0) (j : ℕ) (e : j ≡ index_in ks t) (l : count ≤ j) where
-    absent : among t ks ≡ false
-    absent = among_not ks t (omega (arith, length_held s olds count h.olds_long, e))
+  module _ (ne : r / 65536 ≢ 0) (missing : Finds held_old x None) where
+    absent : among x held_old ≡ false
+    absent = among_not held_old x missing
 
-    full : empty t ≡ false
-    full = filled t (λ z. ne (sym length_t ∙ z))
+    full : empty x ≡ false
+    full = filled x (λ z. ne (sym length_x ∙ z))
 
-    grown : add ks t ≡ ks ++ (t ∷ [])
-    grown = add_new ks t (or_false (empty t) (among t ks) full absent)
+    grown : add held_old x ≡ held_old ++ (x ∷ [])
+    grown = add_new held_old x (or_false (empty x) (among x held_old) full absent)
 
-    grown_bytes : (bytes : ℕ) → bytes ≡ length (joined ks) → bytes + r / 65536 ≡ length (joined (add ks t))
-    grown_bytes bytes b = sym (ap (λ (x : List (List ℕ)). length (joined x)) grown ∙ joined_last ks t ∙ omega (arith, b, length_t))
+    grown_bytes : t.bytes + r / 65536 ≡ length (joined (add held_old x))
+    grown_bytes = sym (ap (λ (y : List (List ℕ)). length (joined y)) grown ∙ joined_last held_old x ∙ omega (arith, bytes_are, length_x))
 
     -- a new one, and too many bytes
-    pub place_over : (bytes reference : ℕ) → bytes ≡ length (joined ks) → 8192 < bytes + r / 65536
-        → Places s ks r olds marks news count (record { count = count; bytes = bytes + r / 65536; reference = reference })
-    place_over bytes reference b o = record { bytes = grown_bytes bytes b; fits = λ z. absurd (omega arith) }
+    pub place_over : 8192 < t.bytes + r / 65536 → 8192 < length (joined (add held_old x))
+    place_over o = omega (arith, grown_bytes)
 
     -- a new one
-    pub place_new : (bytes m : ℕ) → bytes ≡ length (joined ks) → Room olds marks news count → m ≡ mark_of t
-        → Places s ks r (set olds count r) (set marks count m) (set news count bytes) count (record { count = count + 1; bytes = bytes + r / 65536; reference = bytes + 65536 * (r / 65536) })
-    place_new bytes m b room em =
-        let a : take (count + 1) (set olds count r) ≡ take count olds ++ (r ∷ []) = ap (λ (k : ℕ). take k (set olds count r)) (add-one count) ∙ take-suc-set olds count r room.in_olds in
-        let hd : held s (set olds count r) (count + 1) ≡ ks ++ (t ∷ []) = ap (map (bytes_at s)) a ∙ map_append (bytes_at s) (take count olds) (r ∷ []) in
-        let mk : take (count + 1) (set marks count m) ≡ map mark_of (held s (set olds count r) (count + 1)) =
-        ap (λ (k : ℕ). take k (set marks count m)) (add-one count) ∙ take-suc-set marks count m room.in_marks
-        ∙ ap₂ (λ (x : List ℕ) (k : ℕ). x ++ (k ∷ [])) h.marks_are em ∙ sym (ap (map mark_of) hd ∙ map_append mark_of ks (t ∷ [])) in
-        let nw : take (count + 1) (set news count bytes) ≡ starts 0 (held s (set olds count r) (count + 1)) =
-        ap (λ (k : ℕ). take k (set news count bytes)) (add-one count) ∙ take-suc-set news count bytes room.in_news
-        ∙ ap₂ (λ (x : List ℕ) (k : ℕ). x ++ (k ∷ [])) h.news_are (b ∙ omega arith) ∙ sym (ap (starts 0) hd ∙ starts_last 0 ks t) in
-        let o = length-set olds count r in
-        let p = length-set marks count m in
-        let q = length-set news count bytes in
+    pub place_new : (m : ℕ) → m ≡ mark_of x → t.bytes + r / 65536 ≤ 8192
+        → Fits s old r (set buffer t.count (record { reference = r; mark = m; place = t.bytes })) (record { count = t.count + 1; bytes = t.bytes + r / 65536 }) (t.bytes + 65536 * (r / 65536))
+    place_new m em short =
+        let k : Kept = record { reference = r; mark = m; place = t.bytes } in
+        let a : take (t.count + 1) (set buffer t.count k) ≡ old ++ (k ∷ []) = ap (λ (n : ℕ). take n (set buffer t.count k)) (add-one t.count) ∙ take-suc-set buffer t.count k room in
+        let hd : held s (old ++ (k ∷ [])) ≡ held_old ++ (x ∷ []) = map_append (λ (y : Kept). bytes_at s y.reference) old (k ∷ []) in
+        let mk : map (λ (y : Kept). y.mark) (old ++ (k ∷ [])) ≡ map mark_of (held s (old ++ (k ∷ []))) =
+        map_append (λ (y : Kept). y.mark) old (k ∷ []) ∙ ap₂ (λ (y : List ℕ) (n : ℕ). y ++ (n ∷ [])) h.marks_are em ∙ sym (ap (map mark_of) hd ∙ map_append mark_of held_old (x ∷ [])) in
+        let nw : map (λ (y : Kept). y.place) (old ++ (k ∷ [])) ≡ starts 0 (held s (old ++ (k ∷ []))) =
+        map_append (λ (y : Kept). y.place) old (k ∷ []) ∙ ap₂ (λ (y : List ℕ) (n : ℕ). y ++ (n ∷ [])) h.places_are (bytes_are ∙ omega arith) ∙ sym (ap (starts 0) hd ∙ starts_last 0 held_old x) in
+        let holds : Holds s (old ++ (k ∷ [])) = record { inside = all_append (λ (y : Kept). Inside s y.reference) old (k ∷ []) h.inside (i, tt); marks_are = mk; places_are = nw } in
+        let o = length-set buffer t.count k in
         record {
-          bytes = grown_bytes bytes b;
-          fits = λ z. record {
-            strings = hd ∙ sym grown;
-            holds = record {
-              olds_long = omega (arith, room.in_olds);
-              marks_long = omega (arith, room.in_marks);
-              news_long = omega (arith, room.in_news);
-              inside = subst (All (Inside s)) (sym a) (all_append (Inside s) (take count olds) (r ∷ []) h.inside (i, tt));
-              marks_are = mk;
-              news_are = nw;
-            };
-            one = omega arith;
-            refers = omega (arith, length_t, b, offset_last ks t absent (same_self t)) ∙ sym (refers_filled (ks ++ (t ∷ [])) t full) ∙ ap (λ (x : List (List ℕ)). reference_to x t) (sym grown);
-          };
+          within = omega arith;
+          strings = ap (held s) a ∙ hd ∙ sym grown;
+          holds = subst (Holds s) (sym a) holds;
+          one = omega (arith, length_old);
+          bytes = grown_bytes;
+          short = short;
+          refers = omega (arith, length_x, bytes_are, offset_last held_old x absent (same_self x)) ∙ sym (refers_filled (held_old ++ (x ∷ [])) x full) ∙ ap (λ (y : List (List ℕ)). reference_to y x) (sym grown);
         }
 
 -- ---- all references
@@ -291,41 +299,41 @@ references_stay s ks ls [] g a = refl
 references_stay s ks ls (r ∷ rs) g a = ap₂ ◌∷◌ (reference_stays ks ls (bytes_at s r) g a.0) (references_stay s ks ls rs g a.1)
 
 -- What is held after i references.
-pub record Going (s refs : List ℕ) (n : ℕ) (olds marks news fresh : List ℕ) (count bytes i : ℕ) : Type 0 where
-  pub within : i ≤ n
-  pub few : count ≤ i
-  pub strings : held s olds count ≡ keep [] (map (bytes_at s) (take i refs))
-  pub holds : Holds s olds marks news count
-  pub bytes_are : bytes ≡ length (joined (held s olds count))
-  pub short : bytes ≤ 8192
-  pub refers : take i fresh ≡ map (λ r. reference_to (held s olds count) (bytes_at s r)) (take i refs)
+pub record Going (s refs : List ℕ) (buffer : List Kept) (fresh : List ℕ) (t : Total) (i : ℕ) : Type 0 where
+  pub within : i ≤ length refs
+  pub few : t.count ≤ i
+  pub inside_buffer : t.count ≤ length buffer
+  pub strings : held s (take t.count buffer) ≡ keep [] (map (bytes_at s) (take i refs))
+  pub holds : Holds s (take t.count buffer)
+  pub bytes_are : t.bytes ≡ length (joined (held s (take t.count buffer)))
+  pub short : t.bytes ≤ 8192
+  pub refers : take i fresh ≡ map (λ r. reference_to (held s (take t.count buffer)) (bytes_at s r)) (take i refs)
 
-pub going_start : (s refs : List ℕ) (n : ℕ) (olds marks news fresh : List ℕ) → Going s refs n olds marks news fresh 0 0 0
-going_start s refs n olds marks news fresh =
+pub going_start : (s refs : List ℕ) (buffer : List Kept) (fresh : List ℕ) → Going s refs buffer fresh (record { count = 0; bytes = 0 }) 0
+going_start s refs buffer fresh =
     record {
       within = omega arith;
       few = omega arith;
+      inside_buffer = omega arith;
       strings = refl;
-      holds = record { olds_long = omega arith; marks_long = omega arith; news_long = omega arith; inside = tt; marks_are = refl; news_are = refl };
+      holds = record { inside = tt; marks_are = refl; places_are = refl };
       bytes_are = refl;
       short = omega arith;
       refers = refl;
     }
 
-pub going_room : {s refs : List ℕ} {n : ℕ} {olds marks news fresh : List ℕ} {count bytes i : ℕ} → Going s refs n olds marks news fresh count bytes i → i < n
-    → n ≤ length olds → n ≤ length marks → n ≤ length news → Room olds marks news count
-going_room g l p q r = record { in_olds = omega (arith, g.few); in_marks = omega (arith, g.few); in_news = omega (arith, g.few) }
-
-module _ (s refs : List ℕ) (n : ℕ) (olds marks news fresh : List ℕ) (count bytes i : ℕ) (g : Going s refs n olds marks news fresh count bytes i) (l : i < n) (long : n ≤ length refs)
-    (olds' marks' news' : List ℕ) (p : Placed) (pl : Places s (held s olds count) (get_or refs i 0) olds' marks' news' count p) where
+module _ (s refs : List ℕ) (buffer : List Kept) (fresh : List ℕ) (t : Total) (i : ℕ) (g : Going s refs buffer fresh t i) (l : i < length refs) where
   abbrev xs : List ℕ
   xs = take i refs
 
   abbrev r : ℕ
   r = get_or refs i 0
 
+  abbrev now : List Kept
+  now = take t.count buffer
+
   abbrev now_held : List (List ℕ)
-  now_held = held s olds count
+  now_held = held s now
 
   next_refs : take (i + 1) refs ≡ xs ++ (r ∷ [])
   next_refs = ap (λ (k : ℕ). take k refs) (add-one i) ∙ take-suc refs i 0 (omega arith)
@@ -338,55 +346,51 @@ module _ (s refs : List ℕ) (n : ℕ) (olds marks news fresh : List ℕ) (count
   now_grown : Grows now_held (add now_held (bytes_at s r))
   now_grown = keep_grows now_held (bytes_at s r ∷ [])
 
-  pub going_on : i < length fresh → p.bytes ≤ 8192 → Going s refs n olds' marks' news' (set fresh i p.reference) p.count p.bytes (i + 1)
-  going_on room ok =
-      let f = pl.fits ok in
+  pub going_on : (buffer' : List Kept) (t' : Total) (reference : ℕ) → i < length fresh → Fits s now r buffer' t' reference → Going s refs buffer' (set fresh i reference) t' (i + 1)
+  going_on buffer' t' reference room f =
       let have : All (Has now_held) (map (bytes_at s) xs) = subst (λ (k : List (List ℕ)). All (Has k) (map (bytes_at s) xs)) (sym g.strings) (keep_has [] (map (bytes_at s) xs)) in
-      let ks = held s olds' p.count in
+      let ks = held s (take t'.count buffer') in
       let front : map (λ x. reference_to ks (bytes_at s x)) xs ≡ map (λ x. reference_to now_held (bytes_at s x)) xs =
       references_stay s now_held ks xs (subst (Grows now_held) (sym f.strings) now_grown) have in
-      let last : p.reference ≡ reference_to ks (bytes_at s r) = f.refers ∙ ap (λ (k : List (List ℕ)). reference_to k (bytes_at s r)) (sym f.strings) in
+      let last : reference ≡ reference_to ks (bytes_at s r) = f.refers ∙ ap (λ (k : List (List ℕ)). reference_to k (bytes_at s r)) (sym f.strings) in
       record {
         within = omega arith;
-        few = omega (arith, f.one, g.few);
+        few = omega (arith, f.one, g.few, length-take-le t.count buffer g.inside_buffer);
+        inside_buffer = f.within;
         strings = f.strings ∙ sym next_kept;
         holds = f.holds;
-        bytes_are = pl.bytes ∙ ap (λ (k : List (List ℕ)). length (joined k)) (sym f.strings);
-        short = ok;
-        refers = ap (λ (k : ℕ). take k (set fresh i p.reference)) (add-one i) ∙ take-suc-set fresh i p.reference room
+        bytes_are = f.bytes ∙ ap (λ (k : List (List ℕ)). length (joined k)) (sym f.strings);
+        short = f.short;
+        refers = ap (λ (k : ℕ). take k (set fresh i reference)) (add-one i) ∙ take-suc-set fresh i reference room
             ∙ ap₂ (λ (x : List ℕ) (v : ℕ). x ++ (v ∷ [])) (g.refers ∙ sym front) last
             ∙ sym (map_append (λ x. reference_to ks (bytes_at s x)) xs (r ∷ [])) ∙ ap (map (λ x. reference_to ks (bytes_at s x))) (sym next_refs);
       }
 
-  pub going_over : 8192 < p.bytes → Gathered s (take n refs) olds' fresh (record { count = p.count; bytes = p.bytes })
+  pub going_over : 8192 < length (joined (add now_held (bytes_at s r))) → 8192 < length (joined (kept (map (bytes_at s) refs)))
   going_over over =
-      let rest = drop (i + 1) (take n refs) in
-      let split : take n refs ≡ take (i + 1) refs ++ rest =
-      sym (take-append-drop (i + 1) (take n refs)) ∙ ap (λ (x : List ℕ). x ++ rest) (take-take (i + 1) n refs (omega arith)) in
-      let all : kept (map (bytes_at s) (take n refs)) ≡ keep (add now_held (bytes_at s r)) (map (bytes_at s) rest) =
+      let rest = drop (i + 1) refs in
+      let split : refs ≡ take (i + 1) refs ++ rest = sym (take-append-drop (i + 1) refs) in
+      let all : kept (map (bytes_at s) refs) ≡ keep (add now_held (bytes_at s r)) (map (bytes_at s) rest) =
       ap (λ (x : List ℕ). kept (map (bytes_at s) x)) split ∙ ap kept (map_append (bytes_at s) (take (i + 1) refs) rest)
       ∙ keep_more [] (map (bytes_at s) (take (i + 1) refs)) (map (bytes_at s) rest) ∙ ap (λ (k : List (List ℕ)). keep k (map (bytes_at s) rest)) next_kept in
       let longer = grows_longer (add now_held (bytes_at s r)) (keep (add now_held (bytes_at s r)) (map (bytes_at s) rest)) (keep_grows (add now_held (bytes_at s r)) (map (bytes_at s) rest)) in
-      record {
-        bytes = λ z. absurd (omega arith);
-        gathers = λ z. absurd (omega arith);
-        over = λ z. omega (arith, pl.bytes, longer, ap (λ (k : List (List ℕ)). length (joined k)) all);
-      }
+      omega (arith, longer, ap (λ (k : List (List ℕ)). length (joined k)) all)
 
-pub going_done : (s refs : List ℕ) (n : ℕ) (olds marks news fresh : List ℕ) (count bytes i : ℕ) → Going s refs n olds marks news fresh count bytes i → n ≤ i → n ≤ length refs
-    → Gathered s (take n refs) olds fresh (record { count = count; bytes = bytes })
-going_done s refs n olds marks news fresh count bytes i g l long =
-    let e : i ≡ n = omega (arith, g.within) in
-    let k : held s olds count ≡ kept (map (bytes_at s) (take n refs)) = g.strings ∙ ap (λ (j : ℕ). keep [] (map (bytes_at s) (take j refs))) e in
-    let size : length (take n refs) ≡ i = length-take-le n refs long ∙ sym e in
+pub going_done : (s refs : List ℕ) (buffer : List Kept) (fresh : List ℕ) (t : Total) (i : ℕ) → Going s refs buffer fresh t i → length refs ≤ i → Gathers s refs buffer fresh t
+going_done s refs buffer fresh t i g l =
+    let e : take i refs ≡ refs = take_all i refs l in
+    let size : length refs ≡ i = omega (arith, g.within) in
+    let k : held s (take t.count buffer) ≡ kept (map (bytes_at s) refs) = g.strings ∙ ap (λ (x : List ℕ). keep [] (map (bytes_at s) x)) e in
     record {
-      bytes = λ z. g.bytes_are ∙ ap (λ (x : List (List ℕ)). length (joined x)) k;
-      gathers = λ z. record {
-        inside = g.holds.inside;
-        olds_long = g.holds.olds_long;
-        strings = k;
-        refers = ap (λ (j : ℕ). take j fresh) size ∙ g.refers
-            ∙ ap₂ (λ (x : List (List ℕ)) (j : ℕ). map (λ r. reference_to x (bytes_at s r)) (take j refs)) k e;
-      };
-      over = λ z. absurd (omega (arith, g.short));
+      within = g.inside_buffer;
+      inside = g.holds.inside;
+      strings = k;
+      refers = ap (λ (j : ℕ). take j fresh) size ∙ g.refers ∙ ap₂ (λ (x : List (List ℕ)) (y : List ℕ). map (λ r. reference_to x (bytes_at s r)) y) k e;
+      bytes = g.bytes_are ∙ ap (λ (x : List (List ℕ)). length (joined x)) k;
+      short = g.short;
     }
+
+pub gathered_not : (s refs : List ℕ) (buffer : List Kept) (fresh : List ℕ) (r : Result Total TooLong) → IsErr r → 8192 < length (joined (kept (map (bytes_at s) refs)))
+    → Gathered s refs buffer fresh r
+gathered_not s refs buffer fresh (Ok t) e over = absurd (clash e)
+gathered_not s refs buffer fresh (Err e) _ over = over

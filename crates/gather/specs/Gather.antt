@@ -1,10 +1,12 @@
 -- What `gather` holds of the strings that are kept, set beside the definitions of crate `compact`.
-use Rattle.std.specs.Prelude.{ℕ, zero, suc, ◌+◌, ◌-◌, ◌*◌, ◌/◌, ◌%◌, ◌≤◌, ◌<◌, ◌≡◌, ◌≢◌, Bool, true, false, cond, List, [], ◌∷◌, ◌++◌, map, length, take, drop, get_or}
+use Rattle.std.specs.Prelude.{ℕ, suc, ◌+◌, ◌-◌, ◌*◌, ◌≤◌, ◌<◌, ◌≡◌, ◌≢◌, cond, List, [], ◌∷◌, map, length, take, drop, Option, None, Some, Result, Ok, Err}
 use Rattle.value.specs.Meaning.{offset, text_length, bytes_at}
-use Rattle.sheet.specs.Bytes.{byte, word}
+use Rattle.sheet.specs.Bytes.{word}
 use Rattle.sheet_laws.specs.Fits.{All}
-use Rattle.compact.specs.Strings.{same, empty, among, add, keep, kept, joined, reference_to}
-use Rattle.gather.specs.declared.Placed.{Placed}
+use Rattle.compact.specs.Strings as Strings
+use Rattle.compact.specs.Strings.{same, add, joined, reference_to}
+use Rattle.gather.specs.declared.Total.{Total}
+use Rattle.gather.specs.declared.TooLong.{TooLong}
 use Rattle.gather.specs.declared.Kept.{Kept}
 
 -- n bytes from byte `at` on
@@ -40,46 +42,46 @@ abbrev pub starts : ℕ → List (List ℕ) → List ℕ
 starts o [] = []
 starts o (k ∷ ks) = o ∷ starts (o + length k) ks
 
--- the strings that the first `count` references refer to
-abbrev pub held : (s olds : List ℕ) (count : ℕ) → List (List ℕ)
-held s olds count = map (bytes_at s) (take count olds)
+-- the strings that are kept
+abbrev pub held : (s : List ℕ) (kept : List Kept) → List (List ℕ)
+held s kept = map (λ k. bytes_at s k.reference) kept
 
--- The buffers hold `count` strings of s: a reference to each, its first eight bytes, and where it starts in the new text.
-pub record Holds (s olds marks news : List ℕ) (count : ℕ) : Type 0 where
-  pub olds_long : count ≤ length olds
-  pub marks_long : count ≤ length marks
-  pub news_long : count ≤ length news
-  pub inside : All (Inside s) (take count olds)
-  pub marks_are : take count marks ≡ map mark_of (held s olds count)
-  pub news_are : take count news ≡ starts 0 (held s olds count)
+-- Strings of s are kept: a reference to each, its first eight bytes, and where it starts in the new text.
+pub record Holds (s : List ℕ) (kept : List Kept) : Type 0 where
+  pub inside : All (λ k. Inside s k.reference) kept
+  pub marks_are : map (λ k. k.mark) kept ≡ map mark_of (held s kept)
+  pub places_are : map (λ k. k.place) kept ≡ starts 0 (held s kept)
 
--- There is room for one string more.
-pub record Room (olds marks news : List ℕ) (count : ℕ) : Type 0 where
-  pub in_olds : count < length olds
-  pub in_marks : count < length marks
-  pub in_news : count < length news
+-- The place of the first string that is t, or none is.
+abbrev pub Finds : List (List ℕ) → List ℕ → Option ℕ → Type 0
+Finds ks t None = length ks ≤ index_in ks t
+Finds ks t (Some j) = (j < length ks) × (j ≡ index_in ks t)
 
--- What `place` leaves for a reference r: the strings held are those before with r's added, and the new reference is the one to it.
-pub record Fits (s : List ℕ) (ks : List (List ℕ)) (r : ℕ) (olds marks news : List ℕ) (count count₀ reference : ℕ) : Type 0 where
-  pub strings : held s olds count ≡ add ks (bytes_at s r)
-  pub holds : Holds s olds marks news count
-  pub one : count ≤ suc count₀
-  pub refers : reference ≡ reference_to (add ks (bytes_at s r)) (bytes_at s r)
+-- What `place` leaves for a reference r: the strings held are those before with r's added, with so many bytes, and the new reference is the one to it.
+pub record Fits (s : List ℕ) (kept : List Kept) (r : ℕ) (kept' : List Kept) (t : Total) (reference : ℕ) : Type 0 where
+  pub within : t.count ≤ length kept'
+  pub strings : held s (take t.count kept') ≡ add (held s kept) (bytes_at s r)
+  pub holds : Holds s (take t.count kept')
+  pub one : t.count ≤ suc (length kept)
+  pub bytes : t.bytes ≡ length (joined (add (held s kept) (bytes_at s r)))
+  pub short : t.bytes ≤ 8192
+  pub refers : reference ≡ reference_to (add (held s kept) (bytes_at s r)) (bytes_at s r)
 
--- The bytes that are kept then, and all the rest unless they are over 8,192.
-pub record Places (s : List ℕ) (ks : List (List ℕ)) (r : ℕ) (olds marks news : List ℕ) (count₀ : ℕ) (p : Placed) : Type 0 where
-  pub bytes : p.bytes ≡ length (joined (add ks (bytes_at s r)))
-  pub fits : p.bytes ≤ 8192 → Fits s ks r olds marks news p.count count₀ p.reference
+-- The same, or that they have over 8,192 bytes.
+abbrev pub Places : (s : List ℕ) (kept : List Kept) (r : ℕ) (kept' : List Kept) → Result (Total × ℕ) TooLong → Type 0
+Places s kept r kept' (Ok p) = Fits s kept r kept' p.0 p.1
+Places s kept r kept' (Err e) = 8192 < length (joined (add (held s kept) (bytes_at s r)))
 
 -- What `gather` leaves for references rs, if their strings have at most 8,192 bytes together.
-pub record Gathers (s rs olds fresh : List ℕ) (count : ℕ) : Type 0 where
-  pub inside : All (Inside s) (take count olds)
-  pub olds_long : count ≤ length olds
-  pub strings : held s olds count ≡ kept (map (bytes_at s) rs)
-  pub refers : take (length rs) fresh ≡ map (λ r. reference_to (kept (map (bytes_at s) rs)) (bytes_at s r)) rs
+pub record Gathers (s rs : List ℕ) (kept : List Kept) (fresh : List ℕ) (t : Total) : Type 0 where
+  pub within : t.count ≤ length kept
+  pub inside : All (λ k. Inside s k.reference) (take t.count kept)
+  pub strings : held s (take t.count kept) ≡ Strings.kept (map (bytes_at s) rs)
+  pub refers : take (length rs) fresh ≡ map (λ r. reference_to (Strings.kept (map (bytes_at s) rs)) (bytes_at s r)) rs
+  pub bytes : t.bytes ≡ length (joined (Strings.kept (map (bytes_at s) rs)))
+  pub short : t.bytes ≤ 8192
 
--- The bytes kept, and the rest; or that they are over 8,192.
-pub record Gathered (s rs olds fresh : List ℕ) (k : Kept) : Type 0 where
-  pub bytes : k.bytes ≤ 8192 → k.bytes ≡ length (joined (kept (map (bytes_at s) rs)))
-  pub gathers : k.bytes ≤ 8192 → Gathers s rs olds fresh k.count
-  pub over : 8192 < k.bytes → 8192 < length (joined (kept (map (bytes_at s) rs)))
+-- The same, or that they have over 8,192 bytes.
+abbrev pub Gathered : (s rs : List ℕ) (kept : List Kept) (fresh : List ℕ) → Result Total TooLong → Type 0
+Gathered s rs kept fresh (Ok t) = Gathers s rs kept fresh t
+Gathered s rs kept fresh (Err e) = 8192 < length (joined (Strings.kept (map (bytes_at s) rs)))

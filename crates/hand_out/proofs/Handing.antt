@@ -1,4 +1,5 @@
 -- From what the code does to the outcome of the definitions.
+use Rattle.std.specs.Prelude.{Ok, Err}
 use Prim.Native.Nat.{ℕ, ◌+◌, ◌*◌, ◌/◌, ◌≤◌, ◌<◌}
 use native.Mathlib.Omega.{arith}
 use mathlib.Core.Path.{◌≡◌, refl, sym, ap, ◌∙◌, subst}
@@ -27,9 +28,12 @@ use Rattle.checker.specs.Checker.{numbers, outcome}
 use Rattle.checker.specs.declared.Answer as Code
 use Rattle.cells.specs.Cells.{cell_words}
 use Rattle.cells.specs.Room.{most_words}
-use Rattle.fold_operator.specs.declared.Folded.{Folded}
-use Rattle.fold_operator.specs.declared.Folded.TheVariants as Folded
-use Rattle.passes.specs.Passes.{Left, Leaves}
+use Rattle.value.specs.Value.{number}
+use Rattle.value.specs.Meaning.{error}
+use Rattle.fold_operator.specs.declared.Failure.{Failure}
+use Rattle.passes.specs.declared.Refused.{Refused}
+use Rattle.passes.specs.declared.Refused.TheVariants.{Failed}
+use Rattle.passes.specs.Passes.{Passed, Left, Leaves, number_of, place_of}
 use Rattle.hand_out.specs.HandOut.{Fit, WrittenIn, WrittenAt, Writes, AnsweredAt, HandsOut}
 
 module _ {s x : List ℕ} {n : ℕ} {node m : Node} (w : WrittenIn s x n node m) where
@@ -87,10 +91,10 @@ long_enough s x n count needed len out out' l h e node m w k =
 
 -- ---- what a run has left
 
-pub left_written : {s x : List ℕ} {n : ℕ} → AnsweredAt s x (Folded.Done n) → WrittenAt s x n
+pub left_written : {s x : List ℕ} {n : ℕ} → AnsweredAt s x (Ok n) → WrittenAt s x n
 left_written {s} {x} {n} at = go at.answer refl at.leaves.is
   where
-    go : (answer : Answer Node) → at.answer ≡ answer → Left (Fit s at.node) x answer (Folded.Done n) → WrittenAt s x n
+    go : (answer : Answer Node) → at.answer ≡ answer → Left (Fit s at.node) x answer (Ok n) → WrittenAt s x n
     go (done m) e h =
         record {
           node = at.node;
@@ -101,25 +105,35 @@ left_written {s} {x} {n} at = go at.answer refl at.leaves.is
         }
     go (refused number place) e h = absurd h
 
-hands_done : (s x : List ℕ) (n count : ℕ) (out out' : List ℕ) (a : Code.Answer) → Writes s x n count out a out' → HandsOut s x (Folded.Done n) count out a out'
+hands_done : (s x : List ℕ) (n count : ℕ) (out out' : List ℕ) (a : Code.Answer) → Writes s x n count out a out' → HandsOut s x (Ok n) count out a out'
 hands_done s x n count out out' a w node answer is l k = go answer l.is
   where
-    go : (answer : Answer Node) → Left (Fit s node) x answer (Folded.Done n) → outcome a out' ≡ hand_out s out answer
+    go : (answer : Answer Node) → Left (Fit s node) x answer (Ok n) → outcome a out' ≡ hand_out s out answer
     go (done m) h = w node m (record { is = is; fit = h.1.1; words_are = h.1.0; inside = h.0 }) k
     go (refused number place) h = absurd h
 
-hands_refused : (s x : List ℕ) (number place count : ℕ) (out : List ℕ) (a : Code.Answer) → numbers a ≡ Check.refusal number place
-    → HandsOut s x (Folded.Refused number place) count out a out
-hands_refused s x number place count out a e node answer is l k = go answer l.is
+hands_refused : (s x : List ℕ) (why : Refused) (count : ℕ) (out : List ℕ) (a : Code.Answer) → numbers a ≡ Check.refusal (number_of why) (place_of why)
+    → HandsOut s x (Err why) count out a out
+hands_refused s x why count out a e node answer is l k = go answer l.is
   where
-    go : (answer : Answer Node) → Left (Fit s node) x answer (Folded.Refused number place) → outcome a out ≡ hand_out s out answer
+    go : (answer : Answer Node) → Left (Fit s node) x answer (Err why) → outcome a out ≡ hand_out s out answer
     go (done m) h = absurd h
-    go (refused k' p) h = ap (λ (z : Numbers). record { numbers = z; output = out }) (e ∙ ap (λ (z : ℕ). Check.refusal z place) h.0 ∙ ap (Check.refusal k') h.1)
+    go (refused k' p) h = ap (λ (z : Numbers). record { numbers = z; output = out }) (e ∙ ap (λ (z : ℕ). Check.refusal z (place_of why)) h.0 ∙ ap (Check.refusal k') h.1)
 
 -- the same of an answer that is known to be one of these
-pub hands_done_as : (s x : List ℕ) (n count : ℕ) (out out' : List ℕ) (a : Code.Answer) (r : Folded) → r ≡ Folded.Done n → Writes s x n count out a out' → HandsOut s x r count out a out'
-hands_done_as s x n count out out' a r e w = subst (λ (z : Folded). HandsOut s x z count out a out') (sym e) (hands_done s x n count out out' a w)
+pub hands_done_as : (s x : List ℕ) (n count : ℕ) (out out' : List ℕ) (a : Code.Answer) (r : Passed) → r ≡ Ok n → Writes s x n count out a out' → HandsOut s x r count out a out'
+hands_done_as s x n count out out' a r e w = subst (λ (z : Passed). HandsOut s x z count out a out') (sym e) (hands_done s x n count out out' a w)
 
-pub hands_refused_as : (s x : List ℕ) (number place count : ℕ) (out : List ℕ) (a : Code.Answer) (r : Folded) → r ≡ Folded.Refused number place
-    → numbers a ≡ Check.refusal number place → HandsOut s x r count out a out
-hands_refused_as s x number place count out a r e h = subst (λ (z : Folded). HandsOut s x z count out a out) (sym e) (hands_refused s x number place count out a h)
+pub hands_refused_as : (s x : List ℕ) (why : Refused) (count : ℕ) (out : List ℕ) (a : Code.Answer) (r : Passed) → r ≡ Err why
+    → numbers a ≡ Check.refusal (number_of why) (place_of why) → HandsOut s x r count out a out
+hands_refused_as s x why count out a r e h = subst (λ (z : Passed). HandsOut s x z count out a out) (sym e) (hands_refused s x why count out a h)
+
+-- ---- refused
+
+module _ {a : Code.Answer} {why : Refused} where
+  pub known_said : {known : Refused} → why ≡ known → numbers a ≡ Check.refusal (number_of known) (place_of known) → numbers a ≡ Check.refusal (number_of why) (place_of why)
+  known_said e h = h ∙ sym (ap (λ (w : Refused). Check.refusal (number_of w) (place_of w)) e)
+
+  pub failed_said : {failure : Failure} {said : ℕ} → why ≡ Failed failure → said ≡ number (error failure.error) → numbers a ≡ Check.refusal said failure.place
+      → numbers a ≡ Check.refusal (number_of why) (place_of why)
+  failed_said {failure} e q h = known_said e (h ∙ ap (λ (z : ℕ). Check.refusal z failure.place) q)

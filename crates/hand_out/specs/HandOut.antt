@@ -13,8 +13,7 @@ use Rattle.kept.specs.Kept.{Kept}
 use Rattle.checker.specs.Checker.{outcome}
 use Rattle.checker.specs.declared.Answer as Code
 use Rattle.cells.specs.Room.{most_words}
-use Rattle.fold_operator.specs.declared.Folded.{Folded}
-use Rattle.passes.specs.Passes.{Leaves}
+use Rattle.passes.specs.Passes.{Passed, Leaves}
 
 -- m can take the place of a sheet's plan.
 abbrev pub Fit : List ℕ → Node → Node → Type 0
@@ -46,7 +45,7 @@ pub record Counted (s : List ℕ) (count : ℕ) : Type 0 where
   pub wide : count ≡ columns (schema s) node
 
 -- s stands for some plan, and a run on it has left an answer in x and r.
-pub record AnsweredAt (s x : List ℕ) (r : Folded) : Type 0 where
+pub record AnsweredAt (s x : List ℕ) (r : Passed) : Type 0 where
   pub node : Node
   pub is : plan s ≡ done node
   pub answer : Answer Node
@@ -54,7 +53,7 @@ pub record AnsweredAt (s x : List ℕ) (r : Folded) : Type 0 where
   pub origins_are : (m : Node) → answer ≡ done m → OriginsBelow (origins s) m
   pub short : length x ≤ most_words
 
-abbrev pub HandsOut : (s x : List ℕ) → Folded → (count : ℕ) (out : List ℕ) → Code.Answer → List ℕ → Type 0
+abbrev pub HandsOut : (s x : List ℕ) → Passed → (count : ℕ) (out : List ℕ) → Code.Answer → List ℕ → Type 0
 HandsOut s x r count out a out' =
     (node : Node) (answer : Answer Node) → plan s ≡ done node → Leaves (Fit s node) x answer r → count ≡ columns (schema s) node
     → outcome a out' ≡ hand_out s out answer

@@ -31,8 +31,8 @@ use Rattle.nodes.proofs.Widths.{few_columns}
 use Rattle.kept.specs.Kept.{sound_narrow}
 use Rattle.column_numbers.specs.Columns.{source_of}
 use Rattle.column_lookup.specs.Lookup.{pair}
-use Rattle.column_lookup.specs.declared.ColumnPair.{ColumnPair}
-use Rattle.column_lookup.specs.declared.ColumnPair.TheVariants as ColumnPair
+use Rattle.std.specs.Prelude as code
+use Rattle.std.specs.Prelude.{Some, None}
 use Rattle.column_numbers.specs.declared.LeftColumn.{LeftColumn}
 use Rattle.column_numbers.specs.declared.RightColumn.{RightColumn}
 use Rattle.column_numbers.specs.declared.JoinedColumn.{JoinedColumn}
@@ -41,51 +41,13 @@ use Rattle.column_numbers.specs.declared.SourceColumn.TheVariants.{Left, Right}
 use Rattle.stream.specs.Stream.{StreamAt, Streams, Finishes}
 use Rattle.stream.proofs.Streams.{reading_total, written_done, finishes_node}
 use Rattle.hash_join.specs.Hash.{sides, hash_sides, hash_cell, JoinAt, Rewrites, Writes}
-use Rattle.hash_join.specs.declared.HashColumns.{HashColumns}
-use Rattle.hash_join.specs.declared.HashColumns.TheVariants.{Pair, None}
 
 -- ---- the columns on each side
 
-both : SourceColumn → SourceColumn → Option (ℕ × ℕ)
-both (Left a) (Left b) = none
-both (Left a) (Right b) = some (a.0, b.0)
-both (Right a) b = none
-
-both_sides : (n c d : ℕ) → both (source_of c n) (source_of d n) ≡ hash_sides n (some (c, d))
-unfolding both
-both_sides n c d = go (ltb c n) (ltb d n)
-  where
-    go : (a b : Bool) → both (cond a (Left (record { 0 = c })) (Right (record { 0 = c - n }))) (cond b (Left (record { 0 = d })) (Right (record { 0 = d - n })))
-        ≡ cond (a && not b) (some (c, d - n)) none
-    go true true = refl
-    go true false = refl
-    go false b = refl
-
-module _ (n : ℕ) {equal : ColumnPair} {c d : JoinedColumn} (e : equal ≡ ColumnPair.Pair c d) {s : SourceColumn} (f : s ≡ source_of c.0 n) where
-  by_both : {t : SourceColumn} → t ≡ source_of d.0 n → both s t ≡ hash_sides n (pair equal)
-  by_both {t} g =
-      ap (λ (a : SourceColumn). both a t) f
-      ∙ ap (both (source_of c.0 n)) g
-      ∙ both_sides n c.0 d.0
-      ∙ ap (λ (o : ColumnPair). hash_sides n (pair o)) (sym e)
-
-  pub lower_right : {k : RightColumn} → s ≡ Right k → none ≡ hash_sides n (pair equal)
-  unfolding both
-  lower_right z = ap (λ (a : SourceColumn). both a (source_of d.0 n)) (sym z) ∙ by_both refl
-
-  module _ {i : LeftColumn} (y : s ≡ Left i) {t : SourceColumn} (g : t ≡ source_of d.0 n) where
-    pub higher_left : {k : LeftColumn} → t ≡ Left k → none ≡ hash_sides n (pair equal)
-    unfolding both
-    higher_left z = ap (both (Left i)) (sym z) ∙ ap (λ (a : SourceColumn). both a t) (sym y) ∙ by_both g
-
-    pub each_side : {k : RightColumn} → t ≡ Right k → some (i.0, k.0) ≡ hash_sides n (pair equal)
-    unfolding both
-    each_side z = ap (both (Left i)) (sym z) ∙ ap (λ (a : SourceColumn). both a t) (sym y) ∙ by_both g
-
-pub none_told : {r : HashColumns} → r ≡ None → {o : Option (ℕ × ℕ)} → sides r ≡ o → none ≡ o
+pub none_told : {r : code.Option (LeftColumn × RightColumn)} → r ≡ None → {o : Option (ℕ × ℕ)} → sides r ≡ o → none ≡ o
 none_told e f = ap sides (sym e) ∙ f
 
-pub pair_told : {r : HashColumns} {a : LeftColumn} {b : RightColumn} → r ≡ Pair a b → {o : Option (ℕ × ℕ)} → sides r ≡ o → some (a.0, b.0) ≡ o
+pub pair_told : {r : code.Option (LeftColumn × RightColumn)} {a : LeftColumn} {b : RightColumn} → r ≡ Some (a, b) → {o : Option (ℕ × ℕ)} → sides r ≡ o → some (a.0, b.0) ≡ o
 pair_told e f = ap sides (sym e) ∙ f
 
 -- ---- one join

@@ -1,5 +1,6 @@
 -- What the code's answers stand for, and the contracts of pass 4's functions.
-use Rattle.std.specs.Prelude.{ℕ, ◌+◌, ◌-◌, ◌/◌, Bool, cond, not, ◌&&◌, ◌≡◌, List, ◌++◌, ltb, length}
+use Rattle.std.specs.Prelude as code
+use Rattle.std.specs.Prelude.{ℕ, ◌+◌, ◌-◌, ◌/◌, Bool, cond, not, ◌&&◌, ◌≡◌, List, ◌++◌, ltb, length, Some, None}
 use Rattle.std.proofs.Math.Option.{Option, none, some}
 use Rattle.sql.specs.Schema.{Schema}
 use Rattle.sql.specs.Plan.{Join, Node, join}
@@ -10,12 +11,13 @@ use Rattle.words.specs.Words.{node_words}
 use Rattle.words.specs.Place.{NodeHere}
 use Rattle.nodes.specs.Own.{OwnStart}
 use Rattle.records.specs.Records.{Tables}
-use Rattle.hash_join.specs.declared.HashColumns.{HashColumns}
-use Rattle.hash_join.specs.declared.HashColumns.TheVariants.{Pair, None}
+use Rattle.column_numbers.specs.declared.LeftColumn.{LeftColumn}
+use Rattle.column_numbers.specs.declared.RightColumn.{RightColumn}
 use Rattle.sheet.specs.Tags
 
-abbrev pub sides : HashColumns → Option (ℕ × ℕ)
-sides (Pair left right) = some (left.0, right.0)
+-- the columns' numbers
+abbrev pub sides : code.Option (LeftColumn × RightColumn) → Option (ℕ × ℕ)
+sides (Some (left, right)) = some (left.0, right.0)
 sides None = none
 
 -- the columns of a hash join, each counted in its own source, for an equijoin's pair: if one is on each side

@@ -12,35 +12,25 @@ ghost use Rattle.column_lookup.specs.Lookup.{pair};
 ghost use Rattle.stream.specs.Stream.{StreamAt, Streams};
 ghost use Rattle.hash_join.specs.Hash.{sides, hash_sides, hash_cell, JoinAt, Rewrites, Writes};
 
-// The columns of a hash join.
-#[derive(Clone, Copy)]
-enum HashColumns {
-    Pair(column_numbers::LeftColumn, column_numbers::RightColumn),
-    None,
-}
+use column_numbers::{JoinedColumn, LeftColumn, RightColumn, SourceColumn};
+use words::Expression;
 
 // The columns of an equijoin in their sources, if one is on each side; the left source has n columns.
-fn one_on_each_side(columns: column_lookup::ColumnPair, n: usize) -> HashColumns
+fn one_on_each_side(
+    columns: Option<(JoinedColumn, JoinedColumn)>,
+    n: usize,
+) -> Option<(LeftColumn, RightColumn)>
     ensures { sides result ≡ hash_sides n (pair columns) }
 {
-    let column_lookup::ColumnPair::Pair(lower, higher) = columns else {
-        return HashColumns::None;
-    };
-    let column_numbers::SourceColumn::Left(left) = lower.source(n) else {
-        return HashColumns::None;
-    };
-    let column_numbers::SourceColumn::Right(right) = higher.source(n) else {
-        return HashColumns::None;
-    };
-    HashColumns::Pair(left, right)
+    let (lower, higher) = columns?;
+    match (lower.source(n), higher.source(n)) {
+        (SourceColumn::Left(left), SourceColumn::Right(right)) => Some((left, right)),
+        _ => None,
+    }
 }
 
 // A HashJoin's cell, from the cell of the NestedLoopJoin, whose flag's bit 1 says that it is outer.
-fn hash_join_cell(
-    nested: cells::Cell,
-    left: column_numbers::LeftColumn,
-    right: column_numbers::RightColumn,
-) -> cells::Cell
+fn hash_join_cell(nested: cells::Cell, left: LeftColumn, right: RightColumn) -> cells::Cell
     ensures { result ≡ hash_cell nested left.0 right.0 }
 {
     cells::Cell {
@@ -63,8 +53,13 @@ fn hash_join(x: &[u32], m: usize, hi: usize, y: &mut [u32], lo: usize, at: usize
     if m == end {
         return stream::finish(x, m, hi, y, lo, at);
     }
-    let columns = column_lookup::equijoin(x, m, end);
-    let HashColumns::Pair(left_column, right_column) = one_on_each_side(columns, n) else {
+    let predicate = Expression {
+        words: x,
+        lo: m,
+        hi: end,
+    };
+    let columns = column_lookup::equijoin(predicate);
+    let Some((left_column, right_column)) = one_on_each_side(columns, n) else {
         return stream::finish(x, m, hi, y, lo, at);
     };
     let cell = hash_join_cell(cells::cell_at(x, hi), left_column, right_column);
@@ -80,10 +75,7 @@ fn over_columns(x: &[u32], lo: usize, hi: usize, tables: &[u8], m: usize, n: usi
     ensures { ColumnCount tables.now x.now lo hi result }
 {
     let tag = cells::tag_at(x, hi);
-    if tag == tags::AGGREGATE {
-        return nodes::columns(x, lo, hi, tables);
-    }
-    if tags::PROJECTION <= tag {
+    if tag == tags::AGGREGATE || tags::PROJECTION <= tag {
         return nodes::columns(x, lo, hi, tables);
     }
     n
@@ -153,6 +145,5 @@ pub fn optimize(x: &[u32], t: usize, y: &mut [u32], tables: &[u8]) -> usize
     requires { StreamAt (Tables tables.now) x.now 0 t 0 y.old 0 }
     ensures { Streams (Tables tables.now) (λ room schema rest p. done (HashJoin schema p)) x.now 0 t 0 y.old 0 result y.new }
 {
-    let plan = hash_joins(x, 0, t, y, 0, tables);
-    plan.end
+    hash_joins(x, 0, t, y, 0, tables).end
 }

@@ -16,15 +16,11 @@ const INFINITY: u64 = 0x7FF0_0000_0000_0000;
 
 const NAN: u64 = 0x7FF8_0000_0000_0000;
 
-// |i|. The smallest integer has no opposite, so i + 1 is negated, and the one is added after the
-// cast.
+// |i|, also of the smallest integer, which has no opposite.
 pub fn magnitude(i: i64) -> u64
     ensures { result ≡ nat_abs i }
 {
-    if i < 0 {
-        return (0 - (i + 1)) as u64 + 1;
-    }
-    i as u64
+    i.unsigned_abs()
 }
 
 // The pattern of the double nearest to n. A number whose leading one is bit j has j + 1023 in the
@@ -75,6 +71,7 @@ pub fn nearest_f64(i: i64) -> f64
 // The whole root of m * 2^54, digit by digit: each turn takes two more of its binary digits, of which
 // the first 27 pairs are m's and the others 0, and gives one digit of the root. What the root's square
 // leaves is at most twice the root, so that 64 bits hold it.
+#[tactic(auto, using(crate::proofs::WholeRoot::root_small))]
 fn whole_root(m: u64) -> u64
     requires { m < 2 ^ 54 }
     ensures { WholeRoot (m * 2 ^ 54) result }
@@ -82,8 +79,7 @@ fn whole_root(m: u64) -> u64
     let mut root: u64 = 0;
     let mut rest: u64 = 0;
     let mut digits = m;
-    let mut i: u64 = 0;
-    while i < 54 {
+    for _ in 0..54u64 {
         rest = rest * 4 + digits / FIELD;
         digits = digits % FIELD * 4;
         root = root * 2;
@@ -91,7 +87,6 @@ fn whole_root(m: u64) -> u64
             rest = rest - (root * 2 + 1);
             root = root + 1;
         }
-        i = i + 1;
     }
     root
 }

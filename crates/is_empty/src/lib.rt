@@ -15,10 +15,11 @@ fn is_never(s: &[u32], hi: usize) -> bool
     ensures { NeverTrue s.now hi result }
 {
     let c = cells::cell_at(s, hi);
-    if c.tag == tags::BOOLEAN {
-        return c.a == 0;
+    match c.tag {
+        tags::BOOLEAN => c.a == 0,
+        tags::NULL => true,
+        _ => false,
     }
-    c.tag == tags::NULL
 }
 
 // The same of a predicate from lo to hi, which may be absent.
@@ -26,10 +27,7 @@ fn optional_is_never(s: &[u32], lo: usize, hi: usize) -> bool
     requires { OptionalAt s.now lo hi }
     ensures { OptionalNever s.now lo hi result }
 {
-    if lo == hi {
-        return false;
-    }
-    is_never(s, hi)
+    lo != hi && is_never(s, hi)
 }
 
 // Of a node without sources. A lookup without constants and a Values without Rows are their cell alone.
@@ -38,14 +36,11 @@ fn leaf_is_empty(s: &[u32], lo: usize, hi: usize) -> bool
     requires source_count { SourceCount s.now lo hi 0 }
     ensures { IsEmpty s.now lo hi result }
 {
-    let t = cells::tag_at(s, hi);
-    if t == tags::SCAN {
-        return optional_is_never(s, lo, hi - cells::CELL_WORDS);
+    match cells::tag_at(s, hi) {
+        tags::SCAN => optional_is_never(s, lo, hi - cells::CELL_WORDS),
+        tags::NOTHING => false,
+        _ => hi - lo == cells::CELL_WORDS,
     }
-    if t == tags::NOTHING {
-        return false;
-    }
-    hi - lo == cells::CELL_WORDS
 }
 
 // Whether the source of a node with one source is a Nothing.
@@ -63,10 +58,7 @@ fn filter_is_empty(s: &[u32], lo: usize, hi: usize) -> bool
     requires hi_value { tag_at s.now hi ≡ 51 }
     ensures { IsEmpty s.now lo hi result }
 {
-    if is_never(s, hi - cells::CELL_WORDS) {
-        return true;
-    }
-    source_is_nothing(s, lo, hi)
+    is_never(s, hi - cells::CELL_WORDS) || source_is_nothing(s, lo, hi)
 }
 
 // The amount is said in two halves.
@@ -76,10 +68,7 @@ pub fn limit_is_empty(s: &[u32], lo: usize, hi: usize) -> bool
     ensures { IsEmpty s.now lo hi result }
 {
     let c = cells::cell_at(s, hi);
-    if c.a == 0 {
-        return c.b == 0;
-    }
-    false
+    c.a == 0 && c.b == 0
 }
 
 // Of a node with one source. An Aggregate and a Remap over a Nothing stay.
@@ -88,20 +77,12 @@ fn over_is_empty(s: &[u32], lo: usize, hi: usize) -> bool
     requires source_count { SourceCount s.now lo hi 1 }
     ensures { IsEmpty s.now lo hi result }
 {
-    let t = cells::tag_at(s, hi);
-    if t == tags::FILTER {
-        return filter_is_empty(s, lo, hi);
+    match cells::tag_at(s, hi) {
+        tags::FILTER => filter_is_empty(s, lo, hi),
+        tags::LIMIT => limit_is_empty(s, lo, hi),
+        tags::AGGREGATE | tags::REMAP => false,
+        _ => source_is_nothing(s, lo, hi),
     }
-    if t == tags::LIMIT {
-        return limit_is_empty(s, lo, hi);
-    }
-    if t == tags::AGGREGATE {
-        return false;
-    }
-    if t == tags::REMAP {
-        return false;
-    }
-    source_is_nothing(s, lo, hi)
 }
 
 // Of a node with two sources, outer or not. A HashJoin has no predicate.
@@ -115,10 +96,7 @@ fn join_is_empty(s: &[u32], lo: usize, hi: usize) -> bool
         return true;
     }
     let mid = cells::start(s, m);
-    if cells::tag_at(s, mid) == tags::NOTHING {
-        return true;
-    }
-    cells::tag_at(s, m) == tags::NOTHING
+    cells::tag_at(s, mid) == tags::NOTHING || cells::tag_at(s, m) == tags::NOTHING
 }
 
 // The second match of short_circuit, by how many sources the node from lo to hi has.
@@ -126,12 +104,9 @@ pub fn is_empty(s: &[u32], lo: usize, hi: usize) -> bool
     requires { NodeAt s.now lo hi }
     ensures { IsEmpty s.now lo hi result }
 {
-    let n = nodes::source_count(s, lo, hi);
-    if n == 0 {
-        return leaf_is_empty(s, lo, hi);
+    match nodes::source_count(s, lo, hi) {
+        0 => leaf_is_empty(s, lo, hi),
+        1 => over_is_empty(s, lo, hi),
+        _ => join_is_empty(s, lo, hi),
     }
-    if n == 1 {
-        return over_is_empty(s, lo, hi);
-    }
-    join_is_empty(s, lo, hi)
 }

@@ -2,8 +2,8 @@
 use Prim.Native.Nat.{ℕ, zero, suc, ◌+◌, ◌-◌, ◌*◌, ◌≤◌, ◌<◌}
 use native.Mathlib.Omega.{arith}
 use native.Mathlib.Numerals.{add-one}
-use mathlib.Core.Logic.{◌⊎◌, inl, inr, ⊎_elim}
-use mathlib.Core.Bool.{Bool, true, false, cond, ◌&&◌}
+use mathlib.Core.Logic.{◌⊎◌, ⊎_elim}
+use mathlib.Core.Bool.{Bool, true, false, ◌&&◌}
 use mathlib.Core.Path.{◌≡◌, refl, sym, ap, ◌∙◌, subst}
 use mathlib.Core.List.{List, [], ◌∷◌, ◌++◌, append-nil}
 use mathlib.Core.Option.{Option, none, some}
@@ -13,26 +13,26 @@ use borrow.Author.Tests.{eq-eqb, ne_eqb}
 use Rattle.sql.specs.Expression.{origin, Expression, constant, column, unary, binary}
 use Rattle.sql.specs.Plan.{unlabelled, unqualified, qualified, Other, limit, offset, order, projection, remap, aggregate, Over, filter, other, Node, over, routed, group_label, item_label, items_label, remap_source, optional_label, other_label}
 use Rattle.sql.specs.Plan as plan
-use Rattle.sheet.specs.Content.{cell_of, label_of, item_cell, column_cell, target_cell, agg_cell}
+use Rattle.sheet.specs.Content.{label_of, item_cell, target_cell, agg_cell}
 use Rattle.cells.specs.declared.Cell.{Cell}
-use Rattle.cells.specs.Cells.{cell_words, sized, cell_at, tag_at, Part}
+use Rattle.cells.specs.Cells.{cell_words, cell_at, tag_at, Part}
 use Rattle.cells.proofs.Laws.{part_left, part_right, part_in, body_part, cell_is, cell_in}
 use Rattle.words.specs.Words.{cell, root, operand_words, all_words, expression_words, item_words, agg_words, target_words, source_words}
 use Rattle.words.specs.Place.{ExpressionHere, NodeHere, NodeAt}
 use Rattle.words.proofs.Expressions.{by_column, root_is, root_tag, here_in, shape}
-use Rattle.words.proofs.Nodes.{node_tag, node_in, own_part}
-use Rattle.words.proofs.Tags.{tag_of, tagged, over_tag, by_over, by_projection, by_aggregate, over_aggregate, over_projection, over_remap}
+use Rattle.words.proofs.Nodes.{node_tag, own_part}
+use Rattle.words.proofs.Tags.{tagged, over_tag, by_over, by_projection, by_aggregate, over_aggregate, over_projection}
 use Rattle.nodes.specs.Trees.{Trees, TreesAt, trees_start}
 use Rattle.nodes.specs.Trees as trees
 use Rattle.nodes.specs.Own.{OwnStart, SourceCount}
-use Rattle.nodes.proofs.Trees.{all_trees, trees_few}
-use Rattle.nodes.proofs.Widths.{a_here, b_here, tag_here}
+use Rattle.nodes.proofs.Trees.{all_trees}
+use Rattle.nodes.proofs.Widths.{a_here, b_here}
 use Rattle.labels.specs.declared.Label.{Label}
 use Rattle.labels.specs.declared.Label.TheVariants.{Unlabelled, Unqualified, Qualified}
 use Rattle.labels.specs.declared.Route.{Route}
 use Rattle.labels.specs.declared.Route.TheVariants.{To, Ends}
-use Rattle.labels.specs.Labels.{label, routed_by, Labelled, ExpressionEnds, ExpressionRoute, ItemEnds, ItemRoute, TargetsUp, RemapRoute, Routes}
-use Rattle.labels.proofs.Parts.{Nth, NthPart, all_at, behind_at, nth_part}
+use Rattle.labels.specs.Labels.{routed_by, Labelled, ExpressionEnds, ExpressionRoute, ItemEnds, ItemRoute, TargetsUp, RemapRoute, Routes}
+use Rattle.labels.proofs.Parts.{Nth, NthPart, behind_at, nth_part}
 
 -- ---- a choice by a test
 

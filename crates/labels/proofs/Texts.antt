@@ -1,23 +1,24 @@
 -- Laws on the names of tables and columns.
-use Prim.Native.Nat.{ℕ, ◌+◌, ◌-◌, ◌*◌, ◌≤◌, ◌<◌}
+use Prim.Native.Nat.{ℕ, ◌+◌, ◌*◌, ◌≤◌, ◌<◌}
 use native.Mathlib.Omega.{arith}
 use mathlib.Core.Bool.{Bool, true, false}
-use mathlib.Core.Path.{◌≡◌, refl, sym, ap, ◌∙◌, subst}
+use mathlib.Core.Path.{◌≡◌, refl, sym, ap, ◌∙◌}
 use mathlib.Core.List.{List}
 use lib.ListN.{length}
+use Rattle.std.proofs.Common.{Option as CodeOption, Some, None}
+use Rattle.std.specs.Option.{unwrap_or}
 use Rattle.value.specs.Meaning.{bytes_at}
 use Rattle.sql.specs.Schema.{Column, Table, table_of}
 use Rattle.sql.specs.Plan.{Node, table_label, column_label, qualified}
 use Rattle.sql.specs.Plan as plan
 use Rattle.sheet.specs.Bytes.{word}
-use Rattle.words.specs.Place.{NodeHere}
 use Rattle.records.specs.Records.{table_name, first_column, table_width, RecordsAt}
 use Rattle.records.proofs.Laws.{table_said, column_said, column_none, tables_said}
 use Rattle.labels.specs.declared.Label.{Label}
-use Rattle.labels.specs.declared.Label.TheVariants.{Unlabelled, Unqualified, Qualified}
+use Rattle.labels.specs.declared.Label.TheVariants.{Qualified}
 use Rattle.labels.specs.declared.Traced.{Traced}
 use Rattle.labels.specs.declared.Traced.TheVariants as traced
-use Rattle.labels.specs.Labels.{label, alias_if, named, Traces}
+use Rattle.labels.specs.Labels.{alias_of, alias_if, named, Traces}
 use Rattle.labels.specs.Names.{qualifier_text, ColumnName, TableLabel, ColumnLabel}
 
 -- ---- names
@@ -40,20 +41,24 @@ module _ (records columns : List ℕ) (t i : ℕ) where
 
 -- ---- labels
 
-pub labels_table : {records columns : List ℕ} (t : ℕ) (aliased : Bool) (alias i : ℕ) {name q r : ℕ} → name ≡ table_name records t
-    → q ≡ plan.qualifier (alias_if aliased alias) name → ColumnName records columns t i r → TableLabel records columns t aliased alias i (Qualified q r)
-labels_table t aliased alias i {q = q} {r = r} e f g schema n =
+pub labels_table : {records columns : List ℕ} (t : ℕ) (alias : CodeOption ℕ) (i : ℕ) {name q r : ℕ} → name ≡ table_name records t
+    → q ≡ plan.qualifier (alias_of alias) name → ColumnName records columns t i r → TableLabel records columns t alias i (Qualified q r)
+labels_table t alias i {q = q} {r = r} e f g schema n =
     let k = e ∙ ap (λ (x : Table). x.name) (sym (table_said n t)) in
-    ap (λ (m : ℕ). qualified m r) (f ∙ ap (plan.qualifier (alias_if aliased alias)) k)
-    ∙ ap (λ (m : ℕ). qualified (plan.qualifier (alias_if aliased alias) (table_of schema t).name) m) (g schema n)
+    ap (λ (m : ℕ). qualified m r) (f ∙ ap (plan.qualifier (alias_of alias)) k)
+    ∙ ap (λ (m : ℕ). qualified (plan.qualifier (alias_of alias) (table_of schema t).name) m) (g schema n)
+
+pub qualifier_or : (alias : CodeOption ℕ) (name : ℕ) → unwrap_or alias name ≡ plan.qualifier (alias_of alias) name
+qualifier_or None name = refl
+qualifier_or (Some alias) name = refl
 
 module _ {records columns s : List ℕ} {lo hi i : ℕ} {x : Traced} (f : Traces records s lo hi i x) where
   pub label_said_here : (l : Label) → x ≡ traced.Said l → ColumnLabel records columns s lo hi i l
   label_said_here l e schema p n u = ap (named schema) (sym e) ∙ f schema p (tables_said n) u
 
-  pub label_of_column : (t : ℕ) (aliased : Bool) (alias c : ℕ) → x ≡ traced.Column t aliased alias c → (r : Label)
-      → TableLabel records columns t aliased alias c r → ColumnLabel records columns s lo hi i r
-  label_of_column t aliased alias c e r g schema p n u = g schema n ∙ ap (named schema) (sym e) ∙ f schema p (tables_said n) u
+  pub label_of_column : (t : ℕ) (alias : CodeOption ℕ) (c : ℕ) → x ≡ traced.Column t alias c → (r : Label)
+      → TableLabel records columns t alias c r → ColumnLabel records columns s lo hi i r
+  label_of_column t alias c e r g schema p n u = g schema n ∙ ap (named schema) (sym e) ∙ f schema p (tables_said n) u
 
 -- The text of the chosen reference is the chosen text.
 pub chosen_text : (text : List ℕ) (aliased : Bool) (alias name : ℕ)

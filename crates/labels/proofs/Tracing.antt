@@ -1,26 +1,28 @@
 -- Laws on what a label comes from, traced through a plan.
-use Prim.Native.Nat.{ℕ, zero, suc, ◌+◌, ◌-◌, ◌*◌, ◌≤◌, ◌<◌}
+use Prim.Native.Nat.{ℕ, ◌+◌, ◌-◌, ◌*◌, ◌≤◌, ◌<◌}
 use native.Mathlib.Omega.{arith}
 use mathlib.Core.Logic.{◌⊎◌, inl, inr, ⊎_elim}
-use mathlib.Core.Bool.{Bool, true, false, cond, ◌||◌}
+use mathlib.Core.Bool.{Bool, true, false, ◌||◌}
 use mathlib.Core.Path.{◌≡◌, refl, sym, ap, ◌∙◌, subst}
-use mathlib.Core.List.{List, [], ◌∷◌, ◌++◌, append-nil}
+use mathlib.Core.List.{List, [], ◌++◌, append-nil}
 use mathlib.Core.Option.{Option, none, some}
+use Rattle.std.proofs.Common.{Option as CodeOption}
 use lib.Dec.{eqb, ltb, leb}
-use lib.ListN.{length, get_or, length-append, get_or-eq_default}
+use Rattle.std.specs.Bool.{then_some}
+use lib.ListN.{length, get_or, get_or-eq_default}
 use lib.Seq.{get_or-append_seam}
-use borrow.Author.Tests.{eqb-true, eqb-false, leb-true, leb-false, ltb-true, ltb-false, lt-ltb, le-ltb, eq-eqb, ne_eqb}
+use borrow.Author.Tests.{eqb-true, eqb-false, leb-true, leb-false, lt-ltb, le-ltb, eq-eqb, ne_eqb}
 use Rattle.sql.specs.Schema.{Schema}
 use Rattle.sql.specs.Plan.{unlabelled, unqualified, qualified, by_key, by_index, Leaf, scan, lookup, nothing, values, Other, limit, offset, order, projection, remap, aggregate, Over, filter, other, Join, Node, leaf, over, join, other_label, table_label, leaf_label, column_label, columns}
 use Rattle.sql.specs.Plan as plan
 use Rattle.sheet.specs.Content.{label_of, label_cell}
 use Rattle.cells.specs.declared.Cell.{Cell}
-use Rattle.cells.specs.Cells.{cell_words, cell_at, tag_at, start_at, Part, Sized}
+use Rattle.cells.specs.Cells.{cell_words, cell_at, tag_at, start_at, Part}
 use Rattle.cells.proofs.Laws.{part_left, part_right, part_in, cell_is}
-use Rattle.words.specs.Words.{cell, all_words, label_words, leaf_cell, source_count}
+use Rattle.words.specs.Words.{cell, all_words, label_words, leaf_cell}
 use Rattle.words.specs.Place.{NodeHere, NodeAt}
-use Rattle.words.proofs.Nodes.{node_cell_is, node_tag, own_part, over_source, join_left, join_right, node_in}
-use Rattle.words.proofs.Tags.{tagged, leaf_tag, over_tag, by_leaf, by_over, by_join, by_nothing, leaf_nothing, leaf_values}
+use Rattle.words.proofs.Nodes.{node_cell_is, node_tag, own_part, over_source, join_left, join_right}
+use Rattle.words.proofs.Tags.{tagged, over_tag, by_leaf, by_over, by_join, by_nothing, leaf_nothing, leaf_values}
 use Rattle.words.proofs.Sizes.{all_single}
 use Rattle.nodes.specs.Own.{OwnStart, SourceCount}
 use Rattle.nodes.specs.Columns.{Narrow, ColumnsAt, ColumnCount, GoesThrough}
@@ -28,16 +30,15 @@ use Rattle.records.specs.Records.{Tables}
 use Rattle.nodes.proofs.Own.{tag_in}
 use Rattle.nodes.proofs.Widths.{a_here, tag_here, columns_node, source_in, source_columns_at, through_in, sources_in}
 use Rattle.labels.specs.declared.Label.{Label}
-use Rattle.labels.specs.declared.Label.TheVariants.{Unlabelled, Unqualified, Qualified}
+use Rattle.labels.specs.declared.Label.TheVariants.{Unlabelled}
 use Rattle.labels.specs.declared.Route.{Route}
 use Rattle.labels.specs.declared.Route.TheVariants.{To, Ends}
 use Rattle.labels.specs.declared.Traced.{Traced}
 use Rattle.labels.specs.declared.Traced.TheVariants.{Said, Column}
 use Rattle.labels.specs.declared.Spot.{Spot}
-use Rattle.labels.specs.declared.Next.{Next}
-use Rattle.labels.specs.declared.Next.TheVariants.{Done, More}
-use Rattle.labels.specs.Labels.{label, alias_if, named, routed_by, Labelled, Routes, is_aliased, says_columns, LeafTraced, Asked, AskedCount, CountedAt, LeftColumns, Traces, Reached, Moves, Steps}
-use Rattle.labels.proofs.Parts.{Nth, nth, all_split}
+use Rattle.std.specs.declared.ops.ControlFlow.TheVariants.{Break, Continue}
+use Rattle.labels.specs.Labels.{label, alias_of, alias_if, named, routed_by, Labelled, Routes, is_aliased, says_columns, LeafTraced, Asked, AskedCount, CountedAt, LeftColumns, Traces, Reached, Moves, Steps}
+use Rattle.labels.proofs.Parts.{nth, all_split}
 use Rattle.labels.proofs.Routes.{chosen, passed}
 
 -- ---- a Nothing
@@ -103,17 +104,16 @@ module _ {s : List ℕ} {lo hi : ℕ} {c : Cell} (q : c ≡ cell_at s hi) where
       leaf_values (λ l. unlabelled ≡ leaf_label schema l i) (λ rs. refl) l (sym (tag_here q (leaf og l) u) ∙ z)
 
   -- ---- a table's column
-  pub table_says : (c.tag ≡ 57 → ⊥) → (c.tag ≡ 63 → ⊥) → (i : ℕ) (b : Bool) → b ≡ is_aliased c.tag c.flag → LeafTraced s lo hi i (Column c.a b c.b i)
+  pub table_says : (c.tag ≡ 57 → ⊥) → (c.tag ≡ 63 → ⊥) → (i : ℕ) (alias : CodeOption ℕ) → alias_of alias ≡ alias_if (is_aliased c.tag c.flag) c.b → LeafTraced s lo hi i (Column c.a alias i)
   unfolding cell
-  table_says y z i b e schema og l u = go l u (ap (λ (t : Bool). alias_if t c.b) e ∙ ap (λ (k : Cell). alias_if (is_aliased k.tag k.flag) k.b) (q ∙ node_cell_is (leaf og l) u))
+  table_says y z i alias e schema og l u = go l u (e ∙ ap (λ (k : Cell). alias_if (is_aliased k.tag k.flag) k.b) (q ∙ node_cell_is (leaf og l) u))
     where
-      of_table : (t : ℕ) (al : Option ℕ) → c.a ≡ t → alias_if b c.b ≡ al → table_label schema c.a (alias_if b c.b) i ≡ table_label schema t al i
-      of_table t al f g =
-          ap (λ (n : ℕ). table_label schema n (alias_if b c.b) i) f ∙ ap (λ (a : Option ℕ). table_label schema t a i) g
+      of_table : (t : ℕ) (al : Option ℕ) → c.a ≡ t → alias_of alias ≡ al → table_label schema c.a (alias_of alias) i ≡ table_label schema t al i
+      of_table t al f g = ap (λ (n : ℕ). table_label schema n (alias_of alias) i) f ∙ ap (λ (a : Option ℕ). table_label schema t a i) g
 
       go : (l : Leaf) → NodeHere s lo hi (leaf og l)
-          → alias_if b c.b ≡ alias_if (is_aliased (cell og (leaf_cell l)).tag (cell og (leaf_cell l)).flag) (cell og (leaf_cell l)).b
-          → table_label schema c.a (alias_if b c.b) i ≡ leaf_label schema l i
+          → alias_of alias ≡ alias_if (is_aliased (cell og (leaf_cell l)).tag (cell og (leaf_cell l)).flag) (cell og (leaf_cell l)).b
+          → table_label schema c.a (alias_of alias) i ≡ leaf_label schema l i
       go (scan t none none) u g = of_table t none (a_here q (leaf og (scan t none none)) u) g
       go (scan t none (some f)) u g = of_table t none (a_here q (leaf og (scan t none (some f))) u) g
       go (scan t (some al) none) u g = of_table t (some al) (a_here q (leaf og (scan t (some al) none)) u) g
@@ -131,11 +131,9 @@ aliased_scan tag flag e = rw (eq-eqb tag 62 e)
 pub aliased_lookup : (tag flag : ℕ) → (tag ≡ 62 → ⊥) → leb 1 flag ≡ is_aliased tag flag
 aliased_lookup tag flag h = rw (ne_eqb tag 62 h)
 
-pub says_one : (tag : ℕ) → tag ≡ 50 → true ≡ says_columns tag
-says_one tag e = rw (eq-eqb tag 50 e)
-
-pub says_other : (tag : ℕ) → (tag ≡ 50 → ⊥) → leb 60 tag ≡ says_columns tag
-says_other tag h = rw (ne_eqb tag 50 h)
+pub alias_then : (b : Bool) (alias : ℕ) → alias_of (then_some b alias) ≡ alias_if b alias
+alias_then true alias = refl
+alias_then false alias = refl
 
 pub says_true : (tag : ℕ) → says_columns tag ≡ true → (tag ≡ 50) ⊎ (60 ≤ tag)
 says_true tag h = go (eqb tag 50) (leb 60 tag) (eqb-true tag 50) (leb-true 60 tag) h
@@ -216,12 +214,12 @@ module _ {s : List ℕ} {lo hi m : ℕ} (c : SourceCount s lo hi 1) (own : OwnSt
 
 -- a count that isn't asked for
 pub not_asked : {records s : List ℕ} {lo hi : ℕ} → NodeAt s lo hi → (tag_at s hi ≡ 50) ⊎ (60 ≤ tag_at s hi) → AskedCount records s lo hi 0
-not_asked {s = s} {lo = lo} {hi = hi} t g schema p k u h = let z = own p u in absurd (omega arith)
+not_asked {s = s} {lo = lo} {hi = hi} t g schema p k u h = let z : ◌≡◌ {A = ℕ} 0 1 = cc (own p u, h) in absurd (omega arith)
   where
-    own : GoesThrough s lo hi 0
+    own : GoesThrough s lo hi false
     own =
-        ⊎_elim (λ (j : tag_at s hi ≡ 50). through_in 0 50 1 refl refl (omega arith) (omega arith))
-        (λ (j : 60 ≤ tag_at s hi). let (a, b) = tag_in t refl in through_in 0 60 4 refl refl (omega arith) (omega arith)) g
+        ⊎_elim (λ (j : tag_at s hi ≡ 50). through_in false 50 1 refl refl (omega arith) (omega arith))
+        (λ (j : 60 ≤ tag_at s hi). let (a, b) = tag_in t refl in through_in false 60 4 refl refl (omega arith) (omega arith)) g
 
 -- a node with columns of its own
 module _ {s : List ℕ} {lo hi m : ℕ} (i : ℕ) (c : SourceCount s lo hi 1) (own : OwnStart s lo hi m) (g : (tag_at s hi ≡ 50) ⊎ (60 ≤ tag_at s hi)) (r : Route)
@@ -350,24 +348,23 @@ module _ {records s : List ℕ} {lo hi i : ℕ} where
         reaches = λ schema p k u. record { q = p; here = u; count = λ h. f schema p k u; same = refl };
       }
 
-  module _ {lo' hi' c w : ℕ} (a : Way records s lo hi i lo' hi' c w) {r : Next} (f : Steps records s lo' hi' c w r) where
-    pub way_done : (o : Traced) → r ≡ Done o → Traces records s lo hi i o
-    way_done o e schema p k u =
-        let x = a.reaches schema p k u in
-        subst (λ (r : Next). Steps records s lo' hi' c w r) e f schema x.q k x.here ∙ x.same
+  module _ {x : Spot} (a : Way records s lo hi i x.lo x.hi x.column x.columns) where
+    pub way_done : (o : Traced) → Steps records s x (Break o) → Traces records s lo hi i o
+    way_done o f schema p k u =
+        let y = a.reaches schema p k u in
+        f schema y.q k y.here ∙ y.same
 
-    pub way_shorter : (x : Spot) → r ≡ More x → x.hi - x.lo < hi' - lo'
-    way_shorter x e = (subst (λ (r : Next). Steps records s lo' hi' c w r) e f).shorter
+    pub way_shorter : (y : Spot) → Steps records s x (Continue y) → y.hi - y.lo < x.hi - x.lo
+    way_shorter y f = f.shorter
 
-    pub way_more : (x : Spot) → r ≡ More x → Way records s lo hi i x.lo x.hi x.column x.columns
-    way_more x e =
-        let g : Moves records s lo' hi' c w x = subst (λ (r : Next). Steps records s lo' hi' c w r) e f in
+    pub way_more : (y : Spot) → Steps records s x (Continue y) → Way records s lo hi i y.lo y.hi y.column y.columns
+    way_more y f =
         record {
-          there = g.there;
+          there = f.there;
           reaches = λ schema p k u.
-              let y = a.reaches schema p k u in
-              let z = g.reaches schema y.q k y.here y.count in
-              record { q = z.q; here = z.here; count = z.count; same = z.same ∙ y.same };
+              let v = a.reaches schema p k u in
+              let z = f.reaches schema v.q k v.here v.count in
+              record { q = z.q; here = z.here; count = z.count; same = z.same ∙ v.same };
         }
 
 -- ---- the code's tests

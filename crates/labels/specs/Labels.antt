@@ -1,5 +1,5 @@
 -- What the code's values say in the words of the definitions, and the contracts of tracing a label.
-use Rattle.std.specs.Prelude.{ℕ, ◌+◌, ◌-◌, ◌<◌, Bool, true, false, cond, ◌||◌, ◌≡◌, List, leb, eqb, length, get_or}
+use Rattle.std.specs.Prelude.{ℕ, ◌+◌, ◌-◌, ◌<◌, Bool, true, false, cond, ◌||◌, ◌≡◌, List, leb, eqb, Option as CodeOption, Some, None}
 use Rattle.std.proofs.Math.Option.{Option, none, some}
 use Rattle.sql.specs.Schema.{Schema}
 use Rattle.sql.specs.Expression.{Expression}
@@ -7,7 +7,7 @@ use Rattle.sql.specs.Plan.{unlabelled, unqualified, qualified, Other, other, Joi
 use Rattle.sql.specs.Plan as plan
 use Rattle.sheet.specs.Content.{label_of}
 use Rattle.cells.specs.Cells.{Part}
-use Rattle.words.specs.Words.{all_words, expression_words, item_words, label_words, target_words}
+use Rattle.words.specs.Words.{all_words, expression_words, item_words, target_words}
 use Rattle.words.specs.Place.{NodeHere}
 use Rattle.nodes.specs.Columns.{ColumnsAt, through}
 use Rattle.records.specs.Records.{Tables}
@@ -18,8 +18,8 @@ use Rattle.labels.specs.declared.Route.TheVariants.{To, Ends}
 use Rattle.labels.specs.declared.Traced.{Traced}
 use Rattle.labels.specs.declared.Traced.TheVariants.{Said, Column}
 use Rattle.labels.specs.declared.Spot.{Spot}
-use Rattle.labels.specs.declared.Next.{Next}
-use Rattle.labels.specs.declared.Next.TheVariants.{Done, More}
+use Rattle.std.specs.declared.ops.ControlFlow.{ControlFlow}
+use Rattle.std.specs.declared.ops.ControlFlow.TheVariants.{Break, Continue}
 use Rattle.sheet.specs.Tags
 
 -- ---- what the code's values say
@@ -29,6 +29,11 @@ label Unlabelled = unlabelled
 label (Unqualified n) = unqualified n
 label (Qualified q n) = qualified q n
 
+-- an alias as the code has it, in the words of the definitions, and the same of a flag with the alias beside it
+abbrev pub alias_of : CodeOption ℕ → Option ℕ
+alias_of (Some r) = some r
+alias_of None = none
+
 abbrev pub alias_if : Bool → ℕ → Option ℕ
 alias_if true r = some r
 alias_if false r = none
@@ -36,7 +41,7 @@ alias_if false r = none
 -- a label by what it comes from
 abbrev pub named : Schema → Traced → plan.Label
 named schema (Said l) = label l
-named schema (Column t aliased alias i) = table_label schema t (alias_if aliased alias) i
+named schema (Column table alias column) = table_label schema table (alias_of alias) column
 
 -- a label by its route, where the source's columns have the labels `source`
 abbrev pub routed_by : (ℕ → plan.Label) → Route → plan.Label
@@ -92,7 +97,7 @@ LeafTraced s lo hi i r = (schema : Schema) (og : ℕ) (l : Leaf) → NodeHere s 
 
 -- p has w columns, where that is asked for: if its columns are those of its sources.
 abbrev pub Asked : Schema → Node → ℕ → Type 0
-Asked schema p w = through p ≡ 1 → w ≡ columns schema p
+Asked schema p w = through p ≡ true → w ≡ columns schema p
 
 -- r is the number of columns of the node there, where that is asked for.
 abbrev pub AskedCount : (records s : List ℕ) (lo hi r : ℕ) → Type 0
@@ -127,6 +132,7 @@ pub record Moves (records s : List ℕ) (lo hi i w : ℕ) (x : Spot) : Type 0 wh
   pub reaches : (schema : Schema) (p : Node) → Tables records schema → NodeHere s lo hi p → Asked schema p w
       → Reached schema s p i x.lo x.hi x.column x.columns
 
-abbrev pub Steps : (records s : List ℕ) (lo hi i w : ℕ) → Next → Type 0
-Steps records s lo hi i w (Done o) = Traces records s lo hi i o
-Steps records s lo hi i w (More x) = Moves records s lo hi i w x
+-- A step from a column: to what its label comes from, or to the column that has the same label.
+abbrev pub Steps : (records s : List ℕ) → Spot → ControlFlow Traced Spot → Type 0
+Steps records s x (Break o) = Traces records s x.lo x.hi x.column o
+Steps records s x (Continue y) = Moves records s x.lo x.hi x.column x.columns y

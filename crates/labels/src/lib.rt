@@ -9,7 +9,9 @@ ghost use Rattle.nodes.specs.Own.{OwnStart, SourceCount};
 ghost use Rattle.nodes.specs.Columns.{ColumnsAt, ColumnCount};
 ghost use Rattle.labels.specs.Names.{ColumnName, TableLabel, qualifier_text, ColumnLabel};
 ghost use Rattle.records.specs.Records.{RecordsAt};
-ghost use Rattle.labels.specs.Labels.{Labelled, ExpressionRoute, ExpressionEnds, ItemRoute, ItemEnds, RemapRoute, TargetsUp, Routes, alias_if, is_aliased, says_columns, LeafTraced, AskedCount, CountedAt, LeftColumns, Steps, Traces};
+ghost use Rattle.labels.specs.Labels.{Labelled, ExpressionRoute, ExpressionEnds, ItemRoute, ItemEnds, RemapRoute, TargetsUp, Routes, alias_of, alias_if, is_aliased, says_columns, LeafTraced, AskedCount, CountedAt, LeftColumns, Steps, Traces};
+
+use std::ops::ControlFlow;
 
 // The label of a column: none, a name, or a name behind its qualifier, a table's name or alias; all are text references.
 #[derive(Clone, Copy)]
@@ -26,11 +28,15 @@ pub enum Route {
     Ends(Label),
 }
 
-// What a label comes from: a node that says it; or a table's column: the table, whether there is an alias, the alias, and the column.
+// What a label comes from: a node that says it, or a table's column.
 #[derive(Clone, Copy)]
 pub enum Traced {
     Said(Label),
-    Column(usize, bool, u32, usize),
+    Column {
+        table: usize,
+        alias: Option<u32>,
+        column: usize,
+    },
 }
 
 // A column of the node from lo to hi, which has so many columns; their number is right where they are those of its sources, and isn't asked for elsewhere.
@@ -42,24 +48,15 @@ pub struct Spot {
     pub columns: usize,
 }
 
-// One step of looking for a label: it is found, or it is that of another column.
-#[derive(Clone, Copy)]
-pub enum Next {
-    Done(Traced),
-    More(Spot),
-}
-
 // The label that the cell of a Label or an Item says.
 fn label_in(flag: u32, a: u32, b: u32) -> Label
     ensures { Labelled flag a b result }
 {
-    if flag == 0 {
-        return Label::Unlabelled;
+    match flag {
+        0 => Label::Unlabelled,
+        1 => Label::Unqualified(a),
+        _ => Label::Qualified(a, b),
     }
-    if flag == 1 {
-        return Label::Unqualified(a);
-    }
-    Label::Qualified(a, b)
 }
 
 // Of the expression that ends before hi.
@@ -122,10 +119,7 @@ fn aggregate_route(s: &[u32], lo: usize, hi: usize, i: usize) -> Route
 fn hits(flag: u32, a: u32, i: usize) -> bool
     ensures { result ≡ (eqb flag 1 && eqb a i) }
 {
-    if flag == 1 {
-        return a as usize == i;
-    }
-    false
+    flag == 1 && a as usize == i
 }
 
 // Of column i under the Targets from lo to hi.
@@ -133,11 +127,9 @@ fn remap_route(s: &[u32], lo: usize, hi: usize, i: usize) -> Route
     requires { TargetsUp s.now lo hi }
     ensures { RemapRoute s.now lo hi i result }
 {
-    let mut from: usize = 0;
-    let mut at = lo;
-    while at < hi {
-        at += cells::CELL_WORDS;
-        let c = cells::cell_at(s, at);
+    let mut from = 0;
+    for at in (lo..hi).step_by(cells::CELL_WORDS) {
+        let c = cells::cell_at(s, at + cells::CELL_WORDS);
         if hits(c.flag, c.a, i) {
             return Route::To(from);
         }
@@ -154,24 +146,23 @@ fn own_route(s: &[u32], lo: usize, hi: usize, m: usize, i: usize) -> Route
     requires fact { (tag_at s.now hi ≡ 50) ⊎ (60 ≤ tag_at s.now hi) }
     ensures { Routes s.now lo hi i result }
 {
-    let t = cells::tag_at(s, hi);
-    if t == tags::AGGREGATE {
-        return aggregate_route(s, lo, hi, i);
+    match cells::tag_at(s, hi) {
+        tags::AGGREGATE => aggregate_route(s, lo, hi, i),
+        tags::PROJECTION => projection_route(s, lo, hi, i),
+        _ => remap_route(s, m, hi - cells::CELL_WORDS, i),
     }
-    if t == tags::PROJECTION {
-        return projection_route(s, lo, hi, i);
-    }
-    remap_route(s, m, hi - cells::CELL_WORDS, i)
 }
 
-// Whether the cell of a Scan or a lookup says an alias.
-fn aliased(tag: u32, flag: u32) -> bool
-    ensures { result ≡ is_aliased tag flag }
+// The alias that the cell of a Scan or a lookup says, if it says one.
+fn alias_in(tag: u32, flag: u32, b: u32) -> Option<u32>
+    ensures { alias_of result ≡ alias_if (is_aliased tag flag) b }
 {
-    if tag == tags::SCAN {
-        return 2 <= flag;
-    }
-    1 <= flag
+    let aliased = if tag == tags::SCAN {
+        2 <= flag
+    } else {
+        1 <= flag
+    };
+    aliased.then_some(b)
 }
 
 // What the label of column i of a node without sources comes from.
@@ -181,27 +172,25 @@ fn leaf_traced(s: &[u32], lo: usize, hi: usize, i: usize) -> Traced
     ensures { LeafTraced s.now lo hi i result }
 {
     let c = cells::cell_at(s, hi);
-    if c.tag == tags::NOTHING {
-        if c.a as usize <= i {
-            return Traced::Said(Label::Unlabelled);
+    match c.tag {
+        tags::NOTHING if i < c.a as usize => {
+            let k = cells::cell_at(s, lo + cells::CELL_WORDS * i + cells::CELL_WORDS);
+            Traced::Said(label_in(k.flag, k.a, k.b))
         }
-        let k = cells::cell_at(s, lo + cells::CELL_WORDS * i + cells::CELL_WORDS);
-        return Traced::Said(label_in(k.flag, k.a, k.b));
+        tags::NOTHING | tags::VALUES => Traced::Said(Label::Unlabelled),
+        _ => Traced::Column {
+            table: c.a as usize,
+            alias: alias_in(c.tag, c.flag, c.b),
+            column: i,
+        },
     }
-    if c.tag == tags::VALUES {
-        return Traced::Said(Label::Unlabelled);
-    }
-    Traced::Column(c.a as usize, aliased(c.tag, c.flag), c.b, i)
 }
 
 // Whether a node with this tag says its columns itself: an Aggregate, a Projection, a Remap, a Scan or a Values. A leaf of another tag isn't asked.
 pub fn says_columns(tag: u32) -> bool
     ensures { result ≡ says_columns tag }
 {
-    if tag == tags::AGGREGATE {
-        return true;
-    }
-    tags::PROJECTION <= tag
+    tag == tags::AGGREGATE || tags::PROJECTION <= tag
 }
 
 // The number of columns of the node from lo to hi, which is asked for only where they are those of its sources. So 0 stands for a Remap's, which would be
@@ -216,102 +205,82 @@ fn columns_for(s: &[u32], lo: usize, hi: usize, tables: &[u8]) -> usize
     nodes::columns(s, lo, hi, tables)
 }
 
-// One step from column i of a node with one source, which ends at m; the node has w columns, where that is asked for.
-fn next_over(s: &[u32], lo: usize, hi: usize, m: usize, i: usize, w: usize, tables: &[u8]) -> Next
-    requires counted_at { CountedAt tables.now s.now lo hi w }
-    requires source_count { SourceCount s.now lo hi 1 }
-    requires own_start { OwnStart s.now lo hi m }
-    ensures { Steps tables.now s.now lo hi i w result }
+// One step from a column of a node with one source, which ends at m: to what the column's label comes from, or to the column that has the same label.
+fn next_over(s: &[u32], spot: Spot, m: usize, tables: &[u8]) -> ControlFlow<Traced, Spot>
+    requires counted_at { CountedAt tables.now s.now spot.lo spot.hi spot.columns }
+    requires source_count { SourceCount s.now spot.lo spot.hi 1 }
+    requires own_start { OwnStart s.now spot.lo spot.hi m }
+    ensures { Steps tables.now s.now spot result }
 {
-    let t = cells::tag_at(s, hi);
-    if says_columns(t) {
-        let route = own_route(s, lo, hi, m, i);
-        match route {
-            Route::Ends(l) => {
-                return Next::Done(Traced::Said(l));
-            }
-            Route::To(j) => {
-                let n = columns_for(s, lo, m, tables);
-                return Next::More(Spot {
-                    lo: lo,
-                    hi: m,
-                    column: j,
-                    columns: n,
-                });
-            }
-        }
+    if !says_columns(cells::tag_at(s, spot.hi)) {
+        return ControlFlow::Continue(Spot { hi: m, ..spot });
     }
-    Next::More(Spot {
-        lo: lo,
-        hi: m,
-        column: i,
-        columns: w,
-    })
+    match own_route(s, spot.lo, spot.hi, m, spot.column) {
+        Route::Ends(label) => ControlFlow::Break(Traced::Said(label)),
+        Route::To(column) => ControlFlow::Continue(Spot {
+            lo: spot.lo,
+            hi: m,
+            column,
+            columns: columns_for(s, spot.lo, m, tables),
+        }),
+    }
 }
 
-// The number of columns of the left source, which ends at mid, of a node whose right source ends at m and that has w columns. The shorter source is
-// counted, so that the counts on the way to a column are never long.
-fn left_columns(
-    s: &[u32],
-    lo: usize,
-    hi: usize,
-    m: usize,
-    mid: usize,
-    w: usize,
-    tables: &[u8],
-) -> usize
-    requires counted_at { CountedAt tables.now s.now lo hi w }
-    requires source_count { SourceCount s.now lo hi 2 }
-    requires own_start { OwnStart s.now lo hi m }
+// The number of columns of the left source, which ends at mid, of a node whose right source ends at m. The shorter source is counted, so that the counts on
+// the way to a column are never long.
+fn left_columns(s: &[u32], spot: Spot, m: usize, mid: usize, tables: &[u8]) -> usize
+    requires counted_at { CountedAt tables.now s.now spot.lo spot.hi spot.columns }
+    requires source_count { SourceCount s.now spot.lo spot.hi 2 }
+    requires own_start { OwnStart s.now spot.lo spot.hi m }
     requires mid_value { mid ≡ start_at s.now m }
-    ensures { LeftColumns tables.now s.now lo hi w result }
+    ensures { LeftColumns tables.now s.now spot.lo spot.hi spot.columns result }
 {
-    if mid - lo <= m - mid {
-        return nodes::columns(s, lo, mid, tables);
+    if mid - spot.lo <= m - mid {
+        return nodes::columns(s, spot.lo, mid, tables);
     }
     let right = nodes::columns(s, mid, m, tables);
-    w - right
+    spot.columns - right
 }
 
-// One step from column i of a node with two sources, of which the right one ends at m; the node has w columns.
-fn next_join(s: &[u32], lo: usize, hi: usize, m: usize, i: usize, w: usize, tables: &[u8]) -> Next
-    requires counted_at { CountedAt tables.now s.now lo hi w }
-    requires source_count { SourceCount s.now lo hi 2 }
-    requires own_start { OwnStart s.now lo hi m }
-    ensures { Steps tables.now s.now lo hi i w result }
+// One step from a column of a node with two sources, of which the right one ends at m.
+fn next_join(s: &[u32], spot: Spot, m: usize, tables: &[u8]) -> ControlFlow<Traced, Spot>
+    requires counted_at { CountedAt tables.now s.now spot.lo spot.hi spot.columns }
+    requires source_count { SourceCount s.now spot.lo spot.hi 2 }
+    requires own_start { OwnStart s.now spot.lo spot.hi m }
+    ensures { Steps tables.now s.now spot result }
 {
     let mid = cells::start(s, m);
-    let left = left_columns(s, lo, hi, m, mid, w, tables);
-    if i < left {
-        return Next::More(Spot {
-            lo: lo,
+    let left = left_columns(s, spot, m, mid, tables);
+    if spot.column < left {
+        return ControlFlow::Continue(Spot {
             hi: mid,
-            column: i,
             columns: left,
+            ..spot
         });
     }
-    Next::More(Spot {
+    ControlFlow::Continue(Spot {
         lo: mid,
         hi: m,
-        column: i - left,
-        columns: w - left,
+        column: spot.column - left,
+        columns: spot.columns - left,
     })
 }
 
-// One step from column i of the node from lo to hi, which has w columns, where that is asked for.
-fn next_of(s: &[u32], lo: usize, hi: usize, i: usize, w: usize, tables: &[u8]) -> Next
-    requires { CountedAt tables.now s.now lo hi w }
-    ensures { Steps tables.now s.now lo hi i w result }
+// One step from a column of any node.
+fn next_of(s: &[u32], spot: Spot, tables: &[u8]) -> ControlFlow<Traced, Spot>
+    requires { CountedAt tables.now s.now spot.lo spot.hi spot.columns }
+    ensures { Steps tables.now s.now spot result }
 {
-    let n = nodes::source_count(s, lo, hi);
-    if n == 0 {
-        return Next::Done(leaf_traced(s, lo, hi, i));
+    let sources = nodes::source_count(s, spot.lo, spot.hi);
+    if sources == 0 {
+        return ControlFlow::Break(leaf_traced(s, spot.lo, spot.hi, spot.column));
     }
-    let m = nodes::own_start(s, lo, hi);
-    if n == 1 {
-        return next_over(s, lo, hi, m, i, w, tables);
+    let m = nodes::own_start(s, spot.lo, spot.hi);
+    if sources == 1 {
+        next_over(s, spot, m, tables)
+    } else {
+        next_join(s, spot, m, tables)
     }
-    next_join(s, lo, hi, m, i, w, tables)
 }
 
 // What the label of column i of the node from lo to hi comes from; the node has w columns.
@@ -320,21 +289,19 @@ fn trace(s: &[u32], lo: usize, hi: usize, i: usize, w: usize, tables: &[u8]) -> 
     requires column_count { ColumnCount tables.now s.now lo hi w }
     ensures { Traces tables.now s.now lo hi i result }
 {
-    let mut start = lo;
-    let mut end = hi;
-    let mut column = i;
-    let mut columns = w;
+    let mut spot = Spot {
+        lo,
+        hi,
+        column: i,
+        columns: w,
+    };
     loop {
-        let step = next_of(s, start, end, column, columns, tables);
-        match step {
-            Next::Done(traced) => {
+        match next_of(s, spot, tables) {
+            ControlFlow::Break(traced) => {
                 return traced;
             }
-            Next::More(spot) => {
-                start = spot.lo;
-                end = spot.hi;
-                column = spot.column;
-                columns = spot.columns;
+            ControlFlow::Continue(next) => {
+                spot = next;
             }
         }
     }
@@ -352,38 +319,27 @@ fn column_name(t: usize, i: usize, tables: &[u8], columns: &[u8]) -> u32
     layout::word_at(columns, (first + i) * 16) as u32
 }
 
-// The alias if there is one, also an empty one, otherwise the table's name; both are text references.
+// The alias if there is one, also an empty one, otherwise the table's name; both are text references. The flag stays a parameter of its own here and below:
+// docs/DECISIONS.md names both, and a law says that they choose alike (chosen_text).
 pub fn qualifier(aliased: bool, alias: u32, name: u32) -> u32
     ensures { result ≡ Plan.qualifier (alias_if aliased alias) name }
 {
-    if aliased {
-        return alias;
-    }
-    name
+    if aliased { alias } else { name }
 }
 
 // The same of the two texts: both are lent, and the chosen one is handed back.
 pub fn qualifier_text<'a>(aliased: bool, alias: &'a [u8], name: &'a [u8]) -> &'a [u8]
     ensures { result.now ≡ qualifier_text aliased alias.now name.now }
 {
-    if aliased {
-        return alias;
-    }
-    name
+    if aliased { alias } else { name }
 }
 
-fn table_label(
-    t: usize,
-    aliased: bool,
-    alias: u32,
-    i: usize,
-    tables: &[u8],
-    columns: &[u8],
-) -> Label
+// The label of column i of table t, behind the alias if there is one.
+fn table_label(t: usize, alias: Option<u32>, i: usize, tables: &[u8], columns: &[u8]) -> Label
     requires { RecordsAt tables.now columns.now }
-    ensures { TableLabel tables.now columns.now t aliased alias i result }
+    ensures { TableLabel tables.now columns.now t alias i result }
 {
-    let q = qualifier(aliased, alias, records::table_name(tables, t));
+    let q = alias.unwrap_or(records::table_name(tables, t));
     Label::Qualified(q, column_name(t, i, tables, columns))
 }
 
@@ -403,11 +359,12 @@ pub fn column_label(
     requires records_at { RecordsAt tables.now columns.now }
     ensures { ColumnLabel tables.now columns.now s.now lo hi i result }
 {
-    let traced = trace(s, lo, hi, i, w, tables);
-    match traced {
-        Traced::Said(l) => l,
-        Traced::Column(t, aliased, alias, c) => {
-            table_label(t, aliased, alias, c, tables, columns)
-        }
+    match trace(s, lo, hi, i, w, tables) {
+        Traced::Said(label) => label,
+        Traced::Column {
+            table,
+            alias,
+            column,
+        } => table_label(table, alias, column, tables, columns),
     }
 }

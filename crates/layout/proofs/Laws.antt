@@ -7,7 +7,7 @@ use mathlib.Core.List.{List}
 use mathlib.Core.Option.{Option}
 use lib.Dec.{leb, ltb, eqb}
 use lib.ListN.{length}
-use borrow.Author.Tests.{lt-ltb, le-ltb, le-leb, lt-leb, eq-eqb, ne_eqb, leb-true, ltb-true, eqb-true}
+use borrow.Author.Tests.{lt-ltb, le-ltb, eq-eqb, leb-true, ltb-true, eqb-true}
 use Rattle.sheet.specs.Bytes.{byte, half, word}
 use Rattle.sheet.specs.Parts.{length_ok, parts_ok, records_ok, tables_at, columns_at, cells_at, table_count, column_count, cell_count, said_length, inside, columns_before, table_ok, column_ok, record_ok, first_failing, bad_record}
 use Rattle.sheet.specs.Cell as Sheet
@@ -30,9 +30,18 @@ and_right false q e = let z : ◌≡◌ {A = ℕ} 0 1 = cc in absurd (omega arit
 both_hold : {p q : Bool} → p ≡ true → q ≡ true → (p && q) ≡ true
 both_hold {p} {q} e f = ap (λ (b : Bool). b && q) e ∙ f
 
-and_assoc : (p q r : Bool) → ((p && q) && r) ≡ (p && (q && r))
-and_assoc true q r = refl
-and_assoc false q r = refl
+-- The code's `&&` groups to the left, the definitions' to the right.
+pub and_of_three : (p q r : Bool) → ((p && q) && r) ≡ (p && (q && r))
+and_of_three true q r = refl
+and_of_three false q r = refl
+
+pub and_of_four : (p q r s : Bool) → (((p && q) && r) && s) ≡ (p && (q && (r && s)))
+and_of_four true q r s = and_of_three q r s
+and_of_four false q r s = refl
+
+pub and_of_five : (p q r s t : Bool) → ((((p && q) && r) && s) && t) ≡ (p && (q && (r && (s && t))))
+and_of_five true q r s t = and_of_four q r s t
+and_of_five false q r s t = refl
 
 -- Tests that hold of the same are the same.
 same : (p q : Bool) → (p ≡ true → q ≡ true) → (q ≡ true → p ≡ true) → p ≡ q
@@ -46,21 +55,6 @@ fails {p} q e = ap (λ (b : Bool). b && q) (sym e)
 
 pub goes_on : {p : Bool} (q : Bool) {r : Bool} → p ≡ true → r ≡ q → r ≡ (p && q)
 goes_on {p} q e h = h ∙ ap (λ (b : Bool). b && q) (sym e)
-
--- ---- numbers
-
-pub half_is : (s : List ℕ) (i : ℕ) {x y : ℕ} → (x ≡ byte s i) × (x < 256) → (y ≡ byte s (i + 1)) × (y < 256) → Number 65536 (half s i) (x + 256 * y)
-unfolding half
-half_is s i p q = record { is = let p0 = p.0 in let q0 = q.0 in cc; small = let p1 = p.1 in let q1 = q.1 in omega arith }
-
-pub word_is : (s : List ℕ) (i : ℕ) {x y z w : ℕ}
-    → (x ≡ byte s i) × (x < 256)
-    → (y ≡ byte s (i + 1)) × (y < 256)
-    → (z ≡ byte s (i + 2)) × (z < 256)
-    → (w ≡ byte s (i + 3)) × (w < 256)
-    → Number 4294967296 (word s i) (x + 256 * y + 65536 * z + 16777216 * w)
-unfolding word
-word_is s i p q r t = record { is = cc (p.0, q.0, r.0, t.0); small = omega (arith, p.1, q.1, r.1, t.1) }
 
 -- ---- the length and the parts
 
@@ -80,19 +74,6 @@ length_known s e =
       said = eqb-true _ _ (and_right (leb (length s) 45332) _ f);
     }
 
-module _ (s : List ℕ) where
-  pub too_short : length s < 20 → false ≡ length_ok s
-  unfolding length_ok
-  too_short h = fails _ (lt-leb _ _ h)
-
-  pub too_long : 20 ≤ length s → 45332 < length s → false ≡ length_ok s
-  unfolding length_ok
-  too_long h k = goes_on _ (le-leb _ _ h) (fails _ (lt-leb _ _ k))
-
-  pub length_is_said : {r : ℕ} → 20 ≤ length s → length s ≤ 45332 → r ≡ said_length s → eqb r (length s) ≡ length_ok s
-  unfolding length_ok
-  length_is_said h k e = goes_on _ (le-leb _ _ h) (goes_on _ (le-leb _ _ k) (ap (λ (n : ℕ). eqb n (length s)) e))
-
 -- What the test of a part says: it is a whole number of records.
 pub record Records (from upto few many : ℕ) : Type 0 where
   pub order : from ≤ upto
@@ -110,51 +91,6 @@ records_known from upto few many e =
     let least : few * 16 ≤ n = leb-true _ _ (and_left (leb (few * 16) n) _ g) in
     let most : n ≤ many * 16 = leb-true _ _ (and_right (leb (few * 16) n) _ g) in
     record { order = order; fills = omega arith; least = omega arith; most = omega arith }
-
-module _ (from upto few many : ℕ) where
-  pub out_of_order : upto < from → false ≡ records_ok from upto few many
-  out_of_order h = fails _ (lt-leb _ _ h)
-
-  module _ (h : from ≤ upto) where
-    pub broken : ((upto - from) % 16 ≡ 0 → ⊥) → false ≡ records_ok from upto few many
-    broken k = goes_on _ (le-leb _ _ h) (fails _ (ne_eqb _ _ k))
-
-    module _ (k : (upto - from) % 16 ≡ 0) where
-      pub too_few : upto - from < few * 16 → false ≡ records_ok from upto few many
-      too_few l = goes_on _ (le-leb _ _ h) (goes_on _ (eq-eqb _ _ k) (fails _ (lt-leb _ _ l)))
-
-      pub not_too_many : few * 16 ≤ upto - from → leb (upto - from) (many * 16) ≡ records_ok from upto few many
-      not_too_many l = goes_on _ (le-leb _ _ h) (goes_on _ (eq-eqb _ _ k) (goes_on _ (le-leb _ _ l) refl))
-
--- The answers of `parts_ok`, from the three words that it read.
-module _ (s : List ℕ) {x y z : ℕ} (tables : x ≡ tables_at s) (columns : y ≡ columns_at s) (cells : z ≡ cells_at s) where
-  pub text_too_long : 8192 < x → false ≡ parts_ok s
-  unfolding parts_ok
-  text_too_long h = fails _ (lt-leb _ _ (subst (λ (n : ℕ). 8192 < n) tables h))
-
-  module _ (h : x ≤ 8192) where
-    first : leb (tables_at s) 8192 ≡ true
-    first = le-leb _ _ (subst (λ (n : ℕ). n ≤ 8192) tables h)
-
-    tables_test : {b r : Bool} → r ≡ records_ok x y 0 16 → r ≡ b → records_ok (tables_at s) (columns_at s) 0 16 ≡ b
-    tables_test e f = sym (e ∙ cc) ∙ f
-
-    columns_test : {b r : Bool} → r ≡ records_ok y z 0 256 → r ≡ b → records_ok (columns_at s) (cells_at s) 0 256 ≡ b
-    columns_test e f = sym (e ∙ cc) ∙ f
-
-    pub tables_fail : {r : Bool} → r ≡ records_ok x y 0 16 → r ≡ false → false ≡ parts_ok s
-    unfolding parts_ok
-    tables_fail e f = goes_on _ first (fails _ (tables_test e f))
-
-    module _ {r : Bool} (e : r ≡ records_ok x y 0 16) (f : r ≡ true) where
-      pub columns_fail : {q : Bool} → q ≡ records_ok y z 0 256 → q ≡ false → false ≡ parts_ok s
-      unfolding parts_ok
-      columns_fail g j = goes_on _ first (goes_on _ (tables_test e f) (fails _ (columns_test g j)))
-
-      pub cells_left : {q p : Bool} → q ≡ records_ok y z 0 256 → q ≡ true → p ≡ records_ok z (length s - 20) 1 2048 → p ≡ parts_ok s
-      unfolding parts_ok
-      cells_left g j k =
-          goes_on _ first (goes_on _ (tables_test e f) (goes_on _ (columns_test g j) (k ∙ ap (λ (n : ℕ). records_ok n (length s - 20) 1 2048) cells)))
 
 module _ {s : List ℕ} (g : Whole s) where
   pub whole_length : Length s
@@ -250,33 +186,30 @@ module _ (s : List ℕ) (i : ℕ) where
       let r = eqb-true (half s (i + 6)) 0 (and_right (ltb x 2) _ f) in
       both_hold (lt-ltb m 512 (omega arith)) (lt-ltb (m % 256) 4 (omega arith)))
 
-  pub fields_tested : (text : ℕ) {x m y z : ℕ} {a b c d e : Bool}
+  pub fields_tested : (text : ℕ) {x m : ℕ} {n : Bool} (a b c : Bool) {d : Bool}
       → byte s (i + 4) < 256
       → byte s (i + 5) < 256
       → m ≡ word s (i + 4)
-      → a ≡ (ltb m 512 && ltb (m % 256) 4)
-      → y ≡ word s (i + 8)
-      → z ≡ word s (i + 12)
-      → b ≡ (eqb y 0 && eqb z 0)
       → x ≡ word s i
-      → c ≡ inside text x
-      → d ≡ (a && b)
-      → e ≡ (c && d)
-      → e ≡ column_fields_ok s i text
-  fields_tested text {x} {m} {y} {z} {a} {b} {c} {d} {e} hk hx em ea ey ez eb ex ec ed ee =
+      → n ≡ inside text x
+      → a ≡ (n && ltb m 512)
+      → b ≡ (a && ltb (m % 256) 4)
+      → c ≡ (b && eqb (word s (i + 8)) 0)
+      → d ≡ (c && eqb (word s (i + 12)) 0)
+      → d ≡ column_fields_ok s i text
+  fields_tested text {x} {m} {n} a b c {d} hk hx em ex en ea eb ec ed =
       let k = ltb (byte s (i + 4)) 4 in
       let j = ltb (byte s (i + 5)) 2 in
       let h = eqb (half s (i + 6)) 0 in
-      let f : a ≡ (k && (j && h)) = ea ∙ ap (λ (n : ℕ). ltb n 512 && ltb (n % 256) 4) em ∙ marks_tested hk hx in
-      let g : b ≡ (eqb (word s (i + 8)) 0 && eqb (word s (i + 12)) 0) = cc in
-      let l : d ≡ (k && (j && (h && b))) = ed ∙ ap (λ (n : Bool). n && b) f ∙ and_assoc k (j && h) b ∙ ap (λ (n : Bool). k && n) (and_assoc j h b) in
+      let y = eqb (word s (i + 8)) 0 in
+      let z = eqb (word s (i + 12)) 0 in
+      let p = ltb m 512 in
+      let q = ltb (m % 256) 4 in
+      let flat = and_of_five n p q y z in
+      let f : (p && q) ≡ (k && (j && h)) = ap (λ (n : ℕ). ltb n 512 && ltb (n % 256) 4) em ∙ marks_tested hk hx in
+      let g : (p && (q && (y && z))) ≡ (k && (j && (h && (y && z)))) =
+      sym (and_of_three p q (y && z)) ∙ ap (λ (n : Bool). n && (y && z)) f ∙ and_of_three k (j && h) (y && z) ∙ ap (λ (n : Bool). k && n) (and_of_three j h (y && z)) in
       cc
-
--- The tests of a table record, on the numbers that the code holds.
-abbrev table_tests : (text columns before : ℕ) → Table → Bool
-table_tests text columns before t =
-    inside text t.name
-    && (eqb t.first before && (leb 1 t.count && (leb (t.first + t.count) columns && ltb t.key t.count)))
 
 module _ {s : List ℕ} {p : Parts} (g : Laid s p) where
   pub text_is : p.tables.at ≡ tables_at s
@@ -306,21 +239,6 @@ module _ {s : List ℕ} {p : Parts} (g : Laid s p) where
   columns_before_is {t} (suc i) z h =
       let e : suc i - 1 ≡ i = omega arith in
       ap (λ (x : Table). x.first + x.count) (table_there i (subst (λ (n : ℕ). IsTable (table_from s (p.tables.at + n * 16)) t) e h)).is
-
-  pub table_tested : {t : Table} (i : ℕ) → IsTable (table_from s (p.tables.at + i * 16)) t
-      → {before : ℕ} {a b c d e : Bool}
-      → before ≡ columns_before s i
-      → a ≡ (leb (t.first + t.count) p.columns.count && ltb t.key t.count)
-      → b ≡ (leb 1 t.count && a)
-      → c ≡ inside p.tables.at t.name
-      → d ≡ (eqb t.first before && b)
-      → e ≡ (c && d)
-      → e ≡ table_ok s i
-  unfolding table_ok
-  table_tested {t} i h {before} {a} {b} {c} {d} {e} f ea eb ec ed ee =
-      let k : e ≡ table_tests p.tables.at p.columns.count before t = cc in
-      let m : table_tests p.tables.at p.columns.count before t ≡ table_tests (tables_at s) (column_count s) (columns_before s i) (table_at s i) = cc (text_is, columns_are, (table_there i h).is) in
-      k ∙ m
 
   -- Column i stands at i times 16 bytes behind the start of the columns.
   pub column_there : {k : Column} (i : ℕ) → IsColumn (column_from s (p.columns.at + i * 16)) k → IsColumn (column_at s i) k

@@ -1,15 +1,12 @@
 -- What the code holds of a sheet, set beside the definitions of crate `sheet`.
-use Rattle.std.specs.Prelude.{ℕ, ◌+◌, ◌*◌, ◌≤◌, ◌<◌, ◌≡◌, Bool, true, ◌&&◌, List, ltb, eqb, length}
+use Rattle.std.specs.Prelude.{ℕ, ◌+◌, ◌*◌, ◌≤◌, ◌<◌, ◌≡◌, Bool, true, ◌&&◌, List, ltb, eqb, length, Option as CodeOption, Some, None}
 use Rattle.std.proofs.Math.Option.{Option, none, some}
 use Rattle.sheet.specs.Parts.{length_ok, parts_ok, tables_at, columns_at, cells_at, table_count, column_count, cell_count, table_name, first_column, columns_of, key_of, column_name, kind_of, index_mark, inside, record_ok, first_failing}
 use Rattle.sheet.specs.Bytes.{byte, half, word}
 use Rattle.sheet.specs.Cell as Sheet
-use Rattle.layout.specs.declared.Part.{Part}
 use Rattle.layout.specs.declared.Parts.{Parts}
 use Rattle.layout.specs.declared.Cell.{Cell}
 use Rattle.layout.specs.declared.Column.{Column}
-use Rattle.layout.specs.declared.Found.{Found}
-use Rattle.layout.specs.declared.Found.TheVariants.{At, Nothing}
 use Rattle.layout.specs.declared.Table.{Table}
 
 -- r is the number n, and n is below a bound: 256 for a byte, 2^16 for a half, 2^32 for a word.
@@ -96,7 +93,7 @@ pub record IsCell (x : Sheet.Cell) (k : Cell) : Type 0 where
   pub b_small : k.b < 4294967296
   pub c_small : k.c < 4294967296
 
--- The answer of a search, as the definitions have it.
-abbrev pub found : Found → Option ℕ
-found (At i) = some i
-found Nothing = none
+-- The code's answer of a search, as the definitions have it.
+abbrev pub found : CodeOption ℕ → Option ℕ
+found (Some i) = some i
+found None = none

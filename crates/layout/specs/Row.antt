@@ -1,18 +1,24 @@
--- What a tag allows as one number, which the code calls a row: its hexadecimal digits are the codes of the fields c, b and a, and the number of flags.
-use Rattle.std.specs.Prelude.{ℕ, zero, suc, ◌/◌, ◌%◌, Bool, true, false, cond, eqb}
-use Rattle.sheet.specs.Cell.{Field, unused, any, bit, table, text, small, Tag, unknown, not_carried, carried}
+-- What the code says of a tag, set beside the definitions of crate `sheet`.
+use Rattle.sheet.specs.Cell.{unused, any, bit, table, text, small, Tag, unknown, not_carried, carried}
+use Rattle.sheet.specs.Cell as Sheet
+use Rattle.layout.specs.declared.Field.{Field}
+use Rattle.layout.specs.declared.Field.TheVariants.{Unused, Any, Bit, Table, SmallFrom1, Text, TextFrom1, TextFrom2}
+use Rattle.layout.specs.declared.Row.{Row}
+use Rattle.layout.specs.declared.Row.TheVariants.{Unknown, NotCarried, Carried}
 
--- the field that a code stands for
-abbrev pub field_of : ℕ → Field
-field_of zero = unused
-field_of (suc zero) = any
-field_of (suc (suc zero)) = bit
-field_of (suc (suc (suc zero))) = table
-field_of (suc (suc (suc (suc zero)))) = small 1
-field_of (suc (suc (suc (suc (suc k))))) = text k
+-- What a field may hold, as the definitions have it.
+abbrev pub field_of : Field → Sheet.Field
+field_of Unused = unused
+field_of Any = any
+field_of Bit = bit
+field_of Table = table
+field_of SmallFrom1 = small 1
+field_of Text = text 0
+field_of TextFrom1 = text 1
+field_of TextFrom2 = text 2
 
--- What a row says of its tag. The rows 0 and 16 have no flags, so no cell passes by them: 0 says that the tag is unknown, 16 that it is not carried over.
-unfoldable pub tag_from : ℕ → Tag
-tag_from row =
-    cond (eqb row 0) unknown
-    (cond (eqb row 16) not_carried (carried (row % 16) (field_of (row / 16 % 16)) (field_of (row / 256 % 16)) (field_of (row / 4096))))
+-- What a row says of its tag.
+abbrev pub tag_from : Row → Tag
+tag_from Unknown = unknown
+tag_from NotCarried = not_carried
+tag_from (Carried f) = carried f.flags (field_of f.a) (field_of f.b) (field_of f.c)

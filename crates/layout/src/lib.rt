@@ -12,25 +12,12 @@ ghost use Rattle.layout.specs.Row.{field_of, tag_from};
 
 // ---- numbers, little-endian
 
-// A byte as a number.
-fn wide(x: u8) -> usize
-    ensures { (result ≡ x) × (result < 256) }
-{
-    x as usize
-}
-
-fn short(x: u8) -> u32
-    ensures { (result ≡ x) × (result < 256) }
-{
-    x as u32
-}
-
 // The byte i.
 pub fn byte_at(s: &[u8], i: usize) -> usize
     requires { i < length s.now }
     ensures { Number 256 (byte s.now i) result }
 {
-    wide(s[i])
+    usize::from(s[i])
 }
 
 // The byte i as a tag. Tags are `u32`, as in the working form of plans.
@@ -38,7 +25,7 @@ fn tag_at(s: &[u8], i: usize) -> u32
     requires { i < length s.now }
     ensures { Number 256 (byte s.now i) result }
 {
-    short(s[i])
+    u32::from(s[i])
 }
 
 // The number of 2 bytes that starts at byte i.
@@ -46,7 +33,7 @@ pub fn half_at(s: &[u8], i: usize) -> usize
     requires { i + 2 ≤ length s.now }
     ensures { Number 65536 (half s.now i) result }
 {
-    wide(s[i]) + 256 * wide(s[i + 1])
+    usize::from(u16::from_le_bytes([s[i], s[i + 1]]))
 }
 
 // The number of 4 bytes that starts at byte i.
@@ -54,22 +41,17 @@ pub fn word_at(s: &[u8], i: usize) -> usize
     requires { i + 4 ≤ length s.now }
     ensures { Number 4294967296 (word s.now i) result }
 {
-    wide(s[i]) + 256 * wide(s[i + 1]) + 65536 * wide(s[i + 2]) + 16777216 * wide(s[i + 3])
+    u32::from_le_bytes([s[i], s[i + 1], s[i + 2], s[i + 3]]) as usize
 }
 
 // ---- the trailer and the parts
 
 // Refusal 2 is not met.
+#[tactic(auto, unfolding(sheet::specs::Parts::length_ok))]
 pub fn length_ok(s: &[u8]) -> bool
     ensures { result ≡ length_ok s.now }
 {
-    if s.len() < 20 {
-        return false;
-    }
-    if 45332 < s.len() {
-        return false;
-    }
-    word_at(s, s.len() - 4) == s.len()
+    20 <= s.len() && s.len() <= 45332 && word_at(s, s.len() - 4) == s.len()
 }
 
 // The number of 4 bytes that starts k bytes before the end.
@@ -81,18 +63,16 @@ fn word_from_end(s: &[u8], k: usize) -> usize
 }
 
 // Refusal 3 is not met.
+#[tactic(auto, using(crate::proofs::Laws::length_known), unfolding(sheet::specs::Parts::edition_ok))]
 pub fn edition_ok(s: &[u8]) -> bool
     requires { length_ok s.now ≡ true }
     ensures { result ≡ edition_ok s.now }
 {
-    let edition = word_from_end(s, 8);
-    if edition == 1 {
-        return true;
-    }
-    edition == 2
+    matches!(word_from_end(s, 8), 1 | 2)
 }
 
 // How many origins there are for a cell, counted from 0: an edition 1 sheet has 0 alone.
+#[tactic(auto, using(crate::proofs::Laws::length_known))]
 fn origins_of(s: &[u8]) -> usize
     requires { length_ok s.now ≡ true }
     ensures { result ≡ origins s.now }
@@ -105,20 +85,11 @@ fn records_ok(from: usize, upto: usize, few: usize, many: usize) -> bool
     requires { (few ≤ 2048) × (many ≤ 2048) }
     ensures { result ≡ records_ok from upto few many }
 {
-    if upto < from {
-        return false;
-    }
-    let bytes = upto - from;
-    if bytes % 16 != 0 {
-        return false;
-    }
-    if bytes < few * 16 {
-        return false;
-    }
-    bytes <= many * 16
+    from <= upto && (upto - from) % 16 == 0 && few * 16 <= upto - from && upto - from <= many * 16
 }
 
 // Refusal 4 is not met.
+#[tactic(auto, using(crate::proofs::Laws::length_known), unfolding(sheet::specs::Parts::parts_ok))]
 pub fn parts_ok(s: &[u8]) -> bool
     requires { length_ok s.now ≡ true }
     ensures { result ≡ parts_ok s.now }
@@ -126,16 +97,10 @@ pub fn parts_ok(s: &[u8]) -> bool
     let tables_at = word_from_end(s, 20);
     let columns_at = word_from_end(s, 16);
     let cells_at = word_from_end(s, 12);
-    if 8192 < tables_at {
-        return false;
-    }
-    if !records_ok(tables_at, columns_at, 0, 16) {
-        return false;
-    }
-    if !records_ok(columns_at, cells_at, 0, 256) {
-        return false;
-    }
-    records_ok(cells_at, s.len() - 20, 1, 2048)
+    tables_at <= 8192
+        && records_ok(tables_at, columns_at, 0, 16)
+        && records_ok(columns_at, cells_at, 0, 256)
+        && records_ok(cells_at, s.len() - 20, 1, 2048)
 }
 
 // Where a part of a sheet starts, and how many records it has.
@@ -179,20 +144,6 @@ pub fn parts_of(s: &[u8]) -> Parts
 
 // ---- records
 
-// The number of a record or a cell that breaks its layout.
-#[derive(Clone, Copy)]
-pub enum Found {
-    At(usize),
-    Nothing,
-}
-
-// Both tests hold. None of those below is costly enough to be passed over where one before it failed.
-fn both(p: bool, q: bool) -> bool
-    ensures { result ≡ (p && q) }
-{
-    if p { q } else { false }
-}
-
 // A text reference lies inside a text of so many bytes.
 pub fn inside(text: usize, r: usize) -> bool
     ensures { result ≡ Sheet.inside text r }
@@ -223,6 +174,7 @@ fn table_from(s: &[u8], i: usize) -> Table
 }
 
 // The record of table i.
+#[tactic(auto, using(crate::proofs::Laws::tables_are, crate::proofs::Laws::table_there))]
 pub fn table_at(s: &[u8], i: usize) -> Table
     requires { Whole s.now × (i < table_count s.now) }
     ensures { IsTable (table_at s.now i) result }
@@ -232,6 +184,7 @@ pub fn table_at(s: &[u8], i: usize) -> Table
 }
 
 // The number of columns that the first i tables have.
+#[tactic(auto, using(crate::proofs::Laws::columns_before_is))]
 fn columns_before(s: &[u8], p: Parts, i: usize) -> usize
     requires { Laid s.now p × (i ≤ p.tables.count) }
     ensures { result ≡ columns_before s.now i }
@@ -244,15 +197,17 @@ fn columns_before(s: &[u8], p: Parts, i: usize) -> usize
 }
 
 // The record of table i is as it should be.
+#[tactic(auto, using(crate::proofs::Laws::text_is, crate::proofs::Laws::columns_are, crate::proofs::Laws::table_there), unfolding(sheet::specs::Parts::table_ok))]
 fn table_ok(s: &[u8], p: Parts, i: usize) -> bool
     requires { Laid s.now p × (i < p.tables.count) }
     ensures { result ≡ table_ok s.now i }
 {
     let t = table_from(s, p.tables.at + i * 16);
-    let in_order = t.first == columns_before(s, p, i);
-    let in_range = t.first + t.count <= p.columns.count;
-    let rest = both(1 <= t.count, both(in_range, t.key < t.count));
-    both(inside(p.tables.at, t.name), both(in_order, rest))
+    inside(p.tables.at, t.name)
+        && t.first == columns_before(s, p, i)
+        && 1 <= t.count
+        && t.first + t.count <= p.columns.count
+        && t.key < t.count
 }
 
 // A column record: its name, its kind and its index mark.
@@ -276,6 +231,7 @@ fn column_from(s: &[u8], i: usize) -> Column
 }
 
 // The record of column i.
+#[tactic(auto, using(crate::proofs::Laws::columns_are, crate::proofs::Laws::column_there))]
 pub fn column_at(s: &[u8], i: usize) -> Column
     requires { Whole s.now × (i < column_count s.now) }
     ensures { IsColumn (column_at s.now i) result }
@@ -286,52 +242,49 @@ pub fn column_at(s: &[u8], i: usize) -> Column
 
 // All that a column record should have but its range, which its number tells. It starts at byte i, and the text has so many bytes. Its kind, its index mark
 // and two zeros are one word.
+#[tactic(auto, using(crate::proofs::Laws::fields_tested))]
 fn column_fields_ok(s: &[u8], i: usize, text: usize) -> bool
     requires { i + 16 ≤ length s.now }
     ensures { result ≡ column_fields_ok s.now i text }
 {
     let marks = word_at(s, i + 4);
-    let marked = both(marks < 512, marks % 256 < 4);
-    let zeros = both(word_at(s, i + 8) == 0, word_at(s, i + 12) == 0);
-    both(inside(text, word_at(s, i)), both(marked, zeros))
+    inside(text, word_at(s, i))
+        && marks < 512
+        && marks % 256 < 4
+        && word_at(s, i + 8) == 0
+        && word_at(s, i + 12) == 0
 }
 
 // The lowest column record that breaks its layout, by its number among the records, tables counted first. There can be many columns, so how many the tables
 // have is read once.
-fn bad_column(s: &[u8], p: Parts) -> Found
+fn bad_column(s: &[u8], p: Parts) -> Option<usize>
     requires { Laid s.now p }
     ensures { found result ≡ bad_column s.now }
 {
     let tables = p.tables.count;
-    let count = tables + p.columns.count;
     let covered = columns_before(s, p, tables);
-    let mut i = tables;
-    while i < count {
+    for i in tables..tables + p.columns.count {
         let column = i - tables;
         if covered <= column {
-            return Found::At(i);
+            return Some(i);
         }
         if !column_fields_ok(s, p.columns.at + column * 16, p.tables.at) {
-            return Found::At(i);
+            return Some(i);
         }
-        i += 1;
     }
-    Found::Nothing
+    None
 }
 
 // Refusal 5: the lowest record that breaks its layout.
-pub fn bad_record(s: &[u8]) -> Found
+pub fn bad_record(s: &[u8]) -> Option<usize>
     requires { Whole s.now }
     ensures { found result ≡ bad_record s.now }
 {
     let p = parts_of(s);
-    let tables = p.tables.count;
-    let mut i: usize = 0;
-    while i < tables {
+    for i in 0..p.tables.count {
         if !table_ok(s, p, i) {
-            return Found::At(i);
+            return Some(i);
         }
-        i += 1;
     }
     bad_column(s, p)
 }
@@ -365,6 +318,7 @@ pub fn cell_from(s: &[u8], i: usize) -> Cell
 }
 
 // Cell number i.
+#[tactic(auto, using(crate::proofs::Laws::cells_are, crate::proofs::Laws::cells_start), unfolding(sheet::specs::Cell::cell))]
 pub fn cell_at(s: &[u8], i: usize) -> Cell
     requires { Whole s.now × (i < cell_count s.now) }
     ensures { IsCell (cell s.now i) result }
@@ -373,114 +327,192 @@ pub fn cell_at(s: &[u8], i: usize) -> Cell
     cell_from(s, p.cells.at + i * 16)
 }
 
-// What each tag from 0 to 63 allows is a row, in hexadecimal digits: the codes of the fields c, b and a, then the number of flags.
-// Codes: 0 unused, 1 any number, 2 a bit, 3 a table, 4 a number up to 255 where the flag is at least 1, and 5 + k a text reference
-// where the flag is at least k. A tag that stands for no cell has no flags: 0x0000 is one that is unknown, 0x0010 one that is not carried over.
-// Tags are told apart by tests: a constant array over all tags would be stored anew for each cell.
-const UNKNOWN: usize = 0x0000;
+// What one of the numbers a, b, c of a cell may hold: `Small` is up to 255, `Text` a text reference. `From1` and `From2` are from flag 1 or 2 on: below that
+// the field is unused, and 0. Variants that hold that flag were tried, and are slower.
+#[derive(Clone, Copy)]
+enum Field {
+    Unused,
+    Any,
+    Bit,
+    Table,
+    SmallFrom1,
+    Text,
+    TextFrom1,
+    TextFrom2,
+}
 
-const NOT_CARRIED: usize = 0x0010;
+// The number of flags of a carried tag, and what its fields may hold.
+#[derive(Clone, Copy)]
+struct Fields {
+    flags: u8,
+    a: Field,
+    b: Field,
+    c: Field,
+}
+
+// No fields, with flag 0 alone.
+const PLAIN: Fields = Fields {
+    flags: 1,
+    a: Field::Unused,
+    b: Field::Unused,
+    c: Field::Unused,
+};
+
+// What a tag stands for. Tags are told apart by tests: a constant array over all tags would be stored anew for each cell.
+#[derive(Clone, Copy)]
+enum Row {
+    Unknown,
+    NotCarried,
+    Carried(Fields),
+}
 
 // 1 Null, 2 Boolean, 3 Integer, 4 Float, 5 String, 6 Column.
-fn row_to_9(tag: u32) -> usize
+fn row_to_9(tag: u32) -> Row
     requires { tag < 10 }
     ensures { tag_from result ≡ tag_of tag }
 {
-    if tags::COLUMN < tag {
-        return UNKNOWN;
-    }
     match tag {
-        tags::NULL => 0x0001,
-        tags::BOOLEAN => 0x0021,
-        tags::INTEGER => 0x0111,
-        tags::FLOAT => 0x0111,
-        tags::STRING => 0x0051,
-        tags::COLUMN => 0x0011,
-        _ => UNKNOWN,
+        tags::NULL => Row::Carried(PLAIN),
+        tags::BOOLEAN => Row::Carried(Fields {
+            a: Field::Bit,
+            ..PLAIN
+        }),
+        tags::INTEGER | tags::FLOAT => Row::Carried(Fields {
+            a: Field::Any,
+            b: Field::Any,
+            ..PLAIN
+        }),
+        tags::STRING => Row::Carried(Fields {
+            a: Field::Text,
+            ..PLAIN
+        }),
+        tags::COLUMN => Row::Carried(Fields {
+            a: Field::Any,
+            ..PLAIN
+        }),
+        _ => Row::Unknown,
     }
 }
 
 // Operators of two operands: 10 And to 18 Multiply, and those from 19 Exponentiate to 21 Like. Of one operand: 30 Not to 34 Negate, 35 Factorial and
 // 36 SquareRoot.
-fn row_to_39(tag: u32) -> usize
+fn row_to_39(tag: u32) -> Row
     requires { (10 ≤ tag) × (tag < 40) }
     ensures { tag_from result ≡ tag_of tag }
 {
     if tag < tags::EXPONENTIATE {
-        return 0x0001;
+        return Row::Carried(PLAIN);
     }
     if tag < tags::BINARY_END {
-        return NOT_CARRIED;
+        return Row::NotCarried;
     }
     if tag < tags::UNARY {
-        return UNKNOWN;
+        return Row::Unknown;
     }
     if tag < tags::FACTORIAL {
-        return 0x0001;
+        return Row::Carried(PLAIN);
     }
-    if tag == tags::FACTORIAL {
-        return NOT_CARRIED;
+    match tag {
+        tags::FACTORIAL => Row::NotCarried,
+        tags::SQUARE_ROOT => Row::Carried(PLAIN),
+        _ => Row::Unknown,
     }
-    if tag == tags::SQUARE_ROOT {
-        return 0x0001;
-    }
-    UNKNOWN
 }
 
 // 40 Label, 41 Item, 42 Key, 43 Target, 44 Agg, 45 Row.
-fn row_to_49(tag: u32) -> usize
+fn row_to_49(tag: u32) -> Row
     requires { (40 ≤ tag) × (tag < 50) }
     ensures { tag_from result ≡ tag_of tag }
 {
     match tag {
-        tags::LABEL => 0x0763,
-        tags::ITEM => 0x0763,
-        tags::KEY => 0x0002,
-        tags::TARGET => 0x0042,
-        tags::AGG => 0x0005,
-        tags::ROW => 0x0011,
-        _ => UNKNOWN,
+        tags::LABEL | tags::ITEM => Row::Carried(Fields {
+            flags: 3,
+            a: Field::TextFrom1,
+            b: Field::TextFrom2,
+            ..PLAIN
+        }),
+        tags::KEY => Row::Carried(Fields { flags: 2, ..PLAIN }),
+        tags::TARGET => Row::Carried(Fields {
+            flags: 2,
+            a: Field::SmallFrom1,
+            ..PLAIN
+        }),
+        tags::AGG => Row::Carried(Fields { flags: 5, ..PLAIN }),
+        tags::ROW => Row::Carried(Fields {
+            a: Field::Any,
+            ..PLAIN
+        }),
+        _ => Row::Unknown,
     }
 }
 
 // 50 Aggregate, 51 Filter, 52 HashJoin, 53 IndexLookup, 54 KeyLookup, 55 Limit, 56 NestedLoopJoin.
-fn row_to_56(tag: u32) -> usize
+fn row_to_56(tag: u32) -> Row
     requires { (50 ≤ tag) × (tag < 57) }
     ensures { tag_from result ≡ tag_of tag }
 {
     match tag {
-        tags::AGGREGATE => 0x0111,
-        tags::FILTER => 0x0001,
-        tags::HASH_JOIN => 0x0112,
-        tags::INDEX_LOOKUP => 0x1632,
-        tags::KEY_LOOKUP => 0x1632,
-        tags::LIMIT => 0x0111,
-        _ => 0x0004,
+        tags::AGGREGATE => Row::Carried(Fields {
+            a: Field::Any,
+            b: Field::Any,
+            ..PLAIN
+        }),
+        tags::FILTER => Row::Carried(PLAIN),
+        tags::HASH_JOIN => Row::Carried(Fields {
+            flags: 2,
+            a: Field::Any,
+            b: Field::Any,
+            ..PLAIN
+        }),
+        tags::INDEX_LOOKUP | tags::KEY_LOOKUP => Row::Carried(Fields {
+            flags: 2,
+            a: Field::Table,
+            b: Field::TextFrom1,
+            c: Field::Any,
+        }),
+        tags::LIMIT => Row::Carried(Fields {
+            a: Field::Any,
+            b: Field::Any,
+            ..PLAIN
+        }),
+        _ => Row::Carried(Fields { flags: 4, ..PLAIN }),
     }
 }
 
 // 57 Nothing, 58 Offset, 59 Order, 60 Projection, 61 Remap, 62 Scan, 63 Values.
-fn row_to_63(tag: u32) -> usize
+fn row_to_63(tag: u32) -> Row
     requires { (57 ≤ tag) × (tag < 64) }
     ensures { tag_from result ≡ tag_of tag }
 {
-    if tag == tags::NOTHING {
-        return 0x0011;
+    match tag {
+        tags::NOTHING => Row::Carried(Fields {
+            a: Field::Any,
+            ..PLAIN
+        }),
+        tags::OFFSET => Row::Carried(Fields {
+            a: Field::Any,
+            b: Field::Any,
+            ..PLAIN
+        }),
+        tags::ORDER | tags::PROJECTION | tags::REMAP => Row::Carried(Fields {
+            a: Field::Any,
+            ..PLAIN
+        }),
+        tags::SCAN => Row::Carried(Fields {
+            flags: 4,
+            a: Field::Table,
+            b: Field::TextFrom2,
+            ..PLAIN
+        }),
+        _ => Row::Carried(Fields {
+            a: Field::Any,
+            ..PLAIN
+        }),
     }
-    if tag == tags::OFFSET {
-        return 0x0111;
-    }
-    if tag < tags::SCAN {
-        return 0x0011;
-    }
-    if tag == tags::SCAN {
-        return 0x0734;
-    }
-    0x0011
 }
 
 // The row of a tag. Those from 64 on are unknown.
-fn row_of(tag: u32) -> usize
+fn row_of(tag: u32) -> Row
     ensures { tag_from result ≡ tag_of tag }
 {
     if tag < tags::BINARY {
@@ -498,26 +530,22 @@ fn row_of(tag: u32) -> usize
     if tag < tags::NODES_END {
         return row_to_63(tag);
     }
-    UNKNOWN
+    Row::Unknown
 }
 
-// A field of this code may hold the number v.
-fn field_ok(text: usize, tables: usize, flag: usize, code: usize, v: usize) -> bool
-    ensures { result ≡ field_ok text tables flag (field_of code) v }
+// The field may hold the number v.
+fn field_ok(text: usize, tables: usize, flag: usize, field: Field, v: usize) -> bool
+    ensures { result ≡ field_ok text tables flag (field_of field) v }
 {
-    match code {
-        0 => v == 0,
-        1 => true,
-        2 => v < 2,
-        3 => v < tables,
-        4 => { if flag < 1 { v == 0 } else { v < 256 } }
-        _ => {
-            if flag < code - 5 {
-                v == 0
-            } else {
-                inside(text, v)
-            }
-        }
+    match field {
+        Field::Unused => v == 0,
+        Field::Any => true,
+        Field::Bit => v < 2,
+        Field::Table => v < tables,
+        Field::SmallFrom1 => if flag < 1 { v == 0 } else { v < 256 },
+        Field::Text => inside(text, v),
+        Field::TextFrom1 => if flag < 1 { v == 0 } else { inside(text, v) },
+        Field::TextFrom2 => if flag < 2 { v == 0 } else { inside(text, v) },
     }
 }
 
@@ -525,61 +553,59 @@ fn field_ok(text: usize, tables: usize, flag: usize, code: usize, v: usize) -> b
 fn fields_ok(origins: usize, text: usize, tables: usize, k: Cell) -> bool
     ensures { result ≡ fields_ok origins text tables (as_cell k) (tag_of k.tag) }
 {
-    let row = row_of(k.tag);
-    let a = field_ok(text, tables, k.flag, row / 16 % 16, k.a);
-    let b = field_ok(text, tables, k.flag, row / 256 % 16, k.b);
-    let c = field_ok(text, tables, k.flag, row / 4096, k.c);
-    both(
-        k.flag < row % 16,
-        both(k.origin < origins, both(a, both(b, c))),
-    )
+    let Row::Carried(row) = row_of(k.tag) else {
+        return false;
+    };
+    k.flag < usize::from(row.flags)
+        && k.origin < origins
+        && field_ok(text, tables, k.flag, row.a, k.a)
+        && field_ok(text, tables, k.flag, row.b, k.b)
+        && field_ok(text, tables, k.flag, row.c, k.c)
 }
 
 // A Float is no NaN but the one that a sheet may hold. With the sign's bit taken off, a NaN is above the infinity.
+#[tactic(auto, using(crate::proofs::Cells::nan_above))]
 fn float_ok(k: Cell) -> bool
     requires { (k.a < 4294967296) × (k.b < 4294967296) }
     ensures { result ≡ float_ok (as_cell k) }
 {
-    if k.tag != tags::FLOAT {
-        return true;
-    }
     let bits = k.a + 4294967296 * k.b;
-    if bits % 0x8000000000000000 <= 0x7FF0000000000000 {
-        return true;
-    }
-    bits == 0x7FF8000000000000
+    k.tag != tags::FLOAT
+        || bits % 0x8000000000000000 <= 0x7FF0000000000000
+        || bits == 0x7FF8000000000000
 }
 
 // A cell is as it should be.
+#[tactic(auto, unfolding(sheet::specs::Cell::cell_ok))]
 fn cell_ok(origins: usize, text: usize, tables: usize, k: Cell) -> bool
     requires { (k.a < 4294967296) × (k.b < 4294967296) }
     ensures { result ≡ cell_ok origins text tables (as_cell k) }
 {
-    both(fields_ok(origins, text, tables, k), float_ok(k))
+    fields_ok(origins, text, tables, k) && float_ok(k)
 }
 
 // Refusals 6 and 7: the lowest cell that breaks its layout.
-pub fn bad_cell(s: &[u8]) -> Found
+pub fn bad_cell(s: &[u8]) -> Option<usize>
     requires { Whole s.now }
     ensures { found result ≡ bad_cell s.now }
 {
     let p = parts_of(s);
-    let count = p.cells.count;
     let origins = origins_of(s);
-    let mut i: usize = 0;
-    while i < count {
+    for i in 0..p.cells.count {
         let k = cell_from(s, p.cells.at + i * 16);
         if !cell_ok(origins, p.tables.at, p.tables.count, k) {
-            return Found::At(i);
+            return Some(i);
         }
-        i += 1;
     }
-    Found::Nothing
+    None
 }
 
 // The number of the refusal where a cell with this tag breaks its layout.
 pub fn bad_number(tag: u32) -> usize
     ensures { result ≡ bad_number (tag_of tag) }
 {
-    if row_of(tag) == NOT_CARRIED { 7 } else { 6 }
+    match row_of(tag) {
+        Row::NotCarried => 7,
+        _ => 6,
+    }
 }

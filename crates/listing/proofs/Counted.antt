@@ -4,16 +4,16 @@ use native.Mathlib.Omega.{arith}
 use native.Mathlib.Nat.{add-zero}
 use mathlib.Core.Logic.{◌⊎◌, inl, inr}
 use mathlib.Core.Path.{◌≡◌, refl, sym, ap, ◌∙◌}
-use mathlib.Core.Bool.{Bool, true, false, cond, ◌&&◌}
+use mathlib.Core.Bool.{Bool, cond, ◌&&◌}
 use mathlib.Core.List.{List, [], ◌∷◌, map}
-use lib.Dec.{ltb, leb}
+use lib.Dec.{ltb}
 use lib.ListN.{length}
 use borrow.Author.Tests.{lt-ltb, le-ltb, le-leb, lt-leb}
 use Rattle.sql.specs.Plan.{up_to}
 use Rattle.sheet.specs.Parts.{cell_count}
 use Rattle.sheet.specs.Cell.{Cell, cell}
 use Rattle.sheet.specs.Check.{cells_of}
-use Rattle.sheet.specs.Listing.{count, is_expression, is_part, is_node, of_kind}
+use Rattle.sheet.specs.Listing.{is_expression, is_part, is_node, of_kind}
 use Rattle.layout.specs.Layout.{IsCell}
 use Rattle.layout.specs.declared.Cell as Code
 use Rattle.cells.proofs.Laws.{lt_or_ge}

@@ -5,17 +5,14 @@ use mathlib.Core.Path.{◌≡◌, refl, sym, ap, ◌∙◌, subst}
 use mathlib.Core.Bool.{Bool, true, false}
 use mathlib.Core.List.{List, [], ◌∷◌, ◌++◌, append_assoc}
 use lib.Dec.{ltb}
-use lib.ListN.{length, take, set}
-use lib.Seq.{take-suc-set}
+use lib.ListN.{length}
 use borrow.Author.Tests.{lt-ltb, le-ltb}
-use Rattle.sheet.specs.Listing.{digits}
+use Rattle.std.specs.Fmt as Library
+use Rattle.std.proofs.lemmas.Fmt.{decimal_by_steps, length-decimal-le}
+use lib.ListN.{length-append}
+use Prim.Native.Nat.{◌^◌}
+use Rattle.sheet.specs.Listing.{digits, decimal}
 use Rattle.cells.specs.Room.{Wrote}
-use Rattle.cells.proofs.Laws.{done}
-
-pub one : (d : List ℕ) (at b : ℕ) → at < length d → Wrote d at (b ∷ []) (at + 1) (set d at b)
-one d at b h =
-    let e : at + 1 ≡ suc at = omega arith in
-    done (omega arith) refl (ap (λ (i : ℕ). take i (set d at b)) e ∙ take-suc-set d at b h)
 
 -- what stands behind the digits stays behind them
 behind : (k n : ℕ) (later : List ℕ) → digits k n later ≡ digits k n [] ++ later
@@ -39,11 +36,6 @@ unfolding digits
 more_digits k n h =
     ap (λ (b : Bool). elim b [ true ↦ (48 + n) ∷ [] | false ↦ digits k (n / 10) ((48 + n % 10) ∷ []) ]) h ∙ behind k (n / 10) ((48 + n % 10) ∷ [])
 
-pub no_digit : (k n : ℕ) → k ≡ 0 → digits k n [] ≡ []
-unfolding digits
-no_digit zero n h = refl
-no_digit (suc k) n h = absurd (omega arith)
-
 pub digits_last : (k n : ℕ) → 1 ≤ k → n < 10 → digits k n [] ≡ (48 + n) ∷ []
 digits_last zero n s h = absurd (omega arith)
 digits_last (suc k) n s h = last_digit k n (lt-ltb n 10 h)
@@ -52,6 +44,15 @@ pub digits_more : (k n : ℕ) → 1 ≤ k → 10 ≤ n → digits k n [] ≡ dig
 digits_more zero n s h = absurd (omega arith)
 digits_more (suc k) n s h =
     let e : k ≡ suc k - 1 = omega arith in more_digits k n (le-ltb n 10 h) ∙ ap (λ (j : ℕ). digits j (n / 10) [] ++ ((48 + n % 10) ∷ [])) e
+
+-- The library's digits, of which a number below 2^64 has at most 20, are these.
+pub decimal_is : (n : ℕ) → n < 2 ^ 64 → Library.decimal n ≡ decimal n
+decimal_is n h = sym (decimal_by_steps (λ (m : ℕ) (ds : List ℕ). (k : ℕ) → length ds ≤ k → digits k m [] ≡ ds) (λ m l k s. digits_last k m (omega arith) l) more n h 20 (length-decimal-le 20 n (omega arith) (omega arith) h))
+  where
+    more : (m : ℕ) (ds : List ℕ) → 10 ≤ m → ((k : ℕ) → length ds ≤ k → digits k (m / 10) [] ≡ ds) → (k : ℕ) → length (ds ++ ((48 + m % 10) ∷ [])) ≤ k → digits k m [] ≡ ds ++ ((48 + m % 10) ∷ [])
+    more m ds l ih k s =
+        let size = length-append ds ((48 + m % 10) ∷ []) in
+        digits_more k m (omega arith) l ∙ ap (λ (x : List ℕ). x ++ ((48 + m % 10) ∷ [])) (ih (k - 1) (omega arith))
 
 -- the same words, written under another name
 pub as_written : {d : List ℕ} {at r : ℕ} {v w d' : List ℕ} → v ≡ w → Wrote d at v r d' → Wrote d at w r d'

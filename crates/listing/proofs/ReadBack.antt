@@ -4,17 +4,17 @@ use native.Mathlib.Nat.{div-lt_iff_lt-mul}
 use native.Mathlib.Omega.{arith}
 use mathlib.Core.Logic.{◌⊎◌, inl, inr}
 use mathlib.Core.Path.{◌≡◌, refl, sym, ap, ◌∙◌, subst}
-use mathlib.Core.Bool.{Bool, true, false, cond, ◌&&◌}
+use mathlib.Core.Bool.{Bool, true, false, ◌&&◌}
 use mathlib.Core.List.{List, [], ◌∷◌, ◌++◌, map, append_assoc}
 use mathlib.Core.Option.{Option, none, some}
-use lib.Dec.{eqb, ltb, leb}
+use lib.Dec.{eqb, leb}
 use lib.ListN.{length, length-append, get_or}
 use borrow.Author.Tests.{lt-ltb, le-ltb, le-leb, eq-eqb, ne_eqb}
 use Rattle.sql.specs.Plan.{up_to}
 use Rattle.sheet.specs.Parts.{cell_count}
 use Rattle.sheet.specs.Cell.{Cell, cell}
 use Rattle.sheet.specs.Check.{cells_of}
-use Rattle.sheet.specs.Listing.{digits, decimal, space, newline, line, cell_line, cell_lines, header, is_expression, is_part, is_node, of_kind, totals_line, totals, listing}
+use Rattle.sheet.specs.Listing.{digits, decimal, space, newline, line, cell_lines, header, is_expression, is_part, is_node, of_kind, totals_line, totals, listing}
 use Rattle.cells.proofs.Laws.{lt_or_ge}
 use Rattle.listing.specs.ReadBack.{next_piece, split, word, is_digit, number_from, number, passes, tagged, count, TotalsRight}
 use Rattle.listing.proofs.Decimal.{last_digit, more_digits}

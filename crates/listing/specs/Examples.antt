@@ -1,6 +1,6 @@
 -- The reader of listings on small texts, by computing: what is a line, a word, a number, and whether a line is counted by its tag.
-use Rattle.std.specs.Prelude.{◌≡◌, refl, Bool, true, false, List, [], ◌∷◌, map, ltb, leb}
-use Rattle.std.proofs.Math.Option.{Option, none, some}
+use Rattle.std.specs.Prelude.{◌≡◌, refl, true, false, [], ◌∷◌, map, ltb, leb}
+use Rattle.std.proofs.Math.Option.{none, some}
 use Rattle.listing.specs.ReadBack.{split, word, number, number_from, tagged}
 
 -- "a", newline, "b", newline: two lines, and nothing behind the last newline

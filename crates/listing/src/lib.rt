@@ -9,60 +9,29 @@ ghost use Rattle.sheet.specs.Listing;
 ghost use Rattle.cells.specs.Room.{Wrote};
 ghost use Rattle.listing.specs.Lines.{ended, Listed, FewKinds, OneMore, IsKinds};
 
-// One byte after the first `at` bytes of d.
-fn put(d: &mut [u8], at: usize, b: u8) -> usize
-    ensures { Wrote d.old at (b ∷ []) result d.new }
+// The bytes of s after the first `at` bytes of d.
+fn text(s: &[u8], d: &mut [u8], at: usize) -> usize
+    ensures { Wrote d.old at s.now result d.new }
 {
-    if at < d.len() {
-        d[at] = b;
-        return at + 1;
+    if d.len() < at || d.len() - at < s.len() {
+        return cells::FULL;
     }
-    cells::FULL
-}
-
-// The decimal digits of n, at most k of them, most significant first.
-fn digits(k: usize, n: usize, d: &mut [u8], at: usize) -> usize
-    ensures { Wrote d.old at (Listing.digits k n []) result d.new }
-{
-    if k == 0 {
-        return at;
-    }
-    if n < 10 {
-        return put(d, at, 48 + n as u8);
-    }
-    let m = digits(k - 1, n / 10, d, at);
-    put(d, m, 48 + (n % 10) as u8)
+    d[at..at + s.len()].copy_from_slice(s);
+    at + s.len()
 }
 
 // A number, and the byte that ends it.
 fn number(n: usize, end: u8, d: &mut [u8], at: usize) -> usize
     ensures { Wrote d.old at (ended n end) result d.new }
 {
-    let m = digits(20, n, d, at);
-    put(d, m, end)
+    let mut digits = itoa::Buffer::new();
+    let m = text(digits.format(n).as_bytes(), d, at);
+    text(&[end], d, m)
 }
 
-// The bytes of s after the first `at` bytes of d.
-fn text(s: &[u8], d: &mut [u8], at: usize) -> usize
-    ensures { Wrote d.old at s.now result d.new }
-{
-    if d.len() < at {
-        return cells::FULL;
-    }
-    if d.len() - at < s.len() {
-        return cells::FULL;
-    }
-    let mut i: usize = 0;
-    while i < s.len() {
-        d[at + i] = s[i];
-        i += 1;
-    }
-    at + i
-}
+const SPACE: u8 = b' ';
 
-const SPACE: u8 = 32;
-
-const NEWLINE: u8 = 10;
+const NEWLINE: u8 = b'\n';
 
 // The line of cell i.
 fn cell_line(i: usize, k: layout::Cell, d: &mut [u8], at: usize) -> usize
@@ -81,13 +50,9 @@ fn cell_lines(s: &[u8], d: &mut [u8], at: usize) -> usize
     requires { Whole s.now }
     ensures { Wrote d.old at (Listing.cell_lines 0 (cells_of s.now)) result d.new }
 {
-    let p = layout::parts_of(s);
-    let count = p.cells.count;
     let mut m = at;
-    let mut i: usize = 0;
-    while i < count {
+    for i in 0..layout::parts_of(s).cells.count {
         m = cell_line(i, cell_view::cell_of(s, i), d, m);
-        i += 1;
     }
     m
 }
@@ -112,34 +77,26 @@ pub struct Kinds {
     pub nodes: usize,
 }
 
-// The lowest tag of a part of a node, and of a node.
-const FIRST_PART: u32 = 40;
-
-const FIRST_NODE: u32 = 50;
-
 // One cell more, by its tag.
 fn one_more(k: Kinds, tag: u32) -> Kinds
     requires { FewKinds k }
     ensures { OneMore k tag result }
 {
-    if tag < FIRST_PART {
-        return Kinds {
+    if tag < tags::PARTS {
+        Kinds {
             expressions: k.expressions + 1,
-            parts: k.parts,
-            nodes: k.nodes,
-        };
-    }
-    if tag < FIRST_NODE {
-        return Kinds {
-            expressions: k.expressions,
+            ..k
+        }
+    } else if tag < tags::NODES {
+        Kinds {
             parts: k.parts + 1,
-            nodes: k.nodes,
-        };
-    }
-    Kinds {
-        expressions: k.expressions,
-        parts: k.parts,
-        nodes: k.nodes + 1,
+            ..k
+        }
+    } else {
+        Kinds {
+            nodes: k.nodes + 1,
+            ..k
+        }
     }
 }
 
@@ -148,18 +105,13 @@ fn kinds_of(s: &[u8]) -> Kinds
     requires { Whole s.now }
     ensures { IsKinds (cells_of s.now) result }
 {
-    let p = layout::parts_of(s);
-    let count = p.cells.count;
     let mut k = Kinds {
         expressions: 0,
         parts: 0,
         nodes: 0,
     };
-    let mut i: usize = 0;
-    while i < count {
-        let cell = cell_view::cell_of(s, i);
-        k = one_more(k, cell.tag);
-        i += 1;
+    for i in 0..layout::parts_of(s).cells.count {
+        k = one_more(k, cell_view::cell_of(s, i).tag);
     }
     k
 }

@@ -1,18 +1,18 @@
 -- The Filter over a lookup, and what becomes of a Scan.
-use Prim.Native.Nat.{ℕ, ◌+◌, ◌≤◌, ◌<◌}
+use Prim.Native.Nat.{ℕ, ◌≤◌, ◌<◌}
 use native.Mathlib.Omega.{arith}
 use mathlib.Core.Bool.{Bool, false}
 use mathlib.Core.Logic.{⊎_elim}
 use mathlib.Core.Option.{Option, none, some}
 use mathlib.Core.Path.{◌≡◌, refl, sym, ◌∙◌, subst}
-use mathlib.Core.List.{List, [], ◌∷◌, ◌++◌, append-nil}
+use mathlib.Core.List.{List, ◌∷◌, ◌++◌, append-nil}
 use lib.ListN.{length, length-append}
 use Rattle.sql.specs.Schema.{Schema}
 use Rattle.sql.specs.Expression.{Expression, ands, and_vec, into_column_values}
 use Rattle.sql.specs.Plan.{scan, lookup, filter, Node, leaf, over}
 use Rattle.sql.specs.Optimizer.{Found, filtered, find_lookup, access, lookup_or_scan}
 use Rattle.cells.specs.declared.Cell.{Cell}
-use Rattle.cells.specs.Cells.{words, cell_at}
+use Rattle.cells.specs.Cells.{cell_at}
 use Rattle.cells.specs.Room.{Short, Wrote, Seals, Copies}
 use Rattle.cells.proofs.Laws.{then, no_room, no_more, fits, full, wrote_up, lt_or_ge}
 use Rattle.words.specs.Words.{cell, over_cell, expression_words, optional_words, node_words}
@@ -22,7 +22,8 @@ use Rattle.words.proofs.Sizes.{sized_long}
 use Rattle.conjuncts.specs.Conjuncts.{Appends}
 use Rattle.conjuncts.proofs.Appending.{words_long, appends_vec}
 use Rattle.first_lookup.specs.declared.FoundLookup.{FoundLookup}
-use Rattle.first_lookup.specs.declared.FoundLookup.TheVariants.{At, None}
+use Rattle.std.specs.Prelude as code
+use Rattle.std.specs.Prelude.{Some, None}
 use Rattle.first_lookup.specs.declared.Rest.{Rest}
 use Rattle.first_lookup.specs.First.{marks_in, Marks, first_marked, Stands, FindsFirst, Leaves}
 use Rattle.first_lookup.proofs.Finding.{first_is}
@@ -78,14 +79,14 @@ module _ (new : ℕ) (marks : List Bool) {w : List ℕ} {m : ℕ} {y : List ℕ}
 
 -- ---- what becomes of the Scan
 
-module _ {w : List ℕ} {m : ℕ} (marks : List Bool) {found : FoundLookup} (g : FindsFirst marks w 0 m found) where
-  stands : {r : FoundLookup} → found ≡ r → (schema : Schema) (t : ℕ) → Marks schema t marks → (e : Expression) → ExpressionHere w 0 m e
+module _ {w : List ℕ} {m : ℕ} (marks : List Bool) {found : code.Option FoundLookup} (g : FindsFirst marks w 0 m found) where
+  stands : {r : code.Option FoundLookup} → found ≡ r → (schema : Schema) (t : ℕ) → Marks schema t marks → (e : Expression) → ExpressionHere w 0 m e
       → Stands w 0 m r (find_lookup schema t (ands e))
   stands {r} q schema t mk e u =
       subst (λ (o : Option Found). Stands w 0 m r o) (sym (first_is schema t marks mk (ands e)))
-      (subst (λ (z : FoundLookup). Stands w 0 m z (first_marked marks (ands e))) q (g e u))
+      (subst (λ (z : code.Option FoundLookup). Stands w 0 m z (first_marked marks (ands e))) q (g e u))
 
-module _ {x : List ℕ} {lo hi : ℕ} {y : List ℕ} {at : ℕ} {w : List ℕ} {m key : ℕ} (columns : List ℕ) {found : FoundLookup}
+module _ {x : List ℕ} {lo hi : ℕ} {y : List ℕ} {at : ℕ} {w : List ℕ} {m key : ℕ} (columns : List ℕ) {found : code.Option FoundLookup}
     (g : FindsFirst (marks_in key columns) w 0 m found) where
   pub scanned : found ≡ None → {r : ℕ} {y₁ : List ℕ} → Copies x lo hi y at r y₁ → LooksOrScans x lo hi y at w m key columns r y₁
   scanned e {r} {y₁} v schema t mk kk og al q cnf u i =
@@ -95,12 +96,12 @@ module _ {x : List ℕ} {lo hi : ℕ} {y : List ℕ} {at : ℕ} {w : List ℕ} {
       go none s = v (node_words (leaf og (scan t al (some q)))) u.part
       go (some f) s = absurd s
 
-  pub looked_up : {a b c : ℕ} → found ≡ At a b c → {k : Cell} → k ≡ cell_at x hi → {n : ℕ} {y₁ : List ℕ} → length y₁ ≡ length y → {new : ℕ} → new ≡ k.origin → Looks k key c w a b y at n y₁
+  pub looked_up : {j : FoundLookup} → found ≡ Some j → {k : Cell} → k ≡ cell_at x hi → {n : ℕ} {y₁ : List ℕ} → length y₁ ≡ length y → {new : ℕ} → new ≡ k.origin → Looks k key j.column w j.start j.end y at n y₁
       → {r : ℕ} {y₂ : List ℕ} → Filters new (marks_in key columns) w m y₁ at n r y₂ → LooksOrScans x lo hi y at w m key columns r y₂
-  looked_up {a} {b} {c} e ke {n} {y₁} l {new} o h {r} {y₂} v schema t mk kk og al q cnf u i =
+  looked_up {j} e ke {n} {y₁} l {new} o h {r} {y₂} v schema t mk kk og al q cnf u i =
       go (find_lookup schema t (ands cnf)) refl (stands (marks_in key columns) g e schema t mk cnf i)
     where
-      go : (o : Option Found) → find_lookup schema t (ands cnf) ≡ o → Stands w 0 m (At a b c) o → Wrote y at (node_words (lookup_or_scan schema t og al q o)) r y₂
+      go : (o : Option Found) → find_lookup schema t (ands cnf) ≡ o → Stands w 0 m (Some j) o → Wrote y at (node_words (lookup_or_scan schema t og al q o)) r y₂
       go none z s = absurd s
       go (some f) z s =
           let p = leaf og (lookup (access schema t f.column_number) t al (into_column_values f.conjunct)) in

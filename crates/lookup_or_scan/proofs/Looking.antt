@@ -1,7 +1,6 @@
 -- The lookup that takes a Scan's place: its cell, its constants, and that its column is marked.
 use Prim.Native.Nat.{ℕ, ◌+◌, ◌-◌, ◌*◌, ◌/◌, ◌≤◌, ◌<◌}
 use native.Mathlib.Omega.{arith}
-use borrow.Author.Tests.{eq-eqb, ne_eqb}
 use mathlib.Core.Bool.{Bool, true, false, cond}
 use mathlib.Core.Logic.{⊎_elim}
 use mathlib.Core.Option.{Option, none, some}
@@ -17,7 +16,7 @@ use Rattle.sql.specs.Optimizer.{Found, access}
 use Rattle.sheet.specs.Content.{scan_cell}
 use Rattle.sheet.specs.Cells.{lookup_content}
 use Rattle.cells.specs.declared.Cell.{Cell}
-use Rattle.cells.specs.Cells.{cell_words, words, sized, cell_at}
+use Rattle.cells.specs.Cells.{cell_words, sized, cell_at}
 use Rattle.cells.specs.Room.{Wrote, Seals}
 use Rattle.cells.proofs.Laws.{no_more, lt_or_ge, wrote_up}
 use Rattle.words.specs.Words.{cell, all_words, constant_words, node_words}
@@ -26,23 +25,13 @@ use Rattle.words.proofs.Nodes.{node_cell_is}
 use Rattle.words.proofs.Sizes.{all_single, sized_long}
 use Rattle.column_lookup.specs.Values.{Gathers}
 use Rattle.first_lookup.specs.declared.FoundLookup.{FoundLookup}
-use Rattle.first_lookup.specs.declared.FoundLookup.TheVariants.{At}
+use Rattle.std.specs.Prelude as code
+use Rattle.std.specs.Prelude.{Some}
 use Rattle.first_lookup.specs.First.{marks_in, with_mark, first_here, first_marked, Stands, FindsFirst}
 use Rattle.first_lookup.proofs.Records.{marks_long}
 use Rattle.lookup_or_scan.specs.Scan.{lookup_cell, ScanAt, Looks}
 
 -- ---- the cell
-
-pub key_cell : (k : Cell) {key c : ℕ} (n : ℕ) → c ≡ key → (record { origin = k.origin; tag = 54; flag = k.flag / 2; a = k.a; b = k.b; c = n }) ≡ lookup_cell k key c n
-key_cell k {key} {c} n h =
-    sym (ap (λ (t : Bool). cond t (record { origin = k.origin; tag = 54; flag = k.flag / 2; a = k.a; b = k.b; c = n })
-    (record { origin = k.origin; tag = 53; flag = k.flag / 2; a = k.a; b = k.b; c = c + 65536 * n })) (eq-eqb c key h))
-
-pub index_cell : (k : Cell) {key c : ℕ} (n : ℕ) → (c ≡ key → ⊥)
-    → (record { origin = k.origin; tag = 53; flag = k.flag / 2; a = k.a; b = k.b; c = c + 65536 * n }) ≡ lookup_cell k key c n
-index_cell k {key} {c} n h =
-    sym (ap (λ (t : Bool). cond t (record { origin = k.origin; tag = 54; flag = k.flag / 2; a = k.a; b = k.b; c = n })
-    (record { origin = k.origin; tag = 53; flag = k.flag / 2; a = k.a; b = k.b; c = c + 65536 * n })) (ne_eqb c key h))
 
 cell_of_lookup : (og t : ℕ) (al : Option ℕ) (key c n : ℕ)
     → lookup_cell (cell og (scan_cell true t al)) key c n ≡ cell og (lookup_content (cond (eqb c key) by_key (by_index c)) t al n)
@@ -132,15 +121,15 @@ marked_inside marks c h = ⊎_elim (λ (z : c < length marks). z)
     clash : false ≡ true → ⊥
     clash q = let z : ◌≡◌ {A = ℕ} 0 1 = cc in omega arith
 
-module _ {x : List ℕ} {lo hi : ℕ} {y w : List ℕ} {m key : ℕ} {columns : List ℕ} (p : ScanAt x lo hi y w m key columns) {r : FoundLookup}
-    (f : FindsFirst (marks_in key columns) w 0 m r) {a b c : ℕ} (e : r ≡ At a b c) where
+module _ {x : List ℕ} {lo hi : ℕ} {y w : List ℕ} {m key : ℕ} {columns : List ℕ} (p : ScanAt x lo hi y w m key columns) {r : code.Option FoundLookup}
+    (f : FindsFirst (marks_in key columns) w 0 m r) {j : FoundLookup} (e : r ≡ Some j) where
   -- Where a lookup is found, its conjunct stands there, and its column is one that has a record.
-  pub found_there : ExpressionAt w a b × (c < 256)
+  pub found_there : ExpressionAt w j.start j.end × (j.column < 256)
   found_there =
       go (first_marked (marks_in key columns) (ands p.cnf)) (found_marked (marks_in key columns) (ands p.cnf))
-      (subst (λ (q : FoundLookup). Stands w 0 m q (first_marked (marks_in key columns) (ands p.cnf))) e (f p.cnf p.cnf_here))
+      (subst (λ (q : code.Option FoundLookup). Stands w 0 m q (first_marked (marks_in key columns) (ands p.cnf))) e (f p.cnf p.cnf_here))
     where
-      go : (o : Option Found) → Marked (marks_in key columns) o → Stands w 0 m (At a b c) o → ExpressionAt w a b × (c < 256)
+      go : (o : Option Found) → Marked (marks_in key columns) o → Stands w 0 m (Some j) o → ExpressionAt w j.start j.end × (j.column < 256)
       go none i s = absurd s
       go (some h) i s =
           let z = marked_inside (marks_in key columns) h.column_number i in

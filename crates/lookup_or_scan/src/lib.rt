@@ -8,57 +8,49 @@ ghost use Rattle.words.specs.Place.{ExpressionAt};
 ghost use Rattle.first_lookup.specs.First.{marks_in};
 ghost use Rattle.lookup_or_scan.specs.Scan.{lookup_cell, ScanAt, Looks, Filters, LooksOrScans};
 
+use cells::Cell;
+use first_lookup::FoundLookup;
+use words::Expression;
+
 // The cell of a lookup of column c with n constants, in the place of a Scan's cell. key is the column of the table's primary key.
-fn lookup_cell(scan: cells::Cell, key: usize, c: u32, n: u32) -> cells::Cell
+fn lookup_cell(scan: Cell, key: usize, c: u32, n: u32) -> Cell
     requires { (c < 65536) × (n < 65536) }
     ensures { result ≡ lookup_cell scan key c n }
 {
     let alias = scan.flag / 2;
     if c as usize == key {
-        return cells::Cell {
-            origin: scan.origin,
+        return Cell {
             tag: tags::KEY_LOOKUP,
             flag: alias,
-            a: scan.a,
-            b: scan.b,
             c: n,
+            ..scan
         };
     }
-    cells::Cell {
-        origin: scan.origin,
+    Cell {
         tag: tags::INDEX_LOOKUP,
         flag: alias,
-        a: scan.a,
-        b: scan.b,
         c: c + 65536 * n,
+        ..scan
     }
 }
 
-// The lookup of column c for the constants of the conjunct that stands in w from a to b.
-fn lookup(
-    scan: cells::Cell,
-    key: usize,
-    c: u32,
-    w: &[u32],
-    a: usize,
-    b: usize,
-    y: &mut [u32],
-    at: usize,
-) -> usize
-    requires expression_at { ExpressionAt w.now a b }
-    requires c_bound { (c < 65536) × (length y.old ≤ most_words) }
-    ensures { Looks scan key c w.now a b y.old at result y.new }
+// The lookup that was found in w, for the constants of its conjunct.
+fn lookup(scan: Cell, key: usize, found: FoundLookup, w: &[u32], y: &mut [u32], at: usize) -> usize
+    requires expression_at { ExpressionAt w.now found.start found.end }
+    requires c_bound { (found.column < 65536) × (length y.old ≤ most_words) }
+    ensures { Looks scan key found.column w.now found.start found.end y.old at result y.new }
 {
-    let n = column_lookup::into_column_values(w, a, b, y, at);
+    let conjunct = Expression {
+        words: w,
+        lo: found.start,
+        hi: found.end,
+    };
+    let n = column_lookup::into_column_values(conjunct, y, at);
     if y.len() < n {
         return n;
     }
-    cells::put(
-        y,
-        at,
-        n,
-        lookup_cell(scan, key, c, ((n - at) / cells::CELL_WORDS) as u32),
-    )
+    let constants = ((n - at) / cells::CELL_WORDS) as u32;
+    cells::put(y, at, n, lookup_cell(scan, key, found.column, constants))
 }
 
 // The conjuncts of the expression in the first m words of w but the first that looks up a marked column, if there are any, as a Filter over the node that
@@ -77,23 +69,10 @@ fn filtered(
     ensures { Filters origin (marks_in key columns.now) w.now m y.old at n result y.new }
 {
     let rest = first_lookup::remaining(w, 0, m, y, n, n, key, columns, false, origin);
-    let end = rest.at;
-    if end == n {
+    if rest.at == n {
         return n;
     }
-    cells::put(
-        y,
-        at,
-        end,
-        cells::Cell {
-            origin: origin,
-            tag: tags::FILTER,
-            flag: 0,
-            a: 0,
-            b: 0,
-            c: 0,
-        },
-    )
+    cells::put(y, at, rest.at, Cell::new(tags::FILTER, origin))
 }
 
 // What becomes of the Scan from lo to hi, whose filter's conjunctive normal form is the first m words of w. key is the column of the table's primary key, and
@@ -112,12 +91,10 @@ pub fn lookup_or_scan(
     requires { ScanAt x.now lo hi y.old w.now m key columns.now }
     ensures { LooksOrScans x.now lo hi y.old at w.now m key columns.now result y.new }
 {
-    let found = first_lookup::find_lookup(w, 0, m, key, columns);
-    let first_lookup::FoundLookup::At(a, b, c) = found else {
+    let Some(found) = first_lookup::find_lookup(w, 0, m, key, columns) else {
         return cells::copy(x, lo, hi, y, at);
     };
     let scan = cells::cell_at(x, hi);
-    let origin = scan.origin;
-    let n = lookup(scan, key, c, w, a, b, y, at);
-    filtered(w, m, y, at, n, key, columns, origin)
+    let n = lookup(scan, key, found, w, y, at);
+    filtered(w, m, y, at, n, key, columns, scan.origin)
 }

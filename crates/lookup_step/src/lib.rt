@@ -5,11 +5,13 @@
 ghost use Rattle.std.specs.Prelude.{◌≡◌, ◌-◌, ◌≤◌, ◌<◌, length};
 ghost use Rattle.sql.specs.Room.{IndexLookup};
 ghost use Rattle.cells.specs.Room.{most_words};
-ghost use Rattle.words.specs.Place.{ExpressionAt, NodeAt};
+ghost use Rattle.words.specs.Place.{NodeAt};
 ghost use Rattle.nodes.specs.Own.{SourceCount};
 ghost use Rattle.records.specs.Records.{Records};
 ghost use Rattle.stream.specs.Stream.{StreamAt, Streams};
 ghost use Rattle.lookup_step.specs.Lookup.{FilteredAt, HasFilter, Normalizes, LooksUp};
+
+use words::Expression;
 
 // Whether the leaf from lo to hi is a Scan with a filter.
 fn has_filter(x: &[u32], lo: usize, hi: usize) -> bool
@@ -17,23 +19,24 @@ fn has_filter(x: &[u32], lo: usize, hi: usize) -> bool
     ensures { HasFilter x.now lo hi result }
 {
     let k = cells::cell_at(x, hi);
-    if k.tag == tags::SCAN {
-        return k.flag % 2 == 1;
-    }
-    false
+    k.tag == tags::SCAN && k.flag % 2 == 1
 }
 
-// The conjunctive normal form of the expression from lo to hi, as the first words of w. What into_nnf gives stands in z, and counts for room too.
-fn into_cnf(x: &[u32], lo: usize, hi: usize, z: &mut [u32], w: &mut [u32]) -> usize
-    requires expression_at { ExpressionAt x.now lo hi }
-    requires z_len { (length z.old ≡ length w.old) × (length w.old ≤ most_words) }
-    ensures { Normalizes x.now lo hi result w.new }
+// The conjunctive normal form of the expression, as the first words of w. What into_nnf gives stands in z, and counts for room too.
+fn into_cnf(e: Expression, z: &mut [u32], w: &mut [u32]) -> usize
+    requires { (length z.old ≡ length w.old) × (length w.old ≤ most_words) }
+    ensures { Normalizes e.entry.words.now e.entry.lo e.entry.hi result w.new }
 {
-    let n = nnf::into_nnf(x, lo, hi, z, 0);
+    let n = nnf::into_nnf(e, z, 0);
     if z.len() < n {
         return n;
     }
-    cnf::distribute(z, 0, n, w, 0)
+    let nnf = Expression {
+        words: z,
+        lo: 0,
+        hi: n,
+    };
+    cnf::distribute(nnf, w, 0)
 }
 
 // What becomes of the Scan from lo to hi, whose filter's conjunctive normal form is the first m words of w. A table that there isn't has no columns, so that
@@ -84,7 +87,12 @@ pub fn index_lookup(
     ensures { Streams (Records tables.now columns.now) IndexLookup x.now lo hi tail y.old at result y.new }
 {
     if has_filter(x, lo, hi) {
-        let m = into_cnf(x, lo, hi - cells::CELL_WORDS, z, w);
+        let filter = Expression {
+            words: x,
+            lo,
+            hi: hi - cells::CELL_WORDS,
+        };
+        let m = into_cnf(filter, z, w);
         if w.len() < m {
             return m;
         }

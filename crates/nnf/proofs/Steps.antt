@@ -1,15 +1,13 @@
 -- What each function has written, from what its calls have.
-use Prim.Native.Nat.{ℕ, ◌+◌, ◌-◌, ◌≤◌, ◌<◌}
+use Prim.Native.Nat.{ℕ, ◌-◌, ◌≤◌, ◌<◌}
 use native.Mathlib.Omega.{arith}
-use mathlib.Core.Logic.{◌⊎◌, inl, inr, ⊎_elim}
-use mathlib.Core.Path.{◌≡◌, refl, sym, ap, ◌∙◌, subst}
-use mathlib.Core.List.{List, [], ◌∷◌, ◌++◌}
-use lib.ListN.{length, take, get_or}
-use Rattle.value.specs.Value.{Value}
-use Rattle.sql.specs.Expression.{Logical, And, Or, Unary, Not, function, Binary, logical, Equal, Expression, constant, column, unary, binary, into_nnf, into_nnf_not, into_nnf_operands}
-use Rattle.sheet.specs.Content.{unary_tag, binary_tag, unary_cell, binary_cell}
-use Rattle.cells.specs.declared.Cell.{Cell}
-use Rattle.cells.specs.Cells.{cell_words, sized, cell_at, tag_at, origin_at, start_at}
+use mathlib.Core.Logic.{◌⊎◌, ⊎_elim}
+use mathlib.Core.Path.{◌≡◌, refl, sym, ◌∙◌}
+use mathlib.Core.List.{List, ◌++◌}
+use lib.ListN.{length}
+use Rattle.sql.specs.Expression.{And, Or, Unary, Not, function, Binary, logical, Equal, Expression, constant, column, unary, binary, into_nnf, into_nnf_not, into_nnf_operands}
+use Rattle.sheet.specs.Content.{unary_tag, binary_tag}
+use Rattle.cells.specs.Cells.{cell_words, tag_at, origin_at, start_at}
 use Rattle.cells.specs.Room.{Wrote, Seals}
 use Rattle.words.specs.Words.{cell, root, expression_words, map_operands}
 use Rattle.words.specs.Place.{ExpressionHere, Maps}

@@ -1,6 +1,6 @@
 -- What the code's helper for Not(And(l, r)) and Not(Or(l, r)) writes.
 use Rattle.std.specs.Prelude.{ℕ, Bool, true, false, eqb}
-use Rattle.sql.specs.Expression.{Logical, And, Or, Binary, logical, Expression, constant, column, unary, binary, into_nnf_not}
+use Rattle.sql.specs.Expression.{Logical, And, Or, logical, Expression, constant, column, unary, binary, into_nnf_not}
 use Rattle.sheet.specs.Tags
 
 -- And or Or, by its tag

@@ -9,135 +9,82 @@ ghost use Rattle.words.specs.Place.{ExpressionAt, Maps};
 ghost use Rattle.nnf.specs.Nnf.{negated};
 ghost use Rattle.nnf.specs.Tags.{ContainsTag};
 
-// Whether a cell of the expression from lo to hi has the tag.
-pub fn contains_tag(s: &[u32], lo: usize, hi: usize, tag: u32) -> bool
-    requires { ExpressionAt s.now lo hi }
-    ensures { ContainsTag s.now lo hi tag result }
+use cells::Cell;
+use words::Expression;
+
+// Whether a cell of the expression has the tag.
+pub fn contains_tag(e: Expression, tag: u32) -> bool
+    ensures { ContainsTag e.entry.words.now e.entry.lo e.entry.hi tag result }
 {
-    let mut i = lo;
-    while i < hi {
-        i += cells::CELL_WORDS;
-        if cells::tag_at(s, i) == tag {
-            return true;
+    let (all, _) = e.words[e.lo..e.hi].as_chunks::<{ cells::CELL_WORDS }>();
+    all.iter().any(|cell| cell[cells::TAG] == tag)
+}
+
+// into_nnf of the expression, which is its words as they are if it holds no Not.
+pub fn into_nnf(e: Expression, d: &mut [u32], at: usize) -> usize
+    ensures { Maps into_nnf e.entry.words.now e.entry.lo e.entry.hi d.old at result d.new }
+{
+    if contains_tag(e, tags::NOT) {
+        return into_nnf_expression(e, d, at);
+    }
+    cells::copy(e.words, e.lo, e.hi, d, at)
+}
+
+// into_nnf of the expression, cell by cell.
+#[cycle(into_nnf_expression_into_nnf_not_into_nnf_operands_negate_both)]
+fn into_nnf_expression(e: Expression, d: &mut [u32], at: usize) -> usize
+    ensures { Maps into_nnf e.entry.words.now e.entry.lo e.entry.hi d.old at result d.new }
+{
+    if e.tag() == tags::NOT {
+        return into_nnf_not(e.operand(), d, at, e.origin());
+    }
+    into_nnf_operands(e, d, at)
+}
+
+// into_nnf of Not, with that origin, of the expression. What it puts together has the Not's origin.
+#[cycle(into_nnf_expression_into_nnf_not_into_nnf_operands_negate_both)]
+fn into_nnf_not(e: Expression, d: &mut [u32], at: usize, origin: u32) -> usize
+    ensures { Maps (into_nnf_not origin) e.entry.words.now e.entry.lo e.entry.hi d.old at result d.new }
+{
+    match e.tag() {
+        tags::NOT => into_nnf_operands(e.operand(), d, at),
+        tags::AND => negate_both(e, d, at, tags::OR, origin),
+        tags::OR => negate_both(e, d, at, tags::AND, origin),
+        _ => {
+            let m = into_nnf_operands(e, d, at);
+            cells::put(d, at, m, Cell::new(tags::NOT, origin))
         }
     }
-    false
 }
 
-// into_nnf of the expression from lo to hi, which is its words as they are if it holds no Not.
-pub fn into_nnf(s: &[u32], lo: usize, hi: usize, d: &mut [u32], at: usize) -> usize
-    requires { ExpressionAt s.now lo hi }
-    ensures { Maps into_nnf s.now lo hi d.old at result d.new }
-{
-    if contains_tag(s, lo, hi, tags::NOT) {
-        return into_nnf_expression(s, lo, hi, d, at);
-    }
-    cells::copy(s, lo, hi, d, at)
-}
-
-// into_nnf of the expression from lo to hi, cell by cell.
+// The two operands of the expression, negated, under the And or Or with tag o and that origin.
 #[cycle(into_nnf_expression_into_nnf_not_into_nnf_operands_negate_both)]
-fn into_nnf_expression(s: &[u32], lo: usize, hi: usize, d: &mut [u32], at: usize) -> usize
-    requires { ExpressionAt s.now lo hi }
-    ensures { Maps into_nnf s.now lo hi d.old at result d.new }
-{
-    if cells::tag_at(s, hi) == tags::NOT {
-        return into_nnf_not(
-            s,
-            lo,
-            hi - cells::CELL_WORDS,
-            d,
-            at,
-            cells::origin_at(s, hi),
-        );
-    }
-    into_nnf_operands(s, lo, hi, d, at)
-}
-
-// into_nnf of Not, with that origin, of the expression from lo to hi. What it puts together has the Not's origin.
-#[cycle(into_nnf_expression_into_nnf_not_into_nnf_operands_negate_both)]
-fn into_nnf_not(s: &[u32], lo: usize, hi: usize, d: &mut [u32], at: usize, origin: u32) -> usize
-    requires { ExpressionAt s.now lo hi }
-    ensures { Maps (into_nnf_not origin) s.now lo hi d.old at result d.new }
-{
-    let t = cells::tag_at(s, hi);
-    if t == tags::NOT {
-        return into_nnf_operands(s, lo, hi - cells::CELL_WORDS, d, at);
-    }
-    if t == tags::AND {
-        return negate_both(s, lo, hi, d, at, tags::OR, origin);
-    }
-    if t == tags::OR {
-        return negate_both(s, lo, hi, d, at, tags::AND, origin);
-    }
-    let m = into_nnf_operands(s, lo, hi, d, at);
-    cells::put(
-        d,
-        at,
-        m,
-        cells::Cell {
-            origin: origin,
-            tag: tags::NOT,
-            flag: 0,
-            a: 0,
-            b: 0,
-            c: 0,
-        },
-    )
-}
-
-// The two operands of the expression from lo to hi, negated, under the And or Or with tag o and that origin.
-#[cycle(into_nnf_expression_into_nnf_not_into_nnf_operands_negate_both)]
-fn negate_both(
-    s: &[u32],
-    lo: usize,
-    hi: usize,
-    d: &mut [u32],
-    at: usize,
-    o: u32,
-    origin: u32,
-) -> usize
-    requires expression_at { ExpressionAt s.now lo hi }
-    requires bound { (10 ≤ tag_at s.now hi) × (tag_at s.now hi < 30) }
+fn negate_both(e: Expression, d: &mut [u32], at: usize, o: u32, origin: u32) -> usize
+    requires bound { (10 ≤ tag_at e.words.now e.hi) × (tag_at e.words.now e.hi < 30) }
     requires fact { (o ≡ 10) ⊎ (o ≡ 11) }
-    ensures { Maps (negated o origin) s.now lo hi d.old at result d.new }
+    ensures { Maps (negated o origin) e.entry.words.now e.entry.lo e.entry.hi d.old at result d.new }
 {
-    let k = hi - cells::CELL_WORDS;
-    let mid = cells::start(s, k);
-    let m = into_nnf_not(s, lo, mid, d, at, origin);
-    let n = into_nnf_not(s, mid, k, d, m, origin);
-    cells::put(
-        d,
-        at,
-        n,
-        cells::Cell {
-            origin: origin,
-            tag: o,
-            flag: 0,
-            a: 0,
-            b: 0,
-            c: 0,
-        },
-    )
+    let (left, right) = e.operands();
+    let m = into_nnf_not(left, d, at, origin);
+    let n = into_nnf_not(right, d, m, origin);
+    cells::put(d, at, n, Cell::new(o, origin))
 }
 
-// The expression from lo to hi with into_nnf of its operands.
+// The expression with into_nnf of its operands.
 #[cycle(into_nnf_expression_into_nnf_not_into_nnf_operands_negate_both)]
-fn into_nnf_operands(s: &[u32], lo: usize, hi: usize, d: &mut [u32], at: usize) -> usize
-    requires { ExpressionAt s.now lo hi }
-    ensures { Maps into_nnf_operands s.now lo hi d.old at result d.new }
+fn into_nnf_operands(e: Expression, d: &mut [u32], at: usize) -> usize
+    ensures { Maps into_nnf_operands e.entry.words.now e.entry.lo e.entry.hi d.old at result d.new }
 {
-    let c = cells::cell_at(s, hi);
-    if c.tag < tags::BINARY {
-        return cells::put(d, at, at, c);
+    let cell = e.cell();
+    if cell.tag < tags::BINARY {
+        return cells::put(d, at, at, cell);
     }
-    let k = hi - cells::CELL_WORDS;
-    if tags::UNARY <= c.tag {
-        let m = into_nnf_expression(s, lo, k, d, at);
-        return cells::put(d, at, m, c);
+    if tags::UNARY <= cell.tag {
+        let m = into_nnf_expression(e.operand(), d, at);
+        return cells::put(d, at, m, cell);
     }
-    let mid = cells::start(s, k);
-    let m = into_nnf_expression(s, lo, mid, d, at);
-    let j = into_nnf_expression(s, mid, k, d, m);
-    cells::put(d, at, j, c)
+    let (left, right) = e.operands();
+    let m = into_nnf_expression(left, d, at);
+    let n = into_nnf_expression(right, d, m);
+    cells::put(d, at, n, cell)
 }

@@ -7,7 +7,6 @@ use mathlib.Core.Path.{◌≡◌, refl, sym, ap, ◌∙◌}
 use mathlib.Core.Bool.{true, false}
 use mathlib.Core.List.{List, [], ◌∷◌, ◌++◌, map}
 use mathlib.Core.Option.{some}
-use lib.Dec.{ltb, eqb}
 use lib.ListN.{length}
 use borrow.Author.Tests.{ne_eqb}
 use Rattle.sql.specs.Plan.{up_to}
@@ -86,29 +85,3 @@ module _ (s : List ℕ) where
 
   pub targets_done : {i to end all : ℕ} → i ≤ to → to ≤ i → max end (targets_end (segment s i to)) ≡ all → end ≡ all
   targets_done h k e = let g = ap targets_end (segment_end h k) in omega arith
-
--- ---- one cell
-
-module _ (k : Cell) where
-  module _ (n : ℕ) where
-    pub column_is : k.tag ≡ 6 → ltb k.a n ≡ column_below n k
-    column_is e = rw e refl
-
-    pub column_not : (k.tag ≡ 6 → ⊥) → true ≡ column_below n k
-    column_not e = rw (ne_eqb _ _ e) refl
-
-    pub row_is : k.tag ≡ 45 → eqb k.a n ≡ row_has n k
-    row_is e = rw e refl
-
-    pub row_not : (k.tag ≡ 45 → ⊥) → true ≡ row_has n k
-    row_not e = rw (ne_eqb _ _ e) refl
-
-  module _ (end : ℕ) where
-    pub target_more : k.flag ≡ 1 → end ≤ k.a → k.a + 1 ≡ max end (target_end k)
-    target_more e h = rw e (omega arith)
-
-    pub target_less : k.flag ≡ 1 → k.a < end → end ≡ max end (target_end k)
-    target_less e h = rw e (omega arith)
-
-    pub target_none : (k.flag ≡ 1 → ⊥) → end ≡ max end (target_end k)
-    target_none e = rw (ne_eqb _ _ e) (omega arith)

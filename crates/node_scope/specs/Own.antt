@@ -1,7 +1,7 @@
 -- A node's own cells are those of its expressions and parts: they stand between the node before it, if any, and the node's cell, and none of them is a node. Here: what
 -- refusal 9 asks of a node, and its column count, told by its own cells, its cell and its sources' column counts.
-use Rattle.std.specs.Prelude.{ℕ, suc, ◌+◌, ◌-◌, ◌%◌, max, Bool, true, false, not, ◌&&◌, ◌||◌, cond, List, [], ◌∷◌, map, leb, ltb, eqb, length, get_or}
-use Rattle.std.proofs.Math.Option.{Option, none, some}
+use Rattle.std.specs.Prelude.{ℕ, suc, ◌+◌, ◌-◌, ◌%◌, max, Bool, true, not, ◌&&◌, ◌||◌, cond, List, [], ◌∷◌, map, leb, ltb, eqb, length, get_or}
+use Rattle.std.proofs.Math.Option.{Option, none}
 use Rattle.sql.specs.Schema.{Schema}
 use Rattle.sql.specs.Plan.{up_to}
 use Rattle.sheet.specs.Cell.{Cell, cell}

@@ -10,7 +10,7 @@ ghost use Rattle.layout.specs.Layout.{Number, Whole, as_cell, found};
 ghost use Rattle.node_scope.specs.Own.{sources, of_table, segment, column_below, column_out, first_row, rows_have, row_has, target_end, targets_end, columns_read, node_fits, node_outside, node_columns};
 ghost use Rattle.node_scope.specs.Range.{Range, CellAt, Wide};
 
-use layout::{Cell, Found, cell_at, parts_of, table_at};
+use layout::{Cell, cell_at, parts_of, table_at};
 
 // ---- own cells
 
@@ -18,25 +18,20 @@ use layout::{Cell, Found, cell_at, parts_of, table_at};
 fn column_below(k: Cell, n: usize) -> bool
     ensures { result ≡ column_below n (as_cell k) }
 {
-    if k.tag == tags::COLUMN {
-        return k.a < n;
-    }
-    true
+    k.tag != tags::COLUMN || k.a < n
 }
 
 // The first Column that is not below n.
-fn column_outside(s: &[u8], from: usize, to: usize, n: usize) -> Found
+fn column_outside(s: &[u8], from: usize, to: usize, n: usize) -> Option<usize>
     requires { Range s.now from to }
     ensures { found result ≡ column_out n from (segment s.now from to) }
 {
-    let mut i = from;
-    while i < to {
+    for i in from..to {
         if !column_below(cell_at(s, i), n) {
-            return Found::At(i);
+            return Some(i);
         }
-        i += 1;
     }
-    Found::Nothing
+    None
 }
 
 // The number of expressions in the first Row, or 0.
@@ -44,13 +39,11 @@ fn first_row(s: &[u8], from: usize, to: usize) -> usize
     requires { Range s.now from to }
     ensures { Number 4294967296 (first_row (segment s.now from to)) result }
 {
-    let mut i = from;
-    while i < to {
+    for i in from..to {
         let k = cell_at(s, i);
         if k.tag == tags::ROW {
             return k.a;
         }
-        i += 1;
     }
     0
 }
@@ -59,10 +52,7 @@ fn first_row(s: &[u8], from: usize, to: usize) -> usize
 fn row_has(k: Cell, n: usize) -> bool
     ensures { result ≡ row_has n (as_cell k) }
 {
-    if k.tag == tags::ROW {
-        return k.a == n;
-    }
-    true
+    k.tag != tags::ROW || k.a == n
 }
 
 // Each Row has n expressions.
@@ -70,12 +60,10 @@ fn rows_have(s: &[u8], from: usize, to: usize, n: usize) -> bool
     requires { Range s.now from to }
     ensures { result ≡ rows_have n (segment s.now from to) }
 {
-    let mut i = from;
-    while i < to {
+    for i in from..to {
         if !row_has(cell_at(s, i), n) {
             return false;
         }
-        i += 1;
     }
     true
 }
@@ -85,12 +73,7 @@ fn target_end(k: Cell, end: usize) -> usize
     requires { (k.a < 4294967296) × (end ≤ 4294967296) }
     ensures { (result ≡ max end (target_end (as_cell k))) × (result ≤ 4294967296) }
 {
-    if k.flag == 1 {
-        if end <= k.a {
-            return k.a + 1;
-        }
-    }
-    end
+    if k.flag == 1 { end.max(k.a + 1) } else { end }
 }
 
 // One past the highest number of a Target.
@@ -99,10 +82,8 @@ fn targets_end(s: &[u8], from: usize, to: usize) -> usize
     ensures { (result ≡ targets_end (segment s.now from to)) × (result ≤ 4294967296) }
 {
     let mut end: usize = 0;
-    let mut i = from;
-    while i < to {
+    for i in from..to {
         end = target_end(cell_at(s, i), end);
-        i += 1;
     }
     end
 }
@@ -115,31 +96,12 @@ pub fn sources(tag: u32) -> usize
     requires { 50 ≤ tag }
     ensures { (result ≡ sources tag) × (result ≤ 2) }
 {
-    if tags::NODES_END <= tag {
-        return 0;
+    match tag {
+        tags::HASH_JOIN | tags::NESTED_LOOP_JOIN => 2,
+        tags::AGGREGATE | tags::FILTER | tags::LIMIT | tags::OFFSET | tags::ORDER => 1,
+        tags::PROJECTION | tags::REMAP => 1,
+        _ => 0,
     }
-    if tag < tags::HASH_JOIN {
-        return 1;
-    }
-    if tag == tags::HASH_JOIN {
-        return 2;
-    }
-    if tag < tags::LIMIT {
-        return 0;
-    }
-    if tag == tags::LIMIT {
-        return 1;
-    }
-    if tag == tags::NESTED_LOOP_JOIN {
-        return 2;
-    }
-    if tag == tags::NOTHING {
-        return 0;
-    }
-    if tag < tags::SCAN {
-        return 1;
-    }
-    0
 }
 
 // The number of columns of a table, 0 if there is none.
@@ -151,21 +113,14 @@ fn table_columns(s: &[u8], table: usize) -> usize
     if p.tables.count <= table {
         return 0;
     }
-    let t = table_at(s, table);
-    t.count
+    table_at(s, table).count
 }
 
 // IndexLookup, KeyLookup and Scan read a table.
 fn of_table(tag: u32) -> bool
     ensures { result ≡ of_table tag }
 {
-    if tag == tags::INDEX_LOOKUP {
-        return true;
-    }
-    if tag == tags::KEY_LOOKUP {
-        return true;
-    }
-    tag == tags::SCAN
+    matches!(tag, tags::INDEX_LOOKUP | tags::KEY_LOOKUP | tags::SCAN)
 }
 
 // The number of columns that a node reads: its table's, or all its sources'.
@@ -188,14 +143,8 @@ fn node_fits(s: &[u8], own: usize, at: usize, left: usize, right: usize, n: usiz
     ensures { result ≡ node_fits left right n (segment s.now own at) (cell s.now at) }
 {
     let k = cell_at(s, at);
-    let tag = k.tag;
-    match tag {
-        tags::HASH_JOIN => {
-            if left <= k.a {
-                return false;
-            }
-            k.b < right
-        }
+    match k.tag {
+        tags::HASH_JOIN => k.a < left && k.b < right,
         tags::INDEX_LOOKUP => k.c % 65536 < n,
         tags::REMAP => k.a == n,
         tags::VALUES => rows_have(s, own, at, first_row(s, own, at)),
@@ -204,18 +153,24 @@ fn node_fits(s: &[u8], own: usize, at: usize, left: usize, right: usize, n: usiz
 }
 
 // The lowest of a node's own cells, or the node, that is out of scope.
-pub fn node_outside(s: &[u8], own: usize, at: usize, left: usize, right: usize, n: usize) -> Found
+pub fn node_outside(
+    s: &[u8],
+    own: usize,
+    at: usize,
+    left: usize,
+    right: usize,
+    n: usize,
+) -> Option<usize>
     requires { Range s.now own at × CellAt s.now at }
     ensures { found result ≡ node_outside left right n own (segment s.now own at) (cell s.now at) }
 {
-    let column = column_outside(s, own, at, n);
-    if let Found::At(i) = column {
-        return Found::At(i);
+    if let Some(i) = column_outside(s, own, at, n) {
+        return Some(i);
     }
     if node_fits(s, own, at, left, right, n) {
-        return Found::Nothing;
+        return None;
     }
-    Found::At(at)
+    Some(at)
 }
 
 // The number of columns that a node emits.
@@ -224,8 +179,7 @@ pub fn node_columns(s: &[u8], own: usize, at: usize, n: usize) -> usize
     ensures { Wide n (node_columns n (segment s.now own at) (cell s.now at)) result }
 {
     let k = cell_at(s, at);
-    let tag = k.tag;
-    match tag {
+    match k.tag {
         tags::AGGREGATE => k.a + k.b,
         tags::NOTHING | tags::PROJECTION => k.a,
         tags::REMAP => targets_end(s, own, at),

@@ -1,19 +1,19 @@
 -- Laws on a node's own words: how many trees they are, and what the node's cell asks for.
-use Prim.Native.Nat.{ℕ, zero, suc, ◌+◌, ◌-◌, ◌*◌, ◌%◌, ◌≤◌, ◌<◌}
+use Prim.Native.Nat.{ℕ, ◌+◌, ◌-◌, ◌*◌, ◌%◌, ◌≤◌, ◌<◌}
 use native.Mathlib.Omega.{arith}
-use mathlib.Core.Logic.{◌⊎◌, inl, inr, ⊎_elim}
+use mathlib.Core.Logic.{⊎_elim}
 use mathlib.Core.Bool.{Bool, true, false}
 use mathlib.Core.Path.{◌≡◌, refl, sym, ap, ◌∙◌, subst}
-use mathlib.Core.List.{List, [], ◌∷◌, ◌++◌, append-nil}
+use mathlib.Core.List.{List, []}
 use mathlib.Core.Option.{Option, none, some}
-use lib.ListN.{length, length-append}
-use Rattle.sql.specs.Expression.{origin, Expression, constant, column, unary, binary}
-use Rattle.sql.specs.Plan.{Label, unlabelled, unqualified, qualified, by_key, by_index, Leaf, scan, lookup, nothing, values, limit, offset, order, projection, remap, aggregate, Over, filter, other, Join, nested_loop, hash, Node, leaf, over, join}
+use lib.ListN.{length}
+use Rattle.sql.specs.Expression.{origin, Expression}
+use Rattle.sql.specs.Plan.{Label, unlabelled, unqualified, qualified, Leaf, scan, lookup, nothing, values, limit, offset, order, projection, remap, aggregate, Over, filter, other, Join, nested_loop, hash, Node, leaf, over, join}
 use Rattle.sheet.specs.Content.{constant_cell, label_cell, target_cell, item_cell, key_cell, agg_cell, row_cell}
 use Rattle.cells.specs.declared.Cell.{Cell}
-use Rattle.cells.specs.Cells.{cell_words, sized, cell_at, tag_at, Part}
+use Rattle.cells.specs.Cells.{cell_words, cell_at, tag_at}
 use Rattle.cells.proofs.Laws.{lt_or_ge}
-use Rattle.words.specs.Words.{cell, all_words, root, operand_words, expression_words, optional_words, constant_words, label_words, target_words, item_words, key_words, agg_words, row_words, leaf_own, over_own, join_own, own_words, source_words, node_cell, leaf_cell, over_cell, join_cell, source_count}
+use Rattle.words.specs.Words.{cell, all_words, root, operand_words, expression_words, constant_words, label_words, target_words, item_words, key_words, agg_words, row_words, leaf_own, over_own, join_own, own_words, source_words, source_count}
 use Rattle.words.specs.Place.{NodeHere, NodeAt}
 use Rattle.words.proofs.Expressions.{tag_cell, shape, by_leaf}
 use Rattle.words.proofs.Nodes.{node_cell_is, node_tag, own_part, node_in, node_long}
@@ -127,7 +127,7 @@ module _ {s : List ℕ} {lo hi : ℕ} {c : Cell} (q : c ≡ cell_at s hi) where
       go og false (some x) l r u = ap (λ (k : Cell). k.flag % 2) (q ∙ node_cell_is (join og false (nested_loop (some x)) l r) u)
       go og true (some x) l r u = ap (λ (k : Cell). k.flag % 2) (q ∙ node_cell_is (join og true (nested_loop (some x)) l r) u)
 
-  pub no_trees : (c.tag ≡ 50 → ⊥) → c.tag < 59 → (c.tag ≡ 51 → ⊥) → (c.tag ≡ 56 → ⊥) → OwnTrees s lo hi 0
+  pub no_trees : (c.tag ≡ 50 → ⊥) → (c.tag < 62 → c.tag < 59) → (c.tag ≡ 51 → ⊥) → (c.tag ≡ 56 → ⊥) → OwnTrees s lo hi 0
   no_trees a b d f p u y = go p (tag_said p u) y
     where
       go : (p : Node) → c.tag ≡ tag_of p → (source_count p ≡ 0 → ⊥) → 0 ≡ own_count p

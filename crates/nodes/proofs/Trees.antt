@@ -1,13 +1,12 @@
 -- Laws on trees that stand one after the other.
 use Prim.Native.Nat.{ℕ, zero, suc, ◌+◌, ◌-◌, ◌*◌, ◌≤◌, ◌<◌}
 use native.Mathlib.Omega.{arith}
-use native.Mathlib.Numerals.{add-one}
 use mathlib.Core.Path.{◌≡◌, refl, sym, ap, ◌∙◌, subst}
 use mathlib.Core.List.{List, [], ◌∷◌, ◌++◌, append_assoc, append-nil}
 use lib.ListN.{length, length-append}
 use Rattle.cells.specs.declared.Cell.{Cell}
 use Rattle.cells.specs.Cells.{cell_words, words, sized, tag_at, start_at, Part, Sized}
-use Rattle.cells.proofs.Laws.{part_left, part_right, part_in, seam, tag_is, start_is, has_size}
+use Rattle.cells.proofs.Laws.{part_left, part_right, seam, tag_is, start_is, has_size}
 use Rattle.words.specs.Words.{all_words}
 use Rattle.nodes.specs.Trees.{Trees, none, one_more, TreesAt, Parts, no_part, one_part_more, PartsAt, trees_start}
 

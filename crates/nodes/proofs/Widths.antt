@@ -1,31 +1,29 @@
 -- Laws on the columns that a node emits.
-use Prim.Native.Nat.{ℕ, zero, suc, ◌+◌, ◌-◌, ◌*◌, ◌≤◌, ◌<◌, max}
+use Prim.Native.Nat.{ℕ, suc, ◌+◌, ◌-◌, ◌*◌, ◌≤◌, ◌<◌, max}
 use native.Mathlib.Omega.{arith}
 use mathlib.Core.Logic.{◌⊎◌, inl, inr, ⊎_elim}
-use mathlib.Core.Bool.{Bool, true, false, cond}
+use mathlib.Core.Bool.{Bool, true, false}
 use mathlib.Core.Path.{◌≡◌, refl, sym, ap, ◌∙◌, subst}
 use mathlib.Core.List.{List, [], ◌∷◌, ◌++◌, map, append_assoc}
 use mathlib.Core.Option.{Option, none, some}
-use lib.Dec.{eqb}
 use lib.ListN.{length, take, get_or, length-append}
 use lib.Seq.{take_at}
-use borrow.Author.Tests.{eq-eqb, ne_eqb}
 use Rattle.sql.specs.Schema.{Schema, table_of}
 use Rattle.sql.specs.Expression.{Expression, constant, column, unary, binary, size}
-use Rattle.sql.specs.Plan.{Label, by_key, by_index, Leaf, scan, lookup, nothing, values, limit, offset, order, projection, remap, aggregate, Over, filter, other, Join, nested_loop, hash, Node, leaf, over, join, remap_columns, values_columns, other_columns, leaf_columns, columns, up_to, sum, row_size, item_size, aggregate_size, leaf_size, over_size, join_size, node_size}
+use Rattle.sql.specs.Plan.{by_key, by_index, Leaf, scan, lookup, nothing, values, limit, offset, order, projection, remap, aggregate, Over, filter, other, Join, nested_loop, hash, Node, leaf, over, join, remap_columns, values_columns, leaf_columns, columns, up_to, sum, row_size, item_size, aggregate_size, leaf_size, node_size}
 use Rattle.sql.specs.Ranges.{same_in}
 use Rattle.sheet.specs.Content.{cell_of, target_cell, row_cell}
 use Rattle.cells.specs.declared.Cell.{Cell}
-use Rattle.cells.specs.Cells.{cell_words, words, sized, cell_at, tag_at, start_at, Part, Sized}
+use Rattle.cells.specs.Cells.{cell_words, cell_at, tag_at, start_at, Part, Sized}
 use Rattle.cells.proofs.Laws.{part_left, part_right, part_in, cell_is, cell_in}
 use Rattle.cells.specs.Room.{most_words}
-use Rattle.words.specs.Words.{cell, all_words, expression_words, target_words, row_words, node_words, source_words, own_words, node_cell, leaf_cell, over_cell, source_count}
+use Rattle.words.specs.Words.{cell, all_words, expression_words, target_words, row_words, node_words, node_cell, source_count}
 use Rattle.words.specs.Place.{NodeHere, NodeAt}
 use Rattle.words.proofs.Nodes.{node_cell_is, node_tag, node_in, node_long, node_start, node_size_at, source_part, own_part, over_source, sources_sized, join_left, join_right}
-use Rattle.words.proofs.Tags.{tag_of, tagged, leaf_tag, over_tag, by_leaf, by_over, by_join, by_nothing, by_values, over_aggregate, over_projection, over_remap}
+use Rattle.words.proofs.Tags.{tag_of, tagged, over_tag, by_leaf, by_over, by_join, by_nothing, by_values, over_aggregate, over_projection}
 use Rattle.words.proofs.Sizes.{words_long}
 use Rattle.nodes.specs.Trees.{Trees, TreesAt, trees_start}
-use Rattle.nodes.specs.Own.{own_count, OwnStart, SourceCount}
+use Rattle.nodes.specs.Own.{OwnStart, SourceCount}
 use Rattle.nodes.specs.Columns.{NarrowOver, Narrow, ColumnsAt, ColumnCount, past, TargetsAt, RemapColumns, through_over, through, GoesThrough}
 use Rattle.records.specs.Records.{table_width, Tables}
 use Rattle.nodes.proofs.Trees.{all_trees, trees_start_is, trees_long}
@@ -144,19 +142,6 @@ module _ {s : List ℕ} {hi i n : ℕ} (targets : List (Option ℕ × ℕ)) (g :
       go : (rest : List (Option ℕ × ℕ)) → Part s i hi (all_words target_words rest) → max n (remap_columns rest) ≡ remap_columns targets → n ≡ remap_columns targets
       go [] p e = omega arith
       go (t ∷ ts) p e = absurd (omega (arith, p.high, length-append (target_words t) (all_words target_words ts)))
-
-pub past_fits : (flag a : ℕ) → flag ≡ 1 → past flag a ≤ 256 → a < 256
-past_fits flag a e h = let g : suc a ≤ 256 = rw (eq-eqb flag 1 e) at h in omega arith
-
--- the larger of two, where the code chooses
-pub past_more : (n flag a : ℕ) → flag ≡ 1 → n ≤ a → a + 1 ≡ max n (past flag a)
-past_more n flag a e h = rw (eq-eqb flag 1 e) (omega arith)
-
-pub past_less : (n flag a : ℕ) → flag ≡ 1 → a < n → n ≡ max n (past flag a)
-past_less n flag a e h = rw (eq-eqb flag 1 e) (omega arith)
-
-pub past_none : (n flag a : ℕ) → (flag ≡ 1 → ⊥) → n ≡ max n (past flag a)
-past_none n flag a h = rw (ne_eqb flag 1 h) (omega arith)
 
 -- ---- nodes without sources
 
@@ -343,10 +328,13 @@ module _ {s : List ℕ} {lo hi m : ℕ} (c : SourceCount s lo hi 1) (own : OwnSt
 
 -- ---- nodes whose columns are those of their sources
 
-abbrev through_told : List ℕ
-through_told = 0 ∷ 1 ∷ 1 ∷ 0 ∷ 0 ∷ 1 ∷ 1 ∷ 0 ∷ 1 ∷ 1 ∷ 0 ∷ 0 ∷ 0 ∷ 0 ∷ []
+false_true : false ≡ true → ⊥
+false_true h = let z : ◌≡◌ {A = ℕ} 0 1 = cc in omega arith
 
-by_tag : (p : Node) → get_or through_told (tag_of p - 50) 0 ≡ through p
+abbrev through_told : List Bool
+through_told = false ∷ true ∷ true ∷ false ∷ false ∷ true ∷ true ∷ false ∷ true ∷ true ∷ false ∷ false ∷ false ∷ false ∷ []
+
+by_tag : (p : Node) → get_or through_told (tag_of p - 50) false ≡ through p
 by_tag (leaf og (scan t al q)) = refl
 by_tag (leaf og (lookup by_key t al vs)) = refl
 by_tag (leaf og (lookup (by_index i) t al vs)) = refl
@@ -363,11 +351,11 @@ by_tag (join og outer (nested_loop q) l r) = refl
 by_tag (join og outer (hash i j) l r) = refl
 
 -- The nodes with the tags of a range go through, or none of them does.
-pub through_in : (k from n : ℕ) → map (λ t. get_or through_told (t - 50) 0) (up_to from n) ≡ map (λ t. k) (up_to from n)
+pub through_in : (k : Bool) (from n : ℕ) → map (λ t. get_or through_told (t - 50) false) (up_to from n) ≡ map (λ t. k) (up_to from n)
     → {s : List ℕ} {lo hi t : ℕ} → t ≡ tag_at s hi → from ≤ t → t < from + n → GoesThrough s lo hi k
 through_in k from n q {t = t} e h j p u =
-    sym (same_in (λ t. get_or through_told (t - 50) 0) (λ t. k) from n q t h j)
-    ∙ ap (λ (n : ℕ). get_or through_told (n - 50) 0) (e ∙ node_tag p u ∙ tagged p)
+    sym (same_in (λ t. get_or through_told (t - 50) false) (λ t. k) from n q t h j)
+    ∙ ap (λ (n : ℕ). get_or through_told (n - 50) false) (e ∙ node_tag p u ∙ tagged p)
     ∙ by_tag p
 
 -- Nodes that stand one after the other.
@@ -459,15 +447,15 @@ module _ {schema : Schema} {s : List ℕ} {lo end total : ℕ} (p : Node) (x : L
         (λ f n v u c w. record { f = f; part = v; count = omega (arith, g schema n t u); narrow = λ k. (w k).0 })
 
     -- another gives way to its sources
-    module _ {k : ℕ} (g : GoesThrough s from end k) (z : k ≡ 1) {m : ℕ} (own : OwnStart s from end m) where
-      over_through : (og : ℕ) (o : Over) (n : Node) → through_over o ≡ 1 → columns schema n ≡ columns schema (over og o n)
+    module _ {k : Bool} (g : GoesThrough s from end k) (z : k ≡ true) {m : ℕ} (own : OwnStart s from end m) where
+      over_through : (og : ℕ) (o : Over) (n : Node) → through_over o ≡ true → columns schema n ≡ columns schema (over og o n)
       over_through og (filter e) n i = refl
       over_through og (other (limit a)) n i = refl
       over_through og (other (offset a)) n i = refl
       over_through og (other (order ks)) n i = refl
-      over_through og (other (projection is)) n i = absurd (omega arith)
-      over_through og (other (remap ts)) n i = absurd (omega arith)
-      over_through og (other (aggregate es gs)) n i = absurd (omega arith)
+      over_through og (other (projection is)) n i = absurd (false_true i)
+      over_through og (other (remap ts)) n i = absurd (false_true i)
+      over_through og (other (aggregate es gs)) n i = absurd (false_true i)
 
       pub own_before : m < end
       own_before = last_here (m < end) (λ f n v u c w. omega (arith, own n u, node_long n u))
@@ -476,8 +464,8 @@ module _ {schema : Schema} {s : List ℕ} {lo end total : ℕ} (p : Node) (x : L
       left_through = last_here (Left schema s lo m total p) (λ f n v u c w. go f n v u c w (sym (g n u) ∙ z))
         where
           go : (f : Forest) (n : Node) → Part s lo from (forest_words f) → NodeHere s from end n
-              → total + (forest_columns schema f + columns schema n) ≡ columns schema p → (Narrow p → NarrowForest f × Narrow n) → through n ≡ 1 → Left schema s lo m total p
-          go f (leaf og l) v u c w i = absurd (omega arith)
+              → total + (forest_columns schema f + columns schema n) ≡ columns schema p → (Narrow p → NarrowForest f × Narrow n) → through n ≡ true → Left schema s lo m total p
+          go f (leaf og l) v u c w i = absurd (false_true i)
           go f (over og o n) v u c w i =
               record {
                 f = and f n;
@@ -532,7 +520,7 @@ module _ {records s : List ℕ} {lo hi end total : ℕ} (g : Counting records s 
           let x = left_counted t.p counted h st t.tables f in
           omega (arith, x.count, few_columns t)
 
-      pub counting_own : {k : ℕ} → GoesThrough s from end k → k ≡ 1 → {m : ℕ} → OwnStart s from end m → m < end
+      pub counting_own : {k : Bool} → GoesThrough s from end k → k ≡ true → {m : ℕ} → OwnStart s from end m → m < end
       counting_own c z own = own_before t.p counted h st c z own
 
   module _ (h : lo < end) {from : ℕ} (st : from ≡ start_at s end) where
@@ -541,7 +529,7 @@ module _ {records s : List ℕ} {lo hi end total : ℕ} (g : Counting records s 
         let (a, b) = counting_in t h st in
         record { all = λ schema p k u. left_counted p (g.all schema p k u) h st k f; within = omega (arith, g.within) }
 
-    pub counting_through : ColumnsAt records s lo hi → {k : ℕ} → GoesThrough s from end k → k ≡ 1 → {m : ℕ} → OwnStart s from end m → Counting records s lo hi m total
+    pub counting_through : ColumnsAt records s lo hi → {k : Bool} → GoesThrough s from end k → k ≡ true → {m : ℕ} → OwnStart s from end m → Counting records s lo hi m total
     counting_through t c z own =
         let b = counting_own t h st c z own in
         record { all = λ schema p k u. left_through p (g.all schema p k u) h st c z own; within = omega (arith, g.within) }
@@ -549,42 +537,28 @@ module _ {records s : List ℕ} {lo hi end total : ℕ} (g : Counting records s 
 -- ---- a node that says its columns itself
 
 -- what the code's test says of all nodes there
-pub through_as : {s : List ℕ} {lo hi n : ℕ} → GoesThrough s lo hi n → (n ≡ 1 → ⊥) → GoesThrough s lo hi 0
-through_as {n = n} c z p u = go p (c p u)
-  where
-    over_zero : (o : Over) → n ≡ through_over o → 0 ≡ through_over o
-    over_zero (filter e) i = absurd (z i)
-    over_zero (other (limit k)) i = absurd (z i)
-    over_zero (other (offset k)) i = absurd (z i)
-    over_zero (other (order ks)) i = absurd (z i)
-    over_zero (other (projection is)) i = refl
-    over_zero (other (remap ts)) i = refl
-    over_zero (other (aggregate es gs)) i = refl
+pub through_as : {s : List ℕ} {lo hi : ℕ} {b : Bool} → GoesThrough s lo hi b → {k : Bool} → b ≡ k → GoesThrough s lo hi k
+through_as c z p u = sym z ∙ c p u
 
-    go : (p : Node) → n ≡ through p → 0 ≡ through p
-    go (leaf og l) e = refl
-    go (over og o m) e = over_zero o e
-    go (join og outer j l r) e = absurd (z e)
-
-module _ {s : List ℕ} {lo hi : ℕ} (g : GoesThrough s lo hi 0) where
+module _ {s : List ℕ} {lo hi : ℕ} (g : GoesThrough s lo hi false) where
   pub one_source : {n : ℕ} → SourceCount s lo hi n → (n ≡ 0 → ⊥) → SourceCount s lo hi 1
   one_source {n} c z p u = go p (c p u) (g p u)
     where
-      go : (p : Node) → n ≡ source_count p → 0 ≡ through p → 1 ≡ source_count p
+      go : (p : Node) → n ≡ source_count p → false ≡ through p → 1 ≡ source_count p
       go (leaf og l) e i = absurd (z e)
       go (over og o m) e i = refl
-      go (join og outer j l r) e i = absurd (omega arith)
+      go (join og outer j l r) e i = absurd (false_true i)
 
   pub own_tag : SourceCount s lo hi 1 → NodeAt s lo hi → (tag_at s hi ≡ 50) ⊎ (60 ≤ tag_at s hi)
   own_tag c t =
       by_over (λ p. NodeHere s lo hi p → (tag_at s hi ≡ 50) ⊎ (60 ≤ tag_at s hi)) (λ og o n u. go o (node_tag (over og o n) u ∙ tagged (over og o n)) (g (over og o n) u))
       t.p (sym (c t.p t.here)) t.here
     where
-      go : (o : Over) → tag_at s hi ≡ over_tag o → 0 ≡ through_over o → (tag_at s hi ≡ 50) ⊎ (60 ≤ tag_at s hi)
-      go (filter e) k i = absurd (omega arith)
-      go (other (limit a)) k i = absurd (omega arith)
-      go (other (offset a)) k i = absurd (omega arith)
-      go (other (order ks)) k i = absurd (omega arith)
+      go : (o : Over) → tag_at s hi ≡ over_tag o → false ≡ through_over o → (tag_at s hi ≡ 50) ⊎ (60 ≤ tag_at s hi)
+      go (filter e) k i = absurd (false_true i)
+      go (other (limit a)) k i = absurd (false_true i)
+      go (other (offset a)) k i = absurd (false_true i)
+      go (other (order ks)) k i = absurd (false_true i)
       go (other (projection is)) k i = inr (omega arith)
       go (other (remap ts)) k i = inr (omega arith)
       go (other (aggregate es gs)) k i = inl k

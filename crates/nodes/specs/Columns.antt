@@ -1,5 +1,5 @@
 -- The columns that a node in its working form emits: what the code is lent of a schema, and the contracts.
-use Rattle.std.specs.Prelude.{ℕ, suc, ◌+◌, ◌≤◌, Bool, true, false, cond, ◌≡◌, List, eqb}
+use Rattle.std.specs.Prelude.{ℕ, suc, ◌≤◌, Bool, true, false, cond, ◌≡◌, List, eqb}
 use Rattle.std.proofs.Math.Option.{Option}
 use Rattle.sql.specs.Schema.{Schema}
 use Rattle.sql.specs.Plan.{limit, offset, order, projection, remap, aggregate, Over, filter, other, Node, leaf, over, join, remap_columns, columns}
@@ -51,20 +51,20 @@ pub record TargetsAt (s : List ℕ) (lo hi : ℕ) : Type 0 where
 abbrev pub RemapColumns : List ℕ → ℕ → ℕ → ℕ → Type 0
 RemapColumns s lo hi r = (targets : List (Option ℕ × ℕ)) → Part s lo hi (all_words target_words targets) → r ≡ remap_columns targets
 
--- 1 for a node whose columns are those of its sources, 0 for one that says its columns itself
-abbrev pub through_over : Over → ℕ
-through_over (filter e) = 1
-through_over (other (limit n)) = 1
-through_over (other (offset n)) = 1
-through_over (other (order ks)) = 1
-through_over (other (projection is)) = 0
-through_over (other (remap ts)) = 0
-through_over (other (aggregate es gs)) = 0
+-- whether the node's columns are those of its sources; otherwise it says them itself
+abbrev pub through_over : Over → Bool
+through_over (filter e) = true
+through_over (other (limit n)) = true
+through_over (other (offset n)) = true
+through_over (other (order ks)) = true
+through_over (other (projection is)) = false
+through_over (other (remap ts)) = false
+through_over (other (aggregate es gs)) = false
 
-abbrev pub through : Node → ℕ
-through (leaf og l) = 0
+abbrev pub through : Node → Bool
+through (leaf og l) = false
 through (over og o n) = through_over o
-through (join og outer j l r) = 1
+through (join og outer j l r) = true
 
-abbrev pub GoesThrough : List ℕ → ℕ → ℕ → ℕ → Type 0
+abbrev pub GoesThrough : List ℕ → ℕ → ℕ → Bool → Type 0
 GoesThrough s lo hi r = (p : Node) → NodeHere s lo hi p → r ≡ through p

@@ -1,7 +1,7 @@
 // Nodes in their working form: where the sources and the parts of a node stand, and what columns it emits.
 #![tactic(auto)]
 
-ghost use Rattle.std.specs.Prelude.{◌⊎◌, ◌≡◌, ℕ, ◌+◌, ◌-◌, ◌≤◌, ◌<◌, max};
+ghost use Rattle.std.specs.Prelude.{◌⊎◌, ◌≡◌, false, ℕ, ◌+◌, ◌-◌, ◌≤◌, ◌<◌, max};
 ghost use Rattle.cells.specs.Cells.{tag_at};
 ghost use Rattle.words.specs.Place.{NodeAt};
 ghost use Rattle.nodes.specs.Trees.{TreesAt, PartsAt, trees_start};
@@ -14,10 +14,8 @@ pub fn trees_start(s: &[u32], n: usize, hi: usize) -> usize
     ensures { result ≡ trees_start s.now n hi }
 {
     let mut at = hi;
-    let mut i = n;
-    while 0 < i {
+    for _ in 0..n {
         at = cells::start(s, at);
-        i -= 1;
     }
     at
 }
@@ -29,43 +27,26 @@ fn parts_start(s: &[u32], n: usize, hi: usize) -> usize
     ensures { result ≡ trees_start s.now n hi }
 {
     let mut at = hi;
-    let mut left = n;
-    while 0 < left {
-        if cells::tag_at(s, at) < tags::BINARY {
-            at -= cells::CELL_WORDS;
+    for _part in 0..n {
+        at = if cells::tag_at(s, at) < tags::BINARY {
+            at - cells::CELL_WORDS
         } else {
-            at = cells::start(s, at);
-        }
-        left -= 1;
+            cells::start(s, at)
+        };
     }
     at
 }
 
-// How many sources the node from lo to hi has: two a join; none a lookup (53, 54), a Nothing, a Scan or a Values (62, 63); one any other.
+// How many sources the node from lo to hi has.
 pub fn source_count(s: &[u32], lo: usize, hi: usize) -> usize
     requires { NodeAt s.now lo hi }
     ensures { SourceCount s.now lo hi result }
 {
-    let tag = cells::tag_at(s, hi);
-    if tag == tags::HASH_JOIN {
-        return 2;
+    match cells::tag_at(s, hi) {
+        tags::HASH_JOIN | tags::NESTED_LOOP_JOIN => 2,
+        tags::INDEX_LOOKUP | tags::KEY_LOOKUP | tags::NOTHING | tags::SCAN | tags::VALUES => 0,
+        _ => 1,
     }
-    if tag == tags::NESTED_LOOP_JOIN {
-        return 2;
-    }
-    if tag < tags::INDEX_LOOKUP {
-        return 1;
-    }
-    if tag < tags::LIMIT {
-        return 0;
-    }
-    if tag == tags::NOTHING {
-        return 0;
-    }
-    if tag < tags::SCAN {
-        return 1;
-    }
-    0
 }
 
 // How many trees the own words of a node with sources are: an Aggregate's expressions and Aggs, an Order's Keys, a Projection's Items, a Remap's
@@ -75,19 +56,13 @@ pub fn own_trees(s: &[u32], lo: usize, hi: usize) -> usize
     ensures { OwnTrees s.now lo hi result }
 {
     let c = cells::cell_at(s, hi);
-    if c.tag == tags::AGGREGATE {
-        return c.a as usize + c.b as usize;
+    match c.tag {
+        tags::AGGREGATE => c.a as usize + c.b as usize,
+        tags::ORDER | tags::PROJECTION | tags::REMAP => c.a as usize,
+        tags::FILTER => 1,
+        tags::NESTED_LOOP_JOIN => (c.flag % 2) as usize,
+        _ => 0,
     }
-    if tags::ORDER <= c.tag {
-        return c.a as usize;
-    }
-    if c.tag == tags::FILTER {
-        return 1;
-    }
-    if c.tag == tags::NESTED_LOOP_JOIN {
-        return (c.flag % 2) as usize;
-    }
-    0
 }
 
 // Where the own words of the node from lo to hi start: those of its parts, between its sources and its cell. A Remap's Targets, of which there can be many,
@@ -100,14 +75,12 @@ pub fn own_start(s: &[u32], lo: usize, hi: usize) -> usize
         return lo;
     }
     let n = own_trees(s, lo, hi);
-    let tag = cells::tag_at(s, hi);
-    if tag == tags::REMAP {
-        return hi - cells::CELL_WORDS - cells::CELL_WORDS * n;
+    let end = hi - cells::CELL_WORDS;
+    match cells::tag_at(s, hi) {
+        tags::REMAP => end - cells::CELL_WORDS * n,
+        tags::AGGREGATE => parts_start(s, n, end),
+        _ => trees_start(s, n, end),
     }
-    if tag == tags::AGGREGATE {
-        return parts_start(s, n, hi - cells::CELL_WORDS);
-    }
-    trees_start(s, n, hi - cells::CELL_WORDS)
 }
 
 // The larger of n and one past the target that a Target's cell says, if it says one.
@@ -115,13 +88,7 @@ fn past_target(n: usize, flag: u32, a: u32) -> usize
     requires { past flag a ≤ 256 }
     ensures { result ≡ max n (past flag a) }
 {
-    if flag == 1 {
-        if n <= a as usize {
-            return a as usize + 1;
-        }
-        return n;
-    }
-    n
+    if flag == 1 { n.max(a as usize + 1) } else { n }
 }
 
 // One past the highest target of the Targets from lo to hi.
@@ -129,11 +96,9 @@ fn remap_columns(s: &[u32], lo: usize, hi: usize) -> usize
     requires { TargetsAt s.now lo hi }
     ensures { RemapColumns s.now lo hi result }
 {
-    let mut n: usize = 0;
-    let mut i = lo;
-    while i < hi {
-        i += cells::CELL_WORDS;
-        let c = cells::cell_at(s, i);
+    let mut n = 0;
+    for i in (lo..hi).step_by(cells::CELL_WORDS) {
+        let c = cells::cell_at(s, i + cells::CELL_WORDS);
         n = past_target(n, c.flag, c.a);
     }
     n
@@ -146,18 +111,15 @@ fn leaf_columns(s: &[u32], lo: usize, hi: usize, tables: &[u8]) -> usize
     ensures { ColumnCount tables.now s.now lo hi result }
 {
     let c = cells::cell_at(s, hi);
-    if c.tag == tags::NOTHING {
-        return c.a as usize;
-    }
-    if c.tag == tags::VALUES {
-        if c.a == 0 {
-            return 0;
+    match c.tag {
+        tags::NOTHING => c.a as usize,
+        tags::VALUES if c.a == 0 => 0,
+        tags::VALUES => {
+            let first = trees_start(s, c.a as usize - 1, hi - cells::CELL_WORDS);
+            cells::cell_at(s, first).a as usize
         }
-        let first = trees_start(s, c.a as usize - 1, hi - cells::CELL_WORDS);
-        let row = cells::cell_at(s, first);
-        return row.a as usize;
+        _ => records::table_width(tables, c.a as usize),
     }
-    records::table_width(tables, c.a as usize)
 }
 
 // The columns of an Aggregate, a Projection or a Remap, whose own words start at m.
@@ -169,47 +131,34 @@ fn own_columns(s: &[u32], lo: usize, hi: usize, m: usize, tables: &[u8]) -> usiz
     ensures { ColumnCount tables.now s.now lo hi result }
 {
     let c = cells::cell_at(s, hi);
-    if c.tag == tags::AGGREGATE {
-        return c.b as usize + c.a as usize;
+    match c.tag {
+        tags::AGGREGATE => c.b as usize + c.a as usize,
+        tags::PROJECTION => c.a as usize,
+        _ => remap_columns(s, m, hi - cells::CELL_WORDS),
     }
-    if c.tag == tags::PROJECTION {
-        return c.a as usize;
-    }
-    remap_columns(s, m, hi - cells::CELL_WORDS)
 }
 
-// Whether the columns of the node from lo to hi are those of its sources: 51 Filter, 52 HashJoin, 55 Limit, 56 NestedLoopJoin, 58 Offset, 59 Order.
-fn goes_through(s: &[u32], lo: usize, hi: usize) -> usize
+// Whether the columns of the node from lo to hi are those of its sources.
+fn goes_through(s: &[u32], lo: usize, hi: usize) -> bool
     requires { NodeAt s.now lo hi }
     ensures { GoesThrough s.now lo hi result }
 {
-    let tag = cells::tag_at(s, hi);
-    if tag == tags::AGGREGATE {
-        return 0;
-    }
-    if tag < tags::INDEX_LOOKUP {
-        return 1;
-    }
-    if tag < tags::LIMIT {
-        return 0;
-    }
-    if tag < tags::NOTHING {
-        return 1;
-    }
-    if tag == tags::NOTHING {
-        return 0;
-    }
-    if tag < tags::PROJECTION {
-        return 1;
-    }
-    0
+    matches!(
+        cells::tag_at(s, hi),
+        tags::FILTER
+            | tags::HASH_JOIN
+            | tags::LIMIT
+            | tags::NESTED_LOOP_JOIN
+            | tags::OFFSET
+            | tags::ORDER
+    )
 }
 
 // The columns of a node that says them itself; its own words start at m.
 fn said_columns(s: &[u32], lo: usize, hi: usize, m: usize, tables: &[u8]) -> usize
     requires columns_at { ColumnsAt tables.now s.now lo hi }
     requires own_start { OwnStart s.now lo hi m }
-    requires goes_through { GoesThrough s.now lo hi 0 }
+    requires goes_through { GoesThrough s.now lo hi false }
     ensures { ColumnCount tables.now s.now lo hi result }
 {
     if source_count(s, lo, hi) == 0 {
@@ -229,12 +178,12 @@ pub fn columns(s: &[u32], lo: usize, hi: usize, tables: &[u8]) -> usize
     while lo < end {
         let from = cells::start(s, end);
         let m = own_start(s, from, end);
-        if goes_through(s, from, end) == 1 {
+        if goes_through(s, from, end) {
             end = m;
-            continue;
+        } else {
+            total += said_columns(s, from, end, m, tables);
+            end = from;
         }
-        total += said_columns(s, from, end, m, tables);
-        end = from;
     }
     total
 }

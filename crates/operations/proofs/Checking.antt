@@ -1,7 +1,7 @@
 -- From check's answer to the plan that a sheet stands for, or to the refusal.
 use Prim.Native.Nat.{ℕ, ◌≤◌, ◌<◌}
 use native.Mathlib.Omega.{arith}
-use mathlib.Core.Path.{◌≡◌, refl, sym, ap, ◌∙◌, subst}
+use mathlib.Core.Path.{◌≡◌, refl, sym, ap, ◌∙◌}
 use mathlib.Core.Bool.{Bool, true, false, ◌&&◌, cond}
 use mathlib.Core.List.{List}
 use lib.Dec.{leb}
@@ -10,7 +10,7 @@ use Rattle.sql.specs.Plan.{Node, columns, node_size}
 use Rattle.sql.specs.Answer.{Answer, done, refused, ◌>>=◌}
 use Rattle.sql.specs.Room
 use Rattle.sheet.specs.Check.{Numbers, refusal, schema, plan, check, checked}
-use Rattle.sheet.specs.Operations.{Outcome, refuse, hand_out, one_pass, all_five}
+use Rattle.sheet.specs.Operations.{refuse, hand_out, one_pass, all_five}
 use Rattle.sheet_laws.specs.Accepted.{accepted}
 use Rattle.sheet_laws.specs.Plan.{Bytes}
 use Rattle.sheet_laws.proofs.Plan.{parts_of, plan_size}

@@ -4,12 +4,11 @@ use mathlib.Core.Path.{◌≡◌, sym, subst}
 use mathlib.Core.List.{List}
 use Rattle.sql.specs.Schema.{Schema}
 use Rattle.sql.specs.Room
-use Rattle.fold_operator.specs.declared.Folded.{Folded}
-use Rattle.passes.specs.Passes.{Runs}
+use Rattle.passes.specs.Passes.{Runs, Passed}
 use Rattle.optimizer.specs.declared.Chosen.{Chosen}
 use Rattle.optimizer.specs.Choices.{chosen}
 
-module _ {G : Schema → List ℕ → Type 0} (x : List ℕ) (t : ℕ) (d : List ℕ) (r : Folded) where
+module _ {G : Schema → List ℕ → Type 0} (x : List ℕ) (t : ℕ) (d : List ℕ) (r : Passed) where
   pub by_number : (k j : ℕ) → k ≡ j → Runs G (λ room schema p. Room.pass room schema j p) x t d r → Runs G (λ room schema p. Room.pass room schema k p) x t d r
   by_number k j e h = subst (λ (i : ℕ). Runs G (λ room schema p. Room.pass room schema i p) x t d r) (sym e) h
 

@@ -8,7 +8,7 @@ ghost use Rattle.passes.specs.Passes.{Lent, PlanAt, Alike, Runs, ForAll};
 ghost use Rattle.optimizer.specs.Choices.{Choice, chosen};
 ghost use Rattle.optimizer.specs.Settled.{from_pushdown, from_lookup, from_hash};
 
-use fold_operator::Folded;
+use passes::Refused;
 
 // One pass by its number, 1 to 5. The plan that it gives is in y.
 pub fn pass(
@@ -21,7 +21,7 @@ pub fn pass(
     t: usize,
     tables: &[u8],
     columns: &[u8],
-) -> Folded
+) -> Result<usize, Refused>
     requires le_k { (1 ≤ k) × (k ≤ 5) }
     requires plan_at { PlanAt (ForAll text.now tables.now columns.now) x.old t }
     requires alike { Alike x.old y.old z.old w.old }
@@ -50,15 +50,13 @@ fn from_hash(
     t: usize,
     tables: &[u8],
     columns: &[u8],
-) -> Folded
+) -> Result<usize, Refused>
     requires plan_at { PlanAt (Lent tables.now columns.now) x.old t }
     requires y_len { (length y.old ≡ length x.old) × (length z.old ≡ length x.old) }
     ensures { Runs (Lent tables.now columns.now) (λ room schema p. in_turn (from_hash room schema) p) x.old t z.new result }
 {
-    match passes::hash_join(x, y, t, tables) {
-        Folded::Done(n) => passes::short_circuit(y, z, x, n, tables, columns),
-        Folded::Refused(number, place) => Folded::Refused(number, place),
-    }
+    let n = passes::hash_join(x, y, t, tables)?;
+    passes::short_circuit(y, z, x, n, tables, columns)
 }
 
 // The passes from the third on. The plan that they give is in y.
@@ -70,15 +68,13 @@ fn from_lookup(
     t: usize,
     tables: &[u8],
     columns: &[u8],
-) -> Folded
+) -> Result<usize, Refused>
     requires plan_at { PlanAt (Lent tables.now columns.now) x.old t }
     requires alike { Alike x.old y.old z.old w.old }
     ensures { Runs (Lent tables.now columns.now) (λ room schema p. in_turn (from_lookup room schema) p) x.old t y.new result }
 {
-    match passes::look_up(x, z, y, w, t, tables, columns) {
-        Folded::Done(n) => from_hash(z, x, y, n, tables, columns),
-        Folded::Refused(number, place) => Folded::Refused(number, place),
-    }
+    let n = passes::look_up(x, z, y, w, t, tables, columns)?;
+    from_hash(z, x, y, n, tables, columns)
 }
 
 // The passes from the second on. The plan that they give is in y. The second to the fourth leave a plan without a predicate as it is (crate predicates), and aren't
@@ -91,7 +87,7 @@ fn from_pushdown(
     t: usize,
     tables: &[u8],
     columns: &[u8],
-) -> Folded
+) -> Result<usize, Refused>
     requires plan_at { PlanAt (Lent tables.now columns.now) x.old t }
     requires alike { Alike x.old y.old z.old w.old }
     ensures { Runs (Lent tables.now columns.now) (λ room schema p. in_turn (from_pushdown room schema) p) x.old t y.new result }
@@ -99,10 +95,8 @@ fn from_pushdown(
     if !predicates::has_predicate(x, t) {
         return passes::short_circuit(x, y, z, t, tables, columns);
     }
-    match passes::push_down_in_place(x, y, z, w, t, tables) {
-        Folded::Done(n) => from_lookup(x, y, z, w, n, tables, columns),
-        Folded::Refused(number, place) => Folded::Refused(number, place),
-    }
+    let n = passes::push_down_in_place(x, y, z, w, t, tables)?;
+    from_lookup(x, y, z, w, n, tables, columns)
 }
 
 // All five in turn. The plan that they give is in y.
@@ -115,15 +109,13 @@ pub fn optimize(
     t: usize,
     tables: &[u8],
     columns: &[u8],
-) -> Folded
+) -> Result<usize, Refused>
     requires plan_at { PlanAt (ForAll text.now tables.now columns.now) x.old t }
     requires alike { Alike x.old y.old z.old w.old }
     ensures { Runs (ForAll text.now tables.now columns.now) (λ room schema p. Room.optimize room schema p) x.old t y.new result }
 {
-    match passes::fold(text, x, z, t) {
-        Folded::Done(n) => from_pushdown(z, y, x, w, n, tables, columns),
-        Folded::Refused(number, place) => Folded::Refused(number, place),
-    }
+    let n = passes::fold(text, x, z, t)?;
+    from_pushdown(z, y, x, w, n, tables, columns)
 }
 
 // Which passes: one by its number, or all five.
@@ -144,7 +136,7 @@ pub fn run(
     t: usize,
     tables: &[u8],
     columns: &[u8],
-) -> Folded
+) -> Result<usize, Refused>
     requires choice { Choice c }
     requires plan_at { PlanAt (ForAll text.now tables.now columns.now) x.old t }
     requires alike { Alike x.old y.old z.old w.old }

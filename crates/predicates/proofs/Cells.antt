@@ -8,11 +8,11 @@ use mathlib.Core.Option.{Option, none, some}
 use lib.Dec.{eqb}
 use lib.ListN.{length}
 use borrow.Author.Tests.{ne_eqb}
-use Rattle.value.specs.Value.{Value, Truth, False, Unknown, True, truth, datum, integer, float, string}
+use Rattle.value.specs.Value.{Value, False, Unknown, True, truth, datum, integer, float, string}
 use Rattle.sql.specs.Expression.{Marked, Expression, constant, column, unary, binary, Unary, Not, function, IsNull, IsNaN, Identity, Negate, SquareRoot, Binary, logical, And, Or, Equal, GreaterThan, LessThan, Add, Divide, Subtract, Multiply}
 use Rattle.sql.specs.Plan.{Label, unlabelled, unqualified, qualified, by_key, by_index, Leaf, scan, lookup, nothing, values, limit, offset, order, projection, remap, aggregate, Over, filter, other, Join, nested_loop, hash, Node, leaf, over, join}
 use Rattle.sheet.specs.Cell.{Cell}
-use Rattle.sheet.specs.Content.{Content, cell_of, marked, constant_as_cell, unary_tag, binary_tag, labelled, target_as_cell, bit0, constant_cell, column_cell, unary_cell, binary_cell, label_cell, item_cell, key_cell, target_cell, agg_cell, row_cell, aggregate_cell, filter_cell, limit_cell, offset_cell, order_cell, projection_cell, remap_cell, scan_cell, nothing_cell, values_cell, nested_loop_join_cell, hash_join_cell}
+use Rattle.sheet.specs.Content.{Content, cell_of, marked, constant_as_cell, unary_tag, binary_tag, labelled, target_as_cell, constant_cell, column_cell, unary_cell, binary_cell, label_cell, item_cell, key_cell, target_cell, agg_cell, row_cell, aggregate_cell, filter_cell, limit_cell, offset_cell, order_cell, projection_cell, remap_cell, scan_cell, nothing_cell, values_cell, nested_loop_join_cell, hash_join_cell}
 use Rattle.sheet.specs.Cells.{all_cells, alone, present, lookup_content, expression_cells, optional_cells, constant_cells, label_cells, target_cells, item_cells, key_cells, agg_cells, row_cells, leaf_cells, other_cells, over_cells, join_cells, cells}
 use Rattle.predicates.specs.Predicates.{leaf_has_filter, join_has_predicate, is_filter, has_predicate, any_cell, predicated}
 

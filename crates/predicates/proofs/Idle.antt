@@ -2,7 +2,7 @@
 -- predicate.
 use Prim.Native.Nat.{ℕ, zero, suc, ◌+◌, ◌≤◌}
 use Rattle.std.proofs.Common.{arith, ◌∙◌, le-leb}
-use Rattle.std.specs.Prelude.{Bool, true, false, ◌||◌, ◌≡◌, List}
+use Rattle.std.specs.Prelude.{Bool, true, false, ◌||◌, ◌≡◌}
 use Rattle.std.proofs.Math.Path.{refl, ap}
 use Rattle.std.proofs.Math.Option.{none, some}
 use Rattle.sql.specs.Schema.{Schema}

@@ -12,19 +12,11 @@ ghost use Rattle.predicates.specs.Predicates.{says_predicate, HasPredicate};
 fn says_predicate(tag: u32, flag: u32) -> bool
     ensures { result ≡ says_predicate tag flag }
 {
-    if tag < tags::FILTER {
-        return false;
+    match tag {
+        tags::FILTER => true,
+        tags::NESTED_LOOP_JOIN | tags::SCAN => flag % 2 == 1,
+        _ => false,
     }
-    if tag == tags::FILTER {
-        return true;
-    }
-    if tag == tags::NESTED_LOOP_JOIN {
-        return flag % 2 == 1;
-    }
-    if tag == tags::SCAN {
-        return flag % 2 == 1;
-    }
-    false
 }
 
 // Whether the plan in the first n words of x has a predicate.
@@ -32,13 +24,7 @@ pub fn has_predicate(x: &[u32], n: usize) -> bool
     requires { NodeAt x.now 0 n }
     ensures { HasPredicate x.now n result }
 {
-    let mut i: usize = 0;
-    while i < n {
-        let k = cells::cell_at(x, i + cells::CELL_WORDS);
-        if says_predicate(k.tag, k.flag) {
-            return true;
-        }
-        i += cells::CELL_WORDS;
-    }
-    false
+    let (all, _) = x[..n].as_chunks::<{ cells::CELL_WORDS }>();
+    all.iter()
+        .any(|cell| says_predicate(cell[cells::TAG], cell[cells::FLAG]))
 }

@@ -13,25 +13,15 @@ ghost use Rattle.kept.specs.Pass.{PassAt, Passes};
 ghost use Rattle.push_filters.specs.Buffers.{Buffers};
 ghost use Rattle.push_filters.specs.Tried.{TriedAt, Tries, Gathers, Filters};
 
+use cells::Cell;
+
 // The predicate of x from lo to hi is gathered behind the one in the first `at` words of y, with an And of that origin over both.
 fn gather(x: &[u32], lo: usize, hi: usize, y: &mut [u32], at: usize, origin: u32) -> usize
     requires { (lo ≤ hi) × (hi ≤ length x.now) }
     ensures { Gathers origin x.now lo hi y.old at result y.new }
 {
     let m = cells::copy(x, lo, hi, y, at);
-    cells::put(
-        y,
-        0,
-        m,
-        cells::Cell {
-            origin: origin,
-            tag: tags::AND,
-            flag: 0,
-            a: 0,
-            b: 0,
-            c: 0,
-        },
-    )
+    cells::put(y, 0, m, Cell::new(tags::AND, origin))
 }
 
 // A Filter of that origin with the predicate in the first n words of y, over the node of x from lo up to `end`, takes the place of all from lo up to t - tail.
@@ -50,19 +40,7 @@ fn filter_over(
     requires y_len { length y.old ≡ length x.old }
     ensures { Filters origin x.old y.old n t lo end tail result x.new }
 {
-    let m = cells::put(
-        y,
-        0,
-        n,
-        cells::Cell {
-            origin: origin,
-            tag: tags::FILTER,
-            flag: 0,
-            a: 0,
-            b: 0,
-            c: 0,
-        },
-    );
+    let m = cells::put(y, 0, n, Cell::new(tags::FILTER, origin));
     edit::replace_own(x, y, m, t, lo, end, tail)
 }
 

@@ -2,6 +2,7 @@
 use Prim.Native.Nat.{ℕ, ◌+◌, ◌-◌, ◌≤◌}
 use native.Mathlib.Omega.{arith}
 use mathlib.Core.Bool.{Bool, true, false}
+use mathlib.Core.Logic.{◌⊎◌, inl, inr, ⊎_elim}
 use mathlib.Core.Path.{◌≡◌, refl, sym, ap, ◌∙◌, subst}
 use mathlib.Core.List.{List, [], ◌++◌, append_assoc}
 use mathlib.Core.Option.{Option, none, some}
@@ -33,16 +34,16 @@ module _ {s : List ℕ} {lo hi : ℕ} where
   tag_here : (p : Node) → NodeHere s lo hi p → tag_at s hi ≡ tag_of p
   tag_here p u = node_tag p u ∙ tagged p
 
-  pub filter_takes : tag_at s hi ≡ 51 → Takes s lo hi true
+  filter_takes : tag_at s hi ≡ 51 → Takes s lo hi true
   filter_takes h new p e u = by_filter (λ p. true ≡ is_some (push_into new e p)) (λ og q n. refl) p (sym (tag_here p u) ∙ h)
 
-  pub join_takes : tag_at s hi ≡ 56 → Takes s lo hi true
+  join_takes : tag_at s hi ≡ 56 → Takes s lo hi true
   join_takes h new p e u = by_nested_loop (λ p. true ≡ is_some (push_into new e p)) (λ og outer q l r. refl) p (sym (tag_here p u) ∙ h)
 
-  pub scan_takes : tag_at s hi ≡ 62 → Takes s lo hi true
+  scan_takes : tag_at s hi ≡ 62 → Takes s lo hi true
   scan_takes h new p e u = by_scan (λ p. true ≡ is_some (push_into new e p)) (λ og t al q. refl) p (sym (tag_here p u) ∙ h)
 
-  pub none_takes : (tag_at s hi ≡ 51 → ⊥) → (tag_at s hi ≡ 56 → ⊥) → (tag_at s hi ≡ 62 → ⊥) → Takes s lo hi false
+  none_takes : (tag_at s hi ≡ 51 → ⊥) → (tag_at s hi ≡ 56 → ⊥) → (tag_at s hi ≡ 62 → ⊥) → Takes s lo hi false
   none_takes f j c new (leaf og (scan t al q)) e u = absurd (c (tag_here (leaf og (scan t al q)) u))
   none_takes f j c new (leaf og (lookup a t al vs)) e u = refl
   none_takes f j c new (leaf og (nothing ls)) e u = refl
@@ -51,6 +52,14 @@ module _ {s : List ℕ} {lo hi : ℕ} where
   none_takes f j c new (over og (other o) n) e u = refl
   none_takes f j c new (join og outer (nested_loop q) l r) e u = absurd (j (tag_here (join og outer (nested_loop q) l r) u))
   none_takes f j c new (join og outer (hash a b) l r) e u = refl
+
+  pub takes_one : {t : ℕ} → t ≡ tag_at s hi → (t ≡ 51) ⊎ ((t ≡ 56) ⊎ (t ≡ 62)) → Takes s lo hi true
+  takes_one {t} e = ⊎_elim
+      (λ (h : t ≡ 51). filter_takes (sym e ∙ h))
+      (⊎_elim (λ (h : t ≡ 56). join_takes (sym e ∙ h)) (λ (h : t ≡ 62). scan_takes (sym e ∙ h)))
+
+  pub takes_none : {t : ℕ} → t ≡ tag_at s hi → ((t ≡ 51) ⊎ ((t ≡ 56) ⊎ (t ≡ 62)) → ⊥) → Takes s lo hi false
+  takes_none e f = none_takes (λ z. f (inl (e ∙ z))) (λ z. f (inr (inl (e ∙ z)))) (λ z. f (inr (inr (e ∙ z))))
 
   pub origin_here : (p : Node) → NodeHere s lo hi p → origin_at s hi ≡ node_origin p
   unfolding cell

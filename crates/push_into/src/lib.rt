@@ -6,22 +6,17 @@ ghost use Rattle.std.specs.Prelude.{◌≡◌, ◌+◌, ◌≤◌, length};
 ghost use Rattle.words.specs.Place.{NodeAt};
 ghost use Rattle.push_into.specs.Push.{Takes, TakerAt, PredicateWritten, Pushes, PushesInPlace};
 
+use cells::Cell;
+
 // Whether the node from lo to hi can take a predicate: a Filter, a NestedLoopJoin or a Scan.
 pub fn takes(s: &[u32], lo: usize, hi: usize) -> bool
     requires { NodeAt s.now lo hi }
     ensures { Takes s.now lo hi result }
 {
-    let tag = cells::tag_at(s, hi);
-    if tag == tags::FILTER {
-        return true;
-    }
-    if tag == tags::NESTED_LOOP_JOIN {
-        return true;
-    }
-    if tag == tags::SCAN {
-        return true;
-    }
-    false
+    matches!(
+        cells::tag_at(s, hi),
+        tags::FILTER | tags::NESTED_LOOP_JOIN | tags::SCAN,
+    )
 }
 
 // A predicate stands in d from mid up to at. Behind it come the own predicate of the node from lo to hi of s, with an And of that origin over both, and the
@@ -45,34 +40,14 @@ pub fn with_predicate(
     let own = nodes::own_start(s, lo, hi);
     let end = hi - cells::CELL_WORDS;
     if own == end {
-        return cells::put(
-            d,
-            from,
-            at,
-            cells::Cell {
-                origin: k.origin,
-                tag: k.tag,
-                flag: k.flag + 1,
-                a: k.a,
-                b: k.b,
-                c: k.c,
-            },
-        );
+        let with_flag = Cell {
+            flag: k.flag + 1,
+            ..k
+        };
+        return cells::put(d, from, at, with_flag);
     }
     let m = cells::copy(s, own, end, d, at);
-    let n = cells::put(
-        d,
-        mid,
-        m,
-        cells::Cell {
-            origin: origin,
-            tag: tags::AND,
-            flag: 0,
-            a: 0,
-            b: 0,
-            c: 0,
-        },
-    );
+    let n = cells::put(d, mid, m, Cell::new(tags::AND, origin));
     cells::put(d, from, n, k)
 }
 

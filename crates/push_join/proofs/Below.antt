@@ -9,6 +9,7 @@ use lib.Dec.{eqb}
 use lib.ListN.{length, take, drop, length-append, take-append-drop}
 use lib.Seq.{length-take-le}
 use borrow.Author.Tests.{eqb-true, eqb-false}
+use Rattle.std.specs.Prelude.{Some}
 use Rattle.value.specs.Value.{Value, False, Unknown, True, truth, datum, integer, float, string}
 use Rattle.sql.specs.Schema.{Schema, table_of}
 use Rattle.sql.specs.Expression.{Expression, Unary, Not, function, IsNull, IsNaN, Identity, Negate, SquareRoot, Binary, logical, And, Or, Equal, GreaterThan, LessThan, Add, Divide, Subtract, Multiply, shift_column_down, into_nnf, distribute, into_cnf, ands, and_vec}
@@ -420,12 +421,8 @@ module _ (schema : Schema) (narrow : (t : ℕ) → length (table_of schema t).co
 
     module _ {cnf : List ℕ} {end : ℕ} {plan : List ℕ} {lo mid m : ℕ} (v : ExpressionHere cnf 0 end (into_cnf p)) (on_left : NodeHere plan lo mid l) (on_right : NodeHere plan mid m r) where
       own_wrote : {into : Source} {n shift from upto : ℕ} {d : List ℕ} {k : ℕ} {d' : List ℕ} (w : ℕ) (q : Node) → NodeHere plan from upto q
-          → WritesOwn og into n shift plan from upto cnf end d k d' → k ≤ length d → WordsBelow w (own_end (push_part og (part_for og into n shift conjuncts) q).0) → Below w d' 0 k
-      own_wrote {k = k} {d' = d'} w q u f h b = go (eqb k 0) refl
-        where
-          go : (t : Bool) → eqb k 0 ≡ t → Below w d' 0 k
-          go true e = subst (λ (j : ℕ). Below w d' 0 j) (sym (eqb-true k 0 e)) (nothing_below d')
-          go false e = wrote_below (f.own (eqb-false k 0 e) q u (into_cnf p) v) h b
+          → WritesOwn og into n shift plan from upto cnf end d (Some k) d' → k ≤ length d → WordsBelow w (own_end (push_part og (part_for og into n shift conjuncts) q).0) → Below w d' 0 k
+      own_wrote {k = k} w q u f h b = wrote_below (f.own k refl q u (into_cnf p) v) h b
 
       parts_below : PartsBelow og p l r left right cnf end plan lo mid m
       parts_below = record {

@@ -5,7 +5,7 @@
 -- This is said of what a function has written when it returns; and, where one rewrites what it wrote, which map_columns alone does (crate column_numbers), of each step
 -- of that too. All other writes append, copy words as they stand, or set a size. Nothing is said of words that the splitter only moves, those of x before and behind the
 -- join, nor of what push_filters gathers in y of Filters, which is no split.
-use Rattle.std.specs.Prelude.{ℕ, ◌+◌, ◌-◌, ◌*◌, ◌%◌, ◌≤◌, ◌<◌, Bool, true, ◌≡◌, List, map, length, take, drop}
+use Rattle.std.specs.Prelude.{ℕ, ◌+◌, ◌-◌, ◌*◌, ◌%◌, ◌≤◌, ◌<◌, Bool, true, ◌≡◌, List, map, length, take, drop, Some}
 use Rattle.std.proofs.Math.Option.{some}
 use Rattle.sql.specs.Schema.{Schema, table_of}
 use Rattle.sql.specs.Expression.{Expression, shift_column_down, into_nnf, distribute, into_cnf, ands}
@@ -70,9 +70,9 @@ pub record PartsBelow (og : ℕ) (p : Expression) (l r : Node) (left right : ℕ
       → All (λ lookup. StepsBelow (Replace j i) (left + right) lookup × StepsBelow (Replace i (j - shift)) (left + right) lookup) (ands (into_cnf p))) (ands (into_cnf p))
   -- y: own_part, the own words of a source that takes its part
   pub left_own : {y : List ℕ} {k : ℕ} {y' : List ℕ}
-      → is_some (push_into og p l) ≡ true → WritesOwn og Left left 0 x lo mid cnf end y k y' → k ≤ length y → Below left y' 0 k
+      → is_some (push_into og p l) ≡ true → WritesOwn og Left left 0 x lo mid cnf end y (Some k) y' → k ≤ length y → Below left y' 0 k
   pub right_own : {y : List ℕ} {k : ℕ} {y' : List ℕ}
-      → is_some (push_into og p r) ≡ true → WritesOwn og Right left left x mid m cnf end y k y' → k ≤ length y → Below right y' 0 k
+      → is_some (push_into og p r) ≡ true → WritesOwn og Right left left x mid m cnf end y (Some k) y' → k ≤ length y → Below right y' 0 k
   -- y: joined_predicate, what stays and what comes back
   pub stays : {y : List ℕ} {at k : ℕ} {y' : List ℕ} → Stays og left x lo mid m cnf end y at k y' → k ≤ length y → Below (left + right) y' at k
   -- y: push_part, the whole right source with all that is below it, in an array that has room for `cells` cells

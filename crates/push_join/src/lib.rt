@@ -9,16 +9,15 @@ ghost use Rattle.kept.specs.Pass.{PassAt, Passes};
 ghost use Rattle.split_join.specs.Split.{HasPredicate};
 ghost use Rattle.push_join.specs.Below.{PassesBelow};
 
+use words::Expression;
+
 // Whether the node from lo to hi is a NestedLoopJoin with a predicate.
 fn has_predicate(s: &[u32], lo: usize, hi: usize) -> bool
     requires { NodeAt s.now lo hi }
     ensures { HasPredicate s.now lo hi result }
 {
     let c = cells::cell_at(s, hi);
-    if c.tag == tags::NESTED_LOOP_JOIN {
-        return c.flag % 2 == 1;
-    }
-    false
+    c.tag == tags::NESTED_LOOP_JOIN && c.flag % 2 == 1
 }
 
 // One split of the predicate of the node there, if it is a join with a predicate. The results of into_nnf and into_cnf go to z and w, and y is scratch; each has
@@ -43,11 +42,21 @@ pub fn maybe_push_join(
     let hi = t - tail;
     if has_predicate(x, lo, hi) {
         let m = nodes::own_start(x, lo, hi);
-        let k = nnf::into_nnf(x, m, hi - cells::CELL_WORDS, z, 0);
+        let predicate = Expression {
+            words: x,
+            lo: m,
+            hi: hi - cells::CELL_WORDS,
+        };
+        let k = nnf::into_nnf(predicate, z, 0);
         if z.len() < k {
             return k;
         }
-        let end = cnf::distribute(z, 0, k, w, 0);
+        let nnf = Expression {
+            words: z,
+            lo: 0,
+            hi: k,
+        };
+        let end = cnf::distribute(nnf, w, 0);
         if w.len() < end {
             return end;
         }

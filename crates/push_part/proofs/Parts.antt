@@ -6,6 +6,8 @@ use mathlib.Core.Option.{Option, none, some}
 use mathlib.Core.Path.{◌≡◌, refl, sym, ap, ◌∙◌, subst}
 use mathlib.Core.List.{List, [], ◌∷◌, ◌++◌, append_assoc, append-nil}
 use lib.ListN.{length, length-append}
+use Rattle.std.specs.Prelude.{Some, None}
+use Rattle.std.proofs.lemmas.Option.{none-some, same_Some}
 use Rattle.sql.specs.Expression.{Expression, and, ands, and_vec}
 use Rattle.sql.specs.Plan.{scan, lookup, nothing, values, filter, other, nested_loop, hash, Node, leaf, over, join, node_origin}
 use Rattle.sql.specs.Optimizer.{for_left, for_right, push_into, pushed_or_back, push_part}
@@ -185,20 +187,24 @@ pub own_end_long : (p : Node) → cell_words ≤ length (own_end p)
 own_end_long p = omega (arith, Sizes.sized_long (own_words p) (cell (node_origin p) (node_cell p)))
 
 module _ (new : ℕ) (into : Source) (n shift : ℕ) {s : List ℕ} {lo hi : ℕ} {cnf : List ℕ} {end : ℕ} {b : Bool} (f : Takes s lo hi b) where
-  pub own_refused : b ≡ false → {d : List ℕ} → WritesOwn new into n shift s lo hi cnf end d 0 d
+  pub own_refused : b ≡ false → {d : List ℕ} → WritesOwn new into n shift s lo hi cnf end d None d
   own_refused z =
-      record { same = λ i p u e v. refused_is new (part_for new into n shift (ands e)) p (λ a. sym (f new p a u) ∙ z); own = λ i. absurd (i refl) }
+      record { same = λ i p u e v. refused_is new (part_for new into n shift (ands e)) p (λ a. sym (f new p a u) ∙ z); own = λ k i. absurd (none-some k i) }
 
   module _ {d : List ℕ} {m : ℕ} {d₁ : List ℕ} (w : WritesPart new into n shift cnf end d 0 m d₁) where
-    pub own_nothing : m ≡ 0 → WritesOwn new into n shift s lo hi cnf end d 0 d₁
-    own_nothing i = record { same = λ j p u e v. go (part_for new into n shift (ands e)) p (w e v); own = λ j. absurd (j refl) }
+    pub own_nothing : m ≡ 0 → WritesOwn new into n shift s lo hi cnf end d None d₁
+    own_nothing i = record { same = λ j p u e v. go (part_for new into n shift (ands e)) p (w e v); own = λ k j. absurd (none-some k j) }
       where
         go : (o : Option Expression) (p : Node) → Wrote d 0 (optional_words o) m d₁ → (push_part new o p).0 ≡ p
         go none p g = refl
         go (some a) p g = absurd (omega (arith, wrote_up g (omega arith), words_long a))
 
-    pub own_taken : b ≡ true → (m ≡ 0 → ⊥) → length d₁ ≡ length d → {r : ℕ} {d₂ : List ℕ} → Pushes new s lo hi d₁ 0 0 m r d₂ → WritesOwn new into n shift s lo hi cnf end d r d₂
-    own_taken z i k {r} {d₂} g = record { same = λ j p u e v. absurd (omega (arith, wrote_up (wrote p u e v) (omega arith), own_end_long (push_part new (part_for new into n shift (ands e)) p).0)); own = λ j. wrote }
+    pub own_taken : b ≡ true → (m ≡ 0 → ⊥) → length d₁ ≡ length d → {r : ℕ} {d₂ : List ℕ} → Pushes new s lo hi d₁ 0 0 m r d₂ → WritesOwn new into n shift s lo hi cnf end d (Some r) d₂
+    own_taken z i k {r} {d₂} g =
+        record {
+          same = λ j. absurd (none-some r (sym j));
+          own = λ q j p u e v. subst (λ (h : ℕ). Wrote d 0 (own_end (push_part new (part_for new into n shift (ands e)) p).0) h d₂) (same_Some r q j) (wrote p u e v);
+        }
       where
         go : (p : Node) → NodeHere s lo hi p → (o : Option Expression) → Wrote d 0 (optional_words o) m d₁ → Wrote d 0 (own_end (push_part new o p).0) r d₂
         go p u none j = absurd (i (let (c, e) = fits_to j (omega arith) (omega arith) in omega arith))

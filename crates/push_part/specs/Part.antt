@@ -1,5 +1,6 @@
 -- The part of a join's predicate for one of its sources, in slices of words: Optimizer.push_part.
-use Rattle.std.specs.Prelude.{ℕ, true, ◌≡◌, List, length}
+use Rattle.std.specs.Prelude as code
+use Rattle.std.specs.Prelude.{ℕ, true, ◌≡◌, List, length, Some, None}
 use Rattle.std.proofs.Math.Option.{Option}
 use Rattle.sql.specs.Expression.{Expression, ands, and_vec, shift_column_down}
 use Rattle.sql.specs.Plan.{Node, node_origin}
@@ -29,11 +30,11 @@ abbrev pub WritesPart : ℕ → Source → ℕ → ℕ → List ℕ → ℕ → 
 WritesPart new into n shift cnf end d at r d' =
     (e : Expression) → ExpressionHere cnf 0 end e → Wrote d at (optional_words (part_for new into n shift (ands e))) r d'
 
--- Where r is 0 the source stays as it is; otherwise its own words and its cell, with its part in its predicate, are in the first words of d, or have no room.
-pub record WritesOwn (new : ℕ) (into : Source) (n shift : ℕ) (s : List ℕ) (lo hi : ℕ) (cnf : List ℕ) (end : ℕ) (d : List ℕ) (r : ℕ) (d' : List ℕ) : Type 0 where
-  pub same : r ≡ 0 → (p : Node) → NodeHere s lo hi p → (e : Expression) → ExpressionHere cnf 0 end e → (push_part new (part_for new into n shift (ands e)) p).0 ≡ p
-  pub own : (r ≡ 0 → ⊥) → (p : Node) → NodeHere s lo hi p → (e : Expression) → ExpressionHere cnf 0 end e
-      → Wrote d 0 (own_end (push_part new (part_for new into n shift (ands e)) p).0) r d'
+-- Without an r the source stays as it is; otherwise its own words and its cell, with its part in its predicate, are in the first r words of d, or have no room.
+pub record WritesOwn (new : ℕ) (into : Source) (n shift : ℕ) (s : List ℕ) (lo hi : ℕ) (cnf : List ℕ) (end : ℕ) (d : List ℕ) (r : code.Option ℕ) (d' : List ℕ) : Type 0 where
+  pub same : r ≡ None → (p : Node) → NodeHere s lo hi p → (e : Expression) → ExpressionHere cnf 0 end e → (push_part new (part_for new into n shift (ands e)) p).0 ≡ p
+  pub own : (k : ℕ) → r ≡ Some k → (p : Node) → NodeHere s lo hi p → (e : Expression) → ExpressionHere cnf 0 end e
+      → Wrote d 0 (own_end (push_part new (part_for new into n shift (ands e)) p).0) k d'
 
 -- Some words were written to d from `from` up to mid, and behind them up to `at` an expression or nothing, or they had no room.
 pub record CloseableAt (d : List ℕ) (from mid at : ℕ) : Type 0 where

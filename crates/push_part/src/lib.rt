@@ -40,7 +40,7 @@ fn part(
     }
 }
 
-// The own words and the cell of the source from lo to hi with its part of the predicate, in the first words of d. 0 if it takes none. The left source has n
+// The own words and the cell of the source from lo to hi with its part of the predicate, in the first words of d, if it takes one. The left source has n
 // columns; the right source's part has its columns n lower, which is its `shift`. The caller seals the source.
 pub fn own_part(
     s: &[u32],
@@ -54,20 +54,20 @@ pub fn own_part(
     n: usize,
     shift: usize,
     origin: u32,
-) -> usize
+) -> Option<usize>
     requires node_at { NodeAt s.now lo hi }
     requires expression_at { ExpressionAt cnf.now 0 end }
     requires g_len { length g.old ≡ length cnf.now }
     ensures { WritesOwn origin into n shift s.now lo hi cnf.now end d.old result d.new }
 {
-    if push_into::takes(s, lo, hi) {
-        let m = part(cnf, end, g, d, 0, into, n, shift, origin);
-        if m == 0 {
-            return 0;
-        }
-        return push_into::with_predicate(s, lo, hi, d, 0, 0, m, origin);
+    if !push_into::takes(s, lo, hi) {
+        return None;
     }
-    0
+    let m = part(cnf, end, g, d, 0, into, n, shift, origin);
+    if m == 0 {
+        return None;
+    }
+    Some(push_into::with_predicate(s, lo, hi, d, 0, 0, m, origin))
 }
 
 // The node from lo to hi, whose own words start at m: its sources stand in d from word `from` up to mid, and from there up to at an expression that goes into

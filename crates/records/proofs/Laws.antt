@@ -11,7 +11,6 @@ use lib.ListN.{length, get_or, get_or-eq_default}
 use Rattle.sql.specs.Schema.{Table, Schema, no_column, no_table, table_of, column_of}
 use Rattle.sql.specs.Plan.{up_to}
 use Rattle.sheet.specs.Bytes.{word}
-use Rattle.layout.specs.Layout.{Number}
 use Rattle.records.specs.Records.{record_count, field, first_column, table_width, primary_key, column_in, table_in, schema_in, Records, Tables}
 
 -- ---- what a function gives of each number of a range
@@ -35,13 +34,6 @@ field_there k records i h = ap (λ (b : Bool). cond b (word records (i * 16 + k)
 pub field_none : (k : ℕ) (records : List ℕ) (i : ℕ) → record_count records ≤ i → field k records i ≡ 0
 unfolding field
 field_none k records i h = ap (λ (b : Bool). cond b (word records (i * 16 + k)) 0) (le-ltb i (record_count records) h)
-
-pub field_read : (k : ℕ) (records : List ℕ) (i : ℕ) → i < record_count records → {r : ℕ} → Number 4294967296 (word records (i * 16 + k)) r
-    → Number 4294967296 (field k records i) r
-field_read k records i h n = record { is = n.is ∙ sym (field_there k records i h); small = n.small }
-
-pub field_past : (k : ℕ) (records : List ℕ) (i : ℕ) → record_count records ≤ i → Number 4294967296 (field k records i) 0
-field_past k records i h = record { is = sym (field_none k records i h); small = omega arith }
 
 -- A record that says a number is there.
 pub field_some : (k : ℕ) (records : List ℕ) (i : ℕ) → 0 < field k records i → i < record_count records

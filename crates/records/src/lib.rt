@@ -6,14 +6,16 @@ ghost use Rattle.layout.specs.Layout.{Number};
 ghost use Rattle.records.specs.Records as Records;
 
 // The word at byte k of record i, or 0 if there is no such record.
+#[tactic(auto, unfolding(crate::specs::Records::field))]
 fn field(records: &[u8], i: usize, k: usize) -> usize
     requires { k ≤ 12 }
     ensures { Number 4294967296 (Records.field k records.now i) result }
 {
     if i < records.len() / 16 {
-        return layout::word_at(records, i * 16 + k);
+        layout::word_at(records, i * 16 + k)
+    } else {
+        0
     }
-    0
 }
 
 // The name of table t, a text reference, as a word of the working form.

@@ -66,7 +66,7 @@ module _ {y : List ℕ} {lo hi : ℕ} where
           go og i none (some x) k h = omega (arith, ap (λ (k : Cell). k.flag) k)
           go og i (some r) (some x) k h = omega (arith, ap (λ (k : Cell). k.flag) k)
 
-      pub scan_written : {n : ℕ} {y' : List ℕ} → Seals y lo lo (record { origin = c.origin; tag = 62; flag = c.flag - 1; a = c.a; b = c.b; c = 0 }) n y' → Rewrites y lo hi n y'
+      pub scan_written : {n : ℕ} {y' : List ℕ} → Seals y lo lo (record c { flag = c.flag - 1 }) n y' → Rewrites y lo hi n y'
       unfolding cell node_words
       scan_written {n} {y'} s schema p u =
           a_scan (λ p. Wrote y lo (node_words (remove_useless schema p)) n y')
@@ -76,10 +76,10 @@ module _ {y : List ℕ} {lo hi : ℕ} where
           (subst (λ (k : Cell). Wrote y lo (sized [] k) n y') (go og t al q (scan_cell_is og t al q u) h) (s y [] refl (none_written y lo)))) p u
         where
           go : (og t : ℕ) (al : Option ℕ) (q : Option Expression) → c ≡ cell og (scan_cell (present q) t al) → true ≡ is_always (optional_verdict q)
-              → record { origin = c.origin; tag = 62; flag = c.flag - 1; a = c.a; b = c.b; c = 0 } ≡ cell og (scan_cell false t al)
+              → record c { flag = c.flag - 1 } ≡ cell og (scan_cell false t al)
           go og t al none k h = clash h
-          go og t none (some x) k h = ap (λ (k : Cell). record { origin = k.origin; tag = 62; flag = k.flag - 1; a = k.a; b = k.b; c = 0 }) k
-          go og t (some r) (some x) k h = ap (λ (k : Cell). record { origin = k.origin; tag = 62; flag = k.flag - 1; a = k.a; b = k.b; c = 0 }) k
+          go og t none (some x) k h = ap (λ (k : Cell). record k { flag = k.flag - 1 }) k
+          go og t (some r) (some x) k h = ap (λ (k : Cell). record k { flag = k.flag - 1 }) k
 
     pub scan_same : OptionalTrue y lo (hi - cell_words) false → Rewrites y lo hi hi y
     scan_same f schema p u =
@@ -113,7 +113,7 @@ module _ {y : List ℕ} {lo hi : ℕ} where
           go og false (some x) k h = omega (arith, ap (λ (k : Cell). k.flag) k)
           go og true (some x) k h = omega (arith, ap (λ (k : Cell). k.flag) k)
 
-      pub join_written : {n : ℕ} {y' : List ℕ} → Seals y lo m (record { origin = c.origin; tag = 56; flag = c.flag - 1; a = 0; b = 0; c = 0 }) n y' → Rewrites y lo hi n y'
+      pub join_written : {n : ℕ} {y' : List ℕ} → Seals y lo m (record c { flag = c.flag - 1 }) n y' → Rewrites y lo hi n y'
       unfolding cell node_words
       join_written {n} {y'} s schema p u =
           a_join (λ p. Wrote y lo (node_words (remove_useless schema p)) n y')
@@ -126,10 +126,10 @@ module _ {y : List ℕ} {lo hi : ℕ} where
           (s y (node_words l ++ node_words r) refl (part_wrote x))))) p u
         where
           go : (og : ℕ) (outer : Bool) (q : Option Expression) → c ≡ cell og (nested_loop_join_cell (present q) outer) → true ≡ is_always (optional_verdict q)
-              → record { origin = c.origin; tag = 56; flag = c.flag - 1; a = 0; b = 0; c = 0 } ≡ cell og (nested_loop_join_cell false outer)
+              → record c { flag = c.flag - 1 } ≡ cell og (nested_loop_join_cell false outer)
           go og outer none k h = clash h
-          go og false (some x) k h = ap (λ (k : Cell). record { origin = k.origin; tag = 56; flag = k.flag - 1; a = 0; b = 0; c = 0 }) k
-          go og true (some x) k h = ap (λ (k : Cell). record { origin = k.origin; tag = 56; flag = k.flag - 1; a = 0; b = 0; c = 0 }) k
+          go og false (some x) k h = ap (λ (k : Cell). record k { flag = k.flag - 1 }) k
+          go og true (some x) k h = ap (λ (k : Cell). record k { flag = k.flag - 1 }) k
 
     pub join_same : OptionalTrue y m (hi - cell_words) false → Rewrites y lo hi hi y
     join_same f schema p u =

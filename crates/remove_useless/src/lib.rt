@@ -15,10 +15,7 @@ fn is_always(s: &[u32], hi: usize) -> bool
     ensures { AlwaysTrue s.now hi result }
 {
     let c = cells::cell_at(s, hi);
-    if c.tag == tags::BOOLEAN {
-        return c.a == 1;
-    }
-    false
+    c.tag == tags::BOOLEAN && c.a == 1
 }
 
 // The same of a predicate from lo to hi, which may be absent.
@@ -26,10 +23,7 @@ fn optional_is_always(s: &[u32], lo: usize, hi: usize) -> bool
     requires { OptionalAt s.now lo hi }
     ensures { OptionalTrue s.now lo hi result }
 {
-    if lo == hi {
-        return false;
-    }
-    is_always(s, hi)
+    lo != hi && is_always(s, hi)
 }
 
 // A Scan, without a predicate that is always true.
@@ -39,14 +33,10 @@ fn scan_without_true(y: &mut [u32], lo: usize, hi: usize) -> usize
     ensures { Rewrites y.old lo hi result y.new }
 {
     if optional_is_always(y, lo, hi - cells::CELL_WORDS) {
-        let c = cells::cell_at(y, hi);
+        let scan = cells::cell_at(y, hi);
         let k = cells::Cell {
-            origin: c.origin,
-            tag: tags::SCAN,
-            flag: c.flag - 1,
-            a: c.a,
-            b: c.b,
-            c: 0,
+            flag: scan.flag - 1,
+            ..scan
         };
         return cells::put(y, lo, lo, k);
     }
@@ -63,12 +53,8 @@ fn join_without_true(y: &mut [u32], lo: usize, hi: usize) -> usize
     if optional_is_always(y, m, hi - cells::CELL_WORDS) {
         let nested = cells::cell_at(y, hi);
         let k = cells::Cell {
-            origin: nested.origin,
-            tag: tags::NESTED_LOOP_JOIN,
             flag: nested.flag - 1,
-            a: 0,
-            b: 0,
-            c: 0,
+            ..nested
         };
         return cells::put(y, lo, m, k);
     }
@@ -97,10 +83,7 @@ fn item_passes(s: &[u32], hi: usize, i: usize) -> bool
         return false;
     }
     let e = cells::cell_at(s, hi - cells::CELL_WORDS);
-    if e.tag == tags::COLUMN {
-        return e.a as usize == i;
-    }
-    false
+    e.tag == tags::COLUMN && e.a as usize == i
 }
 
 // Whether the n Items from lo to hi are columns 0, 1, .., without labels. The Items are met from the last to the first.
@@ -109,14 +92,11 @@ pub fn pass_through(s: &[u32], lo: usize, hi: usize, n: usize) -> bool
     ensures { PassesThrough s.now lo hi n result }
 {
     let mut end = hi;
-    let mut i = n;
-    while 0 < i {
-        i -= 1;
-        if item_passes(s, end, i) {
-            end -= 2 * cells::CELL_WORDS;
-            continue;
+    for i in (0..n).rev() {
+        if !item_passes(s, end, i) {
+            return false;
         }
-        return false;
+        end -= 2 * cells::CELL_WORDS;
     }
     true
 }
@@ -129,11 +109,9 @@ fn projection_or_source(y: &[u32], lo: usize, hi: usize, tables: &[u8]) -> usize
 {
     let m = nodes::own_start(y, lo, hi);
     let c = cells::cell_at(y, hi);
-    if pass_through(y, m, hi - cells::CELL_WORDS, c.a as usize) {
-        let n = nodes::columns(y, lo, m, tables);
-        if n == c.a as usize {
-            return m;
-        }
+    let n = c.a as usize;
+    if pass_through(y, m, hi - cells::CELL_WORDS, n) && nodes::columns(y, lo, m, tables) == n {
+        return m;
     }
     hi
 }
@@ -143,18 +121,11 @@ pub fn remove_useless(y: &mut [u32], lo: usize, hi: usize, tables: &[u8]) -> usi
     requires { ColumnsAt tables.now y.old lo hi }
     ensures { Removes tables.now y.old lo hi result y.new }
 {
-    let t = cells::tag_at(y, hi);
-    if t == tags::SCAN {
-        return scan_without_true(y, lo, hi);
+    match cells::tag_at(y, hi) {
+        tags::SCAN => scan_without_true(y, lo, hi),
+        tags::NESTED_LOOP_JOIN => join_without_true(y, lo, hi),
+        tags::FILTER => filter_or_source(y, lo, hi),
+        tags::PROJECTION => projection_or_source(y, lo, hi, tables),
+        _ => hi,
     }
-    if t == tags::NESTED_LOOP_JOIN {
-        return join_without_true(y, lo, hi);
-    }
-    if t == tags::FILTER {
-        return filter_or_source(y, lo, hi);
-    }
-    if t == tags::PROJECTION {
-        return projection_or_source(y, lo, hi, tables);
-    }
-    hi
 }

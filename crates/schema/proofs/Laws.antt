@@ -1,21 +1,17 @@
 -- Laws on the records of a sheet: what its checks leave of them.
 -- Assumes nothing.
-use Prim.Native.Nat.{ℕ, ◌-◌, ◌<◌}
-use mathlib.Core.Path.{◌≡◌, refl, ap, ◌∙◌, subst}
+use Prim.Native.Nat.{ℕ, ◌<◌}
+use mathlib.Core.Path.{◌≡◌, refl, ap, ◌∙◌}
 use mathlib.Core.List.{List}
-use mathlib.Core.Option.{none}
-use lib.ListN.{take, drop, get_or}
-use lib.Seq.{length-take-le}
+use lib.ListN.{get_or}
 use Rattle.sql.specs.Schema.{table_of, no_table}
 use Rattle.sql.specs.Schema as Sql
 use Rattle.sql.specs.Answer.{done}
 use Rattle.sql.specs.Plan.{Node}
-use Rattle.sheet.specs.Parts.{cells_at, table_count, column_count, table_name, key_of, kind_of, index_mark, bad_record}
-use Rattle.sheet.specs.Check.{kinds, column, text, plan}
+use Rattle.sheet.specs.Parts.{table_count, column_count, kind_of}
+use Rattle.sheet.specs.Check.{kinds, column, plan}
 use Rattle.sheet_laws.specs.Accepted.{accepted}
-use Rattle.layout.specs.Layout.{Whole}
-use Rattle.layout.proofs.Laws.{laid}
-use Rattle.layout.proofs.Known.{KnownTable, KnownColumn, table_known, column_known, tables_pass, columns_pass}
+use Rattle.layout.proofs.Known.{KnownTable, table_known, column_known, tables_pass, columns_pass}
 use Rattle.schema.specs.declared.Kind.{Kind}
 use Rattle.schema.specs.declared.Kind.TheVariants.{Boolean, Integer, Float, String}
 use Rattle.schema.specs.Schema.{Recorded, as_kind, number}

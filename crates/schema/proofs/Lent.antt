@@ -7,7 +7,7 @@ use mathlib.Core.Path.{◌≡◌, refl, sym, ap, ◌∙◌}
 use mathlib.Core.List.{List, ◌∷◌, map}
 use lib.ListN.{length, take, drop, length-take, length-drop}
 use lib.Seq.{get_or-take, get_or-drop}
-use Rattle.sql.specs.Schema.{Column, Schema}
+use Rattle.sql.specs.Schema.{Column}
 use Rattle.sql.specs.Plan.{up_to}
 use Rattle.sheet.specs.Bytes.{byte, word}
 use Rattle.sheet.specs.Parts.{tables_at, columns_at, cells_at, table_count, column_count, record_at, columns_of, table_name, key_of, column_name}

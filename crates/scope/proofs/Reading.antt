@@ -13,7 +13,7 @@ use Rattle.sheet_laws.specs.Fits.{Each, ExactCell}
 use Rattle.sheet_laws.proofs.Reading.{sound, read_runs}
 use Rattle.sheet_laws.specs.Plan.{Bytes}
 use Rattle.sheet_laws.proofs.Plan.{cells_pass}
-use Rattle.scope.specs.declared.Scope.{Scope}
+use Rattle.std.specs.Prelude.{Result}
 use Rattle.scope.specs.Scope.{Judges}
 use Rattle.scope.proofs.Node.{Indexed}
 use Rattle.scope.proofs.Walk.{Indexes, walk, walked}
@@ -42,7 +42,7 @@ stands s b n ok reads =
     record { cells_are = d.cells_are; exact = (d.keeps tt).0 }
 
 -- An answer of the walk over a sheet's cells is the one asked for.
-pub judges : (s : List ℕ) {r : Scope} → Bytes s → r ≡ walk (schema s) 0 [] [] (cells_of s) → Judges s r
+pub judges : (s : List ℕ) {r : Result ℕ ℕ} → Bytes s → r ≡ walk (schema s) 0 [] [] (cells_of s) → Judges s r
 judges s b e n ok reads =
     let d = stands s b n ok reads in
     e ∙ ap (walk (schema s) 0 [] []) (sym d.cells_are) ∙ walked (schema s) n (indexes (text s) (tables_at s) (table_count s) n d.exact)

@@ -12,11 +12,9 @@ use borrow.Author.Tests.{le-leb, lt-leb, lt-ltb, le-ltb}
 use Rattle.sheet.specs.Cell.{Cell, cell}
 use Rattle.sheet.specs.Parts.{cell_count}
 use Rattle.sheet.specs.Check.{schema, cells_of}
-use Rattle.layout.specs.declared.Found.{Found}
-use Rattle.layout.specs.declared.Found.TheVariants.{At, Nothing}
+use Rattle.std.specs.Prelude.{Option as Found, Some, None}
 use Rattle.layout.specs.Layout.{found}
-use Rattle.scope.specs.declared.Scope.{Scope}
-use Rattle.scope.specs.declared.Scope.TheVariants.{Outside, Within}
+use Rattle.std.specs.Prelude.{Result, Ok, Err}
 use Rattle.node_scope.specs.Own.{is_node, sources, segment, columns_read, node_outside, node_columns}
 use Rattle.scope.specs.Scope.{unless_outside, width_at}
 use Rattle.node_scope.proofs.Steps.{segment_none, segment_first, segment_last, segment_length, segment_all, segment_end}
@@ -46,7 +44,7 @@ width_past ws i depth h = rw (le-ltb i depth h) refl
 
 -- n sources are taken off, and their columns are `left` and `right`.
 record Taken (ws : List ℕ) (rest n left right : ℕ) : Type 0 where
-  stack : (go : ℕ → ℕ → List ℕ → Scope) → with_sources n (stacked ws (rest + n)) go ≡ go left right (stacked ws rest)
+  stack : (go : ℕ → ℕ → List ℕ → Result ℕ ℕ) → with_sources n (stacked ws (rest + n)) go ≡ go left right (stacked ws rest)
   sum : total (stacked ws (rest + n)) ≡ left + right + total (stacked ws rest)
 
 taken : (ws : List ℕ) (rest n : ℕ) {left right : ℕ} → n ≤ 2 → left ≡ width_at ws rest (rest + n) → right ≡ width_at ws (rest + 1) (rest + n) → Taken ws rest n left right
@@ -64,7 +62,7 @@ taken ws rest (suc (suc zero)) {left} {right} h e f =
     record { stack = λ go. rw (add-two, l, r) refl; sum = rw (add-two, l, r) (omega arith) }
 taken ws rest (suc (suc (suc n))) h e f = absurd (omega arith)
 
-pub too_few : (ws : List ℕ) (depth n : ℕ) (go : ℕ → ℕ → List ℕ → Scope) → n ≤ 2 → depth < n → with_sources n (stacked ws depth) go ≡ Within 0
+pub too_few : (ws : List ℕ) (depth n : ℕ) (go : ℕ → ℕ → List ℕ → Result ℕ ℕ) → n ≤ 2 → depth < n → with_sources n (stacked ws depth) go ≡ Ok 0
 too_few ws depth zero go h k = absurd (omega arith)
 too_few ws zero (suc zero) go h k = refl
 too_few ws (suc depth) (suc zero) go h k = absurd (omega arith)
@@ -120,7 +118,7 @@ module _ (s : List ℕ) where
       counted : sources (cell s i).tag ≡ n
       counted = ap (λ (x : Cell). sources x.tag) (sym is) ∙ sym count
 
-      pub broken : depth < n → Within 0 ≡ walk (schema s) 0 [] [] (cells_of s)
+      pub broken : depth < n → Ok 0 ≡ walk (schema s) 0 [] [] (cells_of s)
       broken l =
           sym (walk_broken (schema s) own (segment s own i) (stacked ws depth) (cell s i) (segment s (i + 1) (cell_count s)) is_one counted (λ go. too_few ws depth n go few l)) ∙ here
 
@@ -145,15 +143,15 @@ module _ (s : List ℕ) where
               ∙ ap (λ (j : ℕ). unless_outside (node_outside left right read own (segment s own i) (cell s i)) (walk (schema s) j [] (node_columns read (segment s own i) (cell s i) ∷ stacked ws (depth - n)) (segment s (i + 1) (cell_count s))))
               (let l = segment_length s own i in let o = w.order in omega arith)
 
-          pub out_of_scope : {f : Found} {p : ℕ}
+          pub out_of_scope : {f : Found ℕ} {p : ℕ}
               → found f ≡ node_outside left right read own (segment s own i) (cell s i)
-              → f ≡ At p
-              → Outside p ≡ walk (schema s) 0 [] [] (cells_of s)
+              → f ≡ Some p
+              → Err p ≡ walk (schema s) 0 [] [] (cells_of s)
           out_of_scope e g = sym (judged ∙ rw (sym e ∙ ap found g) refl)
 
-          pub past_node : {f : Found} {width : ℕ}
+          pub past_node : {f : Found ℕ} {width : ℕ}
               → found f ≡ node_outside left right read own (segment s own i) (cell s i)
-              → f ≡ Nothing
+              → f ≡ None
               → width ≡ node_columns read (segment s own i) (cell s i)
               → read ≤ left + right + 8589934592
               → width ≤ read + 8589934592
@@ -175,8 +173,8 @@ module _ (s : List ℕ) where
     ended : top (stacked ws depth) ≡ walk (schema s) 0 [] [] (cells_of s)
     ended = rw (segment_end s w.within h) at w.same
 
-    pub end_empty : depth ≡ 0 → Within 0 ≡ walk (schema s) 0 [] [] (cells_of s)
+    pub end_empty : depth ≡ 0 → Ok 0 ≡ walk (schema s) 0 [] [] (cells_of s)
     end_empty e = rw e at ended
 
-    pub end_plan : (depth ≡ 0 → ⊥) → Within (get_or ws (depth - 1) 0) ≡ walk (schema s) 0 [] [] (cells_of s)
+    pub end_plan : (depth ≡ 0 → ⊥) → Ok (get_or ws (depth - 1) 0) ≡ walk (schema s) 0 [] [] (cells_of s)
     end_plan e = let f : depth ≡ suc (depth - 1) = omega arith in ap (λ (d : ℕ). top (stacked ws d)) (sym f) ∙ ended

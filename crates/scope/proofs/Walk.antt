@@ -11,28 +11,27 @@ use Rattle.sql.specs.Plan.{Over, filter, other, Node, leaf, over, join, columns,
 use Rattle.sheet.specs.Cell.{Cell}
 use Rattle.sheet.specs.Cells.{cells, over_cells, join_cells}
 use Rattle.sheet.specs.Scope.{first_of, outside}
-use Rattle.scope.specs.declared.Scope.{Scope}
-use Rattle.scope.specs.declared.Scope.TheVariants.{Within}
+use Rattle.std.specs.Prelude.{Result, Ok}
 use Rattle.node_scope.specs.Own.{is_node, sources, columns_read, node_outside, node_columns}
 use Rattle.scope.specs.Scope.{unless_outside, scope_of}
 use Rattle.scope.proofs.Own.{Each, end, next}
 use Rattle.scope.proofs.Node.{Plain, Told, over_columns, Indexed, over_told, join_told, leaf_told}
 
 -- The top of a stack of column counts: of the last plan read.
-abbrev pub top : List ℕ → Scope
-top [] = Within 0
-top (w ∷ ws) = Within w
+abbrev pub top : List ℕ → Result ℕ ℕ
+top [] = Ok 0
+top (w ∷ ws) = Ok w
 
 -- The sources of a node are the last plans read. Where there are too few, the cells are no plan, and the answer says nothing.
-abbrev pub with_sources : ℕ → List ℕ → (ℕ → ℕ → List ℕ → Scope) → Scope
+abbrev pub with_sources : ℕ → List ℕ → (ℕ → ℕ → List ℕ → Result ℕ ℕ) → Result ℕ ℕ
 with_sources zero ws go = go 0 0 ws
-with_sources (suc zero) [] go = Within 0
+with_sources (suc zero) [] go = Ok 0
 with_sources (suc zero) (w ∷ ws) go = go w 0 ws
-with_sources (suc (suc n)) [] go = Within 0
-with_sources (suc (suc n)) (right ∷ []) go = Within 0
+with_sources (suc (suc n)) [] go = Ok 0
+with_sources (suc (suc n)) (right ∷ []) go = Ok 0
 with_sources (suc (suc n)) (right ∷ left ∷ ws) go = go left right ws
 
-abbrev pub if_node : Bool → Scope → Scope → Scope
+abbrev pub if_node : Bool → Result ℕ ℕ → Result ℕ ℕ → Result ℕ ℕ
 if_node true at_node past = at_node
 if_node false at_node past = past
 
@@ -42,13 +41,13 @@ Indexes (leaf og l) = Indexed l
 Indexes (over og o n) = Indexes n
 Indexes (join og outer j l r) = Indexes l × Indexes r
 
-unless_first : (x y : Option ℕ) (z : Scope) → unless_outside (first_of x y) z ≡ unless_outside x (unless_outside y z)
+unless_first : (x y : Option ℕ) (z : Result ℕ ℕ) → unless_outside (first_of x y) z ≡ unless_outside x (unless_outside y z)
 unless_first none y z = refl
 unless_first (some i) y z = refl
 
 module _ (schema : Schema) where
   -- `own` are the cells since the last node, numbered from `at`; `ws` are the column counts of the plans read that no node has as a source yet.
-  abbrev pub walk : (at : ℕ) (own : List Cell) (ws : List ℕ) → List Cell → Scope
+  abbrev pub walk : (at : ℕ) (own : List Cell) (ws : List ℕ) → List Cell → Result ℕ ℕ
   walk at own ws [] = top ws
   walk at own ws (k ∷ ks) =
       if_node (is_node k.tag)
@@ -66,13 +65,13 @@ module _ (schema : Schema) where
     pub walk_at : {count left right read : ℕ} {rest : List ℕ}
         → is_node k.tag ≡ true
         → sources k.tag ≡ count
-        → ((go : ℕ → ℕ → List ℕ → Scope) → with_sources count ws go ≡ go left right rest)
+        → ((go : ℕ → ℕ → List ℕ → Result ℕ ℕ) → with_sources count ws go ≡ go left right rest)
         → columns_read schema left right k ≡ read
         → walk at own ws (k ∷ ks)
         ≡ unless_outside (node_outside left right read at own k) (walk (at + length own + 1) [] (node_columns read own k ∷ rest) ks)
     walk_at e f h g = rw (e, f, h, g) refl
 
-    pub walk_broken : {count : ℕ} → is_node k.tag ≡ true → sources k.tag ≡ count → ((go : ℕ → ℕ → List ℕ → Scope) → with_sources count ws go ≡ Within 0) → walk at own ws (k ∷ ks) ≡ Within 0
+    pub walk_broken : {count : ℕ} → is_node k.tag ≡ true → sources k.tag ≡ count → ((go : ℕ → ℕ → List ℕ → Result ℕ ℕ) → with_sources count ws go ≡ Ok 0) → walk at own ws (k ∷ ks) ≡ Ok 0
     walk_broken e f h = rw (e, f, h) refl
 
   walk_plain : (at : ℕ) (own : List Cell) (ws : List ℕ) {xs : List Cell} (ks : List Cell) → Each Plain xs → walk at own ws (xs ++ ks) ≡ walk at (own ++ xs) ws ks
@@ -82,7 +81,7 @@ module _ (schema : Schema) where
 
   walk_told : (at : ℕ) (ws rest : List ℕ) (ks : List Cell) {left right n size count width : ℕ} {own cs : List Cell} {out : Option ℕ}
       → Told schema left right n at own cs out width size count
-      → ((go : ℕ → ℕ → List ℕ → Scope) → with_sources count ws go ≡ go left right rest)
+      → ((go : ℕ → ℕ → List ℕ → Result ℕ ℕ) → with_sources count ws go ≡ go left right rest)
       → walk at [] ws (cs ++ ks) ≡ unless_outside out (walk (at + size) [] (width ∷ rest) ks)
   walk_told at ws rest ks {own = own} t h =
       rw (t.cells_are, append_assoc)

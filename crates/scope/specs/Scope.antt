@@ -1,22 +1,20 @@
 -- The answers of the code, set beside the definitions of crate `sheet`.
-use Rattle.std.specs.Prelude.{ℕ, ◌≡◌, cond, List, [], ◌∷◌, ltb, get_or}
+use Rattle.std.specs.Prelude.{ℕ, ◌≡◌, cond, List, [], ◌∷◌, ltb, get_or, Result, Ok, Err}
 use Rattle.std.proofs.Math.Option.{Option, none, some}
 use Rattle.sql.specs.Plan.{Node, columns}
 use Rattle.sheet.specs.Cell.{bad_cell}
 use Rattle.sheet.specs.Tree.{node_tree, stack, read}
 use Rattle.sheet.specs.Scope.{outside}
 use Rattle.sheet.specs.Check.{text, schema, cells_of}
-use Rattle.scope.specs.declared.Scope.{Scope}
-use Rattle.scope.specs.declared.Scope.TheVariants.{Outside, Within}
 
 -- what is out of scope, if that is anything, and what is said otherwise
-abbrev pub unless_outside : Option ℕ → Scope → Scope
+abbrev pub unless_outside : Option ℕ → Result ℕ ℕ → Result ℕ ℕ
 unless_outside none otherwise = otherwise
-unless_outside (some i) otherwise = Outside i
+unless_outside (some i) otherwise = Err i
 
 -- of a plan with n columns
-abbrev pub scope_of : Option ℕ → ℕ → Scope
-scope_of place n = unless_outside place (Within n)
+abbrev pub scope_of : Option ℕ → ℕ → Result ℕ ℕ
+scope_of place n = unless_outside place (Ok n)
 
 -- A sheet's cells are one plan: refusals 6 to 8 let them by.
 pub record OnePlan (s : List ℕ) : Type 0 where
@@ -25,7 +23,7 @@ pub record OnePlan (s : List ℕ) : Type 0 where
   pub reads : read (text s) 0 (cells_of s) [] ≡ stack (node_tree n ∷ [])
 
 -- The answer of the scope check, of the plan that the cells are.
-abbrev pub Judges : List ℕ → Scope → Type 0
+abbrev pub Judges : List ℕ → Result ℕ ℕ → Type 0
 Judges s r =
     (n : Node) → bad_cell s ≡ none → read (text s) 0 (cells_of s) [] ≡ stack (node_tree n ∷ []) → r ≡ scope_of (outside (schema s) 0 n) (columns (schema s) n)
 

@@ -7,13 +7,11 @@ use std::io::{self, Read};
 fn main(rt: HostRuntime) -> io::Result<()> {
     let mut sheet = Vec::new(rt.alloc());
     rt.reader().take(45333).read_to_end(&mut sheet)?;
-    let answer = checker::check(&sheet);
-    if answer.number == 0 {
-        println!(rt;
+    match checker::accepted(&sheet) {
+        Ok(counts) => println!(rt;
             "accepted cells {} columns {}",
-            answer.cells, answer.columns
-        )
-    } else {
-        println!(rt; "refused {} place {}", answer.number, answer.place)
+            counts.cells, counts.columns
+        ),
+        Err(cause) => println!(rt; "refused {} place {}", cause.number(), cause.place()),
     }
 }

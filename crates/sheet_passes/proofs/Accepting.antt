@@ -32,13 +32,12 @@ use Rattle.schema.proofs.Lent.{records_said}
 use Rattle.encode.specs.Encode.{cells_in}
 use Rattle.encode.proofs.Says.{node_cells}
 use Rattle.decode.specs.Decode.{Acceptable, Decodes}
-use Rattle.fold_operator.specs.declared.Folded.{Folded}
 use Rattle.checker.specs.declared.Answer as Code
 use Rattle.hand_out.specs.HandOut.{Fit, AnsweredAt, HandsOut}
 use Rattle.optimizer.specs.Choices.{chosen}
 use Rattle.optimizer.specs.declared.Chosen.{Chosen}
 use Rattle.optimizer.specs.declared.Chosen.TheVariants.{One, All}
-use Rattle.passes.specs.Passes.{Lent, PlanIn, PlanAt, Alike, Leaves, Runs, ForAll}
+use Rattle.passes.specs.Passes.{Lent, PlanIn, PlanAt, Alike, Leaves, Runs, ForAll, Passed}
 use Rattle.sheet_passes.specs.SheetPasses.{RunAt, RunsOn}
 
 module _ (s : List ℕ) (b : Bytes s) (n : Node) (h : plan s ≡ done n) where
@@ -108,7 +107,7 @@ module _ (s : List ℕ) (b : Bytes s) {x y z w : List ℕ} (at : RunAt s x y z w
       let a = at.alike in
       record { second = omega (arith, a.second, same); third = omega (arith, a.third, same); fourth = omega (arith, a.fourth, same) }
 
-  module _ (c : Chosen) (y' : List ℕ) (long : length y' ≡ length y) (r : Folded) (run : Runs (ForAll text' tables columns) (chosen c) x' t y' r) where
+  module _ (c : Chosen) (y' : List ℕ) (long : length y' ≡ length y) (r : Passed) (run : Runs (ForAll text' tables columns) (chosen c) x' t y' r) where
     left : (node : Node) (room : ℕ) → plan s ≡ done node → node_size node ≤ room → length x ≡ cell_words * room
         → Leaves (Fit s node) y' (chosen c room (schema s) node) r
     left node room is fits all =

@@ -32,12 +32,8 @@ fn into_nothing(
     let end = column_labels::write_labels(y, lo, hi, z, 0, tables, columns, origin);
     let at = cells::copy(z, 0, end, y, lo);
     let k = cells::Cell {
-        origin: origin,
-        tag: tags::NOTHING,
-        flag: 0,
         a: n as u32,
-        b: 0,
-        c: 0,
+        ..cells::Cell::new(tags::NOTHING, origin)
     };
     cells::put(y, lo, at, k)
 }
@@ -82,15 +78,14 @@ fn climb(
     requires z_len { length z.old ≡ length y.old }
     ensures { Climbs tables.now columns.now x.now end hi tail y.old at u result y.new }
 {
-    let mut m = end;
     let mut n = u;
-    while m < hi {
+    for m in (end..hi).step_by(cells::CELL_WORDS) {
         if y.len() < n {
             return n;
         }
-        let v = stream::finish(x, m, m + cells::CELL_WORDS, y, at, n);
-        m += cells::CELL_WORDS;
-        n = short_circuit_node(y, at, v, tail + (hi - m), z, tables, columns);
+        let above = m + cells::CELL_WORDS;
+        let v = stream::finish(x, m, above, y, at, n);
+        n = short_circuit_node(y, at, v, tail + (hi - above), z, tables, columns);
     }
     n
 }
@@ -162,10 +157,8 @@ fn short_circuit_source(
     requires z_len { length z.old ≡ length y.old }
     ensures { Circuits tables.now columns.now x.now lo hi tail y.old at result y.new }
 {
-    if hi - lo == cells::CELL_WORDS {
-        if cells::tag_at(x, hi) == tags::SCAN {
-            return cells::copy(x, lo, hi, y, at);
-        }
+    if hi - lo == cells::CELL_WORDS && cells::tag_at(x, hi) == tags::SCAN {
+        return cells::copy(x, lo, hi, y, at);
     }
     short_circuit(x, lo, hi, tail, y, at, z, tables, columns)
 }

@@ -7,6 +7,8 @@ use mathlib.Core.Path.{◌≡◌, refl, sym, ap, ◌∙◌, subst}
 use mathlib.Core.List.{List, [], ◌++◌, append_assoc, append-nil}
 use lib.ListN.{length, take, length-append}
 use lib.Seq.{length-take-le}
+use Rattle.std.specs.Prelude as code
+use Rattle.std.specs.Prelude.{Some, None}
 use Rattle.sql.specs.Expression.{Expression, ands}
 use Rattle.sql.specs.Plan.{nested_loop, Node, join, node_origin}
 use Rattle.sql.specs.Optimizer.{split}
@@ -190,8 +192,8 @@ module _ {x₁ : List ℕ} {u : ℕ} {pre post : List ℕ} (kept : List ℕ) (q 
 
 -- ---- the right source's part
 
-module _ (og n : ℕ) {x : List ℕ} {t lo mid m tail : ℕ} {cnf : List ℕ} {end : ℕ} {y : List ℕ} {k : ℕ} {y₁ : List ℕ} (f : WritesOwn og Right n n x mid m cnf end y k y₁) where
-  pub right_none : k ≡ 0 → {v : ℕ} {x' : List ℕ} → ReplacesEnd og n x y₁ t lo mid m tail cnf end m 0 v x' → SplitsRight og n x t lo mid m tail cnf end v x'
+module _ (og n : ℕ) {x : List ℕ} {t lo mid m tail : ℕ} {cnf : List ℕ} {end : ℕ} {y : List ℕ} {j : code.Option ℕ} {y₁ : List ℕ} (f : WritesOwn og Right n n x mid m cnf end y j y₁) where
+  pub right_none : j ≡ None → {v : ℕ} {x' : List ℕ} → ReplacesEnd og n x y₁ t lo mid m tail cnf end m 0 v x' → SplitsRight og n x t lo mid m tail cnf end v x'
   right_none z {v} {x'} g pre post outer p l r h e a =
       let o = stays og n (ands e) l r in
       let b = node_words l ++ node_words r in
@@ -199,11 +201,11 @@ module _ (og n : ℕ) {x : List ℕ} {t lo mid m tail : ℕ} {cnf : List ℕ} {e
       (subst (λ (w : List ℕ). Placed x' v pre post w) (ap (λ (s : List ℕ). joined s og outer o) (append-nil b) ∙ sym (node_shape (join og outer (nested_loop o) l r)))
       (g pre post outer p l r h e a b [] (sym (append-nil b)) (sources_long og outer p l r h) y₁ [] refl (nothing y₁ 0)))
 
-  module _ (some : k ≡ 0 → ⊥) {own : ℕ} (s : OwnStart x mid m own) {u : ℕ} {x₁ : List ℕ} (l₁ : length y₁ ≡ length y)
+  module _ {k : ℕ} (some : j ≡ Some k) {own : ℕ} (s : OwnStart x mid m own) {u : ℕ} {x₁ : List ℕ} (l₁ : length y₁ ≡ length y)
       (g : ReplacesEnd og n x y₁ t lo mid m tail cnf end own k u x₁) where
     module _ {pre post : List ℕ} (outer : Bool) (p : Expression) (l r : Node) (h : JoinHere x t lo mid m tail pre post og outer p l r) (e : Expression) (a : ExpressionHere cnf 0 end e) where
       right_own : Wrote y 0 (own_end (new_right og n (ands e) r)) k y₁
-      right_own = f.own some r (right_here og outer p l r h) e a
+      right_own = f.own k some r (right_here og outer p l r h) e a
 
       right_low : length pre + length (node_words l) ≡ mid
       right_low = omega (arith, h.holds.low, h.left)
@@ -248,17 +250,17 @@ module _ (og n : ℕ) {x : List ℕ} {t lo mid m tail : ℕ} {cnf : List ℕ} {e
 
 -- ---- the left source's part
 
-module _ (og n : ℕ) {x : List ℕ} {t lo mid m tail : ℕ} {cnf : List ℕ} {end : ℕ} {y : List ℕ} {k : ℕ} {y₁ : List ℕ} (f : WritesOwn og Left n 0 x lo mid cnf end y k y₁) where
-  pub left_none : k ≡ 0 → {v : ℕ} {x' : List ℕ} → SplitsRight og n x t lo mid m tail cnf end v x' → SplitsBoth og n x t lo mid m tail cnf end v x'
+module _ (og n : ℕ) {x : List ℕ} {t lo mid m tail : ℕ} {cnf : List ℕ} {end : ℕ} {y : List ℕ} {j : code.Option ℕ} {y₁ : List ℕ} (f : WritesOwn og Left n 0 x lo mid cnf end y j y₁) where
+  pub left_none : j ≡ None → {v : ℕ} {x' : List ℕ} → SplitsRight og n x t lo mid m tail cnf end v x' → SplitsBoth og n x t lo mid m tail cnf end v x'
   left_none z {v} {x'} g pre post outer p l r h e a =
       subst (λ (s : Node). Placed x' v pre post (node_words (join og outer (nested_loop (stays og n (ands e) l r)) s (new_right og n (ands e) r)))) (sym (f.same z l (left_here og outer p l r h) e a))
       (g pre post outer p l r h e a)
 
-  module _ (some : k ≡ 0 → ⊥) {own : ℕ} (s : OwnStart x lo mid own) {b : ℕ} {y₂ : List ℕ} (l₁ : length y₁ ≡ length y) (l₂ : length y₂ ≡ length y₁)
+  module _ {k : ℕ} (some : j ≡ Some k) {own : ℕ} (s : OwnStart x lo mid own) {b : ℕ} {y₂ : List ℕ} (l₁ : length y₁ ≡ length y) (l₂ : length y₂ ≡ length y₁)
       (w : PushesPart og Right n n x mid m cnf end y₁ k b y₂) {u : ℕ} {x₁ : List ℕ} (g : ReplacesEnd og n x y₂ t lo mid m tail cnf end own b u x₁) where
     module _ {pre post : List ℕ} (outer : Bool) (p : Expression) (l r : Node) (h : JoinHere x t lo mid m tail pre post og outer p l r) (e : Expression) (a : ExpressionHere cnf 0 end e) where
       left_own : Wrote y 0 (own_end (new_left og n (ands e) l)) k y₁
-      left_own = f.own some l (left_here og outer p l r h) e a
+      left_own = f.own k some l (left_here og outer p l r h) e a
 
       left_start : lo + length (source_words (new_left og n (ands e) l)) ≡ own
       left_start = omega (arith, s l (left_here og outer p l r h), ap length (sources_stay og (part_for og Left n 0 (ands e)) l))

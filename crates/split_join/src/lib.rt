@@ -47,19 +47,11 @@ fn rejoin(s: &[u32], lo: usize, hi: usize, d: &mut [u32], mid: usize, at: usize)
     }
     let c = cells::cell_at(s, hi);
     if at == mid {
-        return cells::put(
-            d,
-            0,
-            at,
-            cells::Cell {
-                origin: c.origin,
-                tag: c.tag,
-                flag: c.flag - 1,
-                a: c.a,
-                b: c.b,
-                c: c.c,
-            },
-        );
+        let without_flag = cells::Cell {
+            flag: c.flag - 1,
+            ..c
+        };
+        return cells::put(d, 0, at, without_flag);
     }
     cells::put(d, 0, at, c)
 }
@@ -116,10 +108,10 @@ fn split_right(
     requires g_len { length g.old ≡ length cnf.now }
     ensures { SplitsRight origin n x.old t lo mid m tail cnf.now end result x.new }
 {
-    let k = push_part::own_part(x, mid, m, cnf, end, g, y, Source::Right, n, n, origin);
-    if k == 0 {
+    let part = push_part::own_part(x, mid, m, cnf, end, g, y, Source::Right, n, n, origin);
+    let Some(k) = part else {
         return replace_end(x, y, cnf, end, g, t, lo, mid, m, tail, n, m, 0, origin);
-    }
+    };
     let own = nodes::own_start(x, mid, m);
     let u = replace_end(x, y, cnf, end, g, t, lo, mid, m, tail, n, own, k, origin);
     if x.len() < u {
@@ -149,10 +141,10 @@ fn split_both(
     requires g_len { length g.old ≡ length cnf.now }
     ensures { SplitsBoth origin n x.old t lo mid m tail cnf.now end result x.new }
 {
-    let k = push_part::own_part(x, lo, mid, cnf, end, g, y, Source::Left, n, 0, origin);
-    if k == 0 {
+    let part = push_part::own_part(x, lo, mid, cnf, end, g, y, Source::Left, n, 0, origin);
+    let Some(k) = part else {
         return split_right(x, y, cnf, end, g, t, lo, mid, m, tail, n, origin);
-    }
+    };
     let own = nodes::own_start(x, lo, mid);
     let b = push_part::push_part(x, mid, m, cnf, end, g, y, k, Source::Right, n, n, origin);
     let u = replace_end(x, y, cnf, end, g, t, lo, mid, m, tail, n, own, b, origin);

@@ -17,14 +17,13 @@ use Rattle.sheet.specs.Check.{text, cells_of, sole_node, one_plan}
 use Rattle.layout.specs.Layout.{Laid, IsCell, as_cell}
 use Rattle.layout.specs.declared.Cell.{Cell}
 use Rattle.layout.specs.declared.Parts.{Parts}
-use Rattle.layout.specs.declared.Found.{Found}
-use Rattle.layout.specs.declared.Found.TheVariants.{At, Nothing}
+use Rattle.std.specs.Prelude.{Option as Left, Some, None}
 use Rattle.layout.proofs.Known.{cells_pass}
 use Rattle.layout.proofs.Laws.{cells_are, cell_there}
-use Rattle.arity.specs.Sort
+use Rattle.arity.specs.declared.Sort.{Sort}
 use Rattle.arity.specs.Arity.{sort_of, children_of}
 use Rattle.arity.proofs.Laws.{Known, content_known}
-use Rattle.structure.specs.Sorts.{expression_sort, sorts, reduced}
+use Rattle.structure.specs.Sorts.{expression_sort, number, sorts, reduced}
 use Rattle.structure.specs.Structure.{place, plan_of, stacked, left, Reduces}
 use Rattle.structure.proofs.Reduce.{sorted, reduce_sorts}
 use Rattle.structure.proofs.Stack.{stacked_length, reduced_length}
@@ -38,14 +37,14 @@ cell_known s e i h = content_known (text s) (Sheet.origins s) (tables_at s) (tab
 -- ---- the reading
 
 -- The cells from i on are still to be read, onto trees whose sorts stand in the array.
-pub record Going (s a : List ℕ) (height i : ℕ) : Type 0 where
+pub record Going (s : List ℕ) (a : List Sort) (height i : ℕ) : Type 0 where
   pub trees : Stack
   pub same : read (text s) i (map (Sheet.cell s) (up_to i (cell_count s - i))) trees ≡ read (text s) 0 (cells_of s) []
   pub stand : sorts trees ≡ stacked a height
   pub few : height ≤ i
   pub within : i ≤ cell_count s
 
-pub going_start : (s a : List ℕ) → Going s a 0 0
+pub going_start : (s : List ℕ) (a : List Sort) → Going s a 0 0
 unfolding cells_of stacked
 going_start s a =
     let e : cell_count s - 0 ≡ cell_count s = omega arith in
@@ -64,7 +63,7 @@ after_sorts t x trees k = go (content_of t x) k.content k.is
     go none c e = let z : ◌≡◌ {A = ℕ} 0 1 = cc in absurd (omega arith)
     go (some c') c e = reduce_sorts x.origin c' trees
 
-module _ {s a : List ℕ} {height i : ℕ} (g : Going s a height i) {p : Parts} (l : Laid s p) where
+module _ {s : List ℕ} {a : List Sort} {height i : ℕ} (g : Going s a height i) {p : Parts} (l : Laid s p) where
   -- The code has read cell i.
   module _ (ok : Sheet.bad_cell s ≡ none) (h : i < p.cells.count) {k : Cell} (holds : IsCell (Sheet.cell_from s (p.cells.at + i * 16)) k) where
     is : as_cell k ≡ Sheet.cell s i
@@ -82,15 +81,15 @@ module _ {s a : List ℕ} {height i : ℕ} (g : Going s a height i) {p : Parts} 
         let e : cell_count s - i ≡ suc (cell_count s - suc i) = omega (arith, cells_are l) in
         subst (λ (x : Sheet.Cell). onward (text s) i rest (after (text s) x g.trees) ≡ read (text s) 0 (cells_of s) []) (sym is) (rw e at g.same)
 
-    module _ {b : List ℕ} {r : Found} (d : Reduces a height k r b) where
+    module _ {b : List Sort} {r : Left ℕ} (d : Reduces a height k r b) where
       left_sorts : sorted (after (text s) (as_cell k) g.trees) ≡ left b r
       left_sorts =
           after_sorts (text s) (as_cell k) g.trees known
-          ∙ ap (λ (st : List ℕ). reduced (sort_of (content_of (text s) (as_cell k))) (children_of (content_of (text s) (as_cell k))) st) g.stand
+          ∙ ap (λ (st : List Sort). reduced (sort_of (content_of (text s) (as_cell k))) (children_of (content_of (text s) (as_cell k))) st) g.stand
           ∙ sym (d.is (text s))
 
       -- Each cell puts one tree on the stack, so there are at most as many as cells read.
-      next_low : {next : ℕ} → r ≡ At next → next ≤ height + 1
+      next_low : {next : ℕ} → r ≡ Some next → next ≤ height + 1
       next_low {next} q =
           omega (
             arith,
@@ -100,7 +99,7 @@ module _ {s a : List ℕ} {height i : ℕ} (g : Going s a height i) {p : Parts} 
             stacked_length b next,
           )
 
-      pub going_on : {next : ℕ} → r ≡ At next → Going s b next (i + 1)
+      pub going_on : {next : ℕ} → r ≡ Some next → Going s b next (i + 1)
       unfolding rest
       going_on {next} q = go (after (text s) (as_cell k) g.trees) cell_read (left_sorts ∙ ap (left b) q)
         where
@@ -115,7 +114,7 @@ module _ {s a : List ℕ} {height i : ℕ} (g : Going s a height i) {p : Parts} 
                 within = omega (arith, cells_are l);
               }
 
-      pub going_lacks : r ≡ Nothing → some i ≡ place (plan_of s)
+      pub going_lacks : r ≡ None → some i ≡ place (plan_of s)
       unfolding plan_of
       going_lacks q = go (after (text s) (as_cell k) g.trees) cell_read (left_sorts ∙ ap (left b) q)
         where
@@ -132,32 +131,32 @@ module _ {s a : List ℕ} {height i : ℕ} (g : Going s a height i) {p : Parts} 
         let e : cell_count s - i ≡ 0 = omega (arith, cells_are l) in
         ap (λ (r : Read). place (one_plan (cell_count s) r)) (rw e at g.same)
 
-    pub ends_one : height ≡ 1 → get_or a 0 0 ≡ Sort.node → none ≡ place (plan_of s)
+    pub ends_one : height ≡ 1 → get_or a 0 Sort.Constant ≡ Sort.Node → none ≡ place (plan_of s)
     unfolding stacked
     ends_one p q = sole g.trees (g.stand ∙ rw (p, q)) ∙ all_read
       where
-        expression_low : (x : Expression) → expression_sort x < 3
+        expression_low : (x : Expression) → number (expression_sort x) < 3
         expression_low (constant og v) = omega arith
         expression_low (column og c) = omega arith
         expression_low (unary og o x) = omega arith
         expression_low (binary og o l r) = omega arith
 
-        sole : (st : Stack) → sorts st ≡ Sort.node ∷ [] → none ≡ place (sole_node (cell_count s) st)
+        sole : (st : Stack) → sorts st ≡ Sort.Node ∷ [] → none ≡ place (sole_node (cell_count s) st)
         sole [] e = let z : ◌≡◌ {A = ℕ} 0 1 = cc in absurd (omega arith)
         sole (node_tree n ∷ []) e = refl
         sole (node_tree n ∷ t ∷ st) e = let z : ◌≡◌ {A = ℕ} 0 1 = cc in absurd (omega arith)
-        sole (expression_tree x ∷ st) e = let z : ◌≡◌ {A = ℕ} (expression_sort x) Sort.node = cc in absurd (omega (arith, expression_low x))
-        sole (label_tree x ∷ st) e = let z : ◌≡◌ {A = ℕ} Sort.label Sort.node = cc in absurd (omega arith)
-        sole (item_tree x ∷ st) e = let z : ◌≡◌ {A = ℕ} Sort.item Sort.node = cc in absurd (omega arith)
-        sole (key_tree x ∷ st) e = let z : ◌≡◌ {A = ℕ} Sort.key Sort.node = cc in absurd (omega arith)
-        sole (target_tree x ∷ st) e = let z : ◌≡◌ {A = ℕ} Sort.target Sort.node = cc in absurd (omega arith)
-        sole (agg_tree x ∷ st) e = let z : ◌≡◌ {A = ℕ} Sort.agg Sort.node = cc in absurd (omega arith)
-        sole (row_tree x ∷ st) e = let z : ◌≡◌ {A = ℕ} Sort.row Sort.node = cc in absurd (omega arith)
+        sole (expression_tree x ∷ st) e = let z : expression_sort x ≡ Sort.Node = cc in absurd (omega (arith, ap number z, expression_low x))
+        sole (label_tree x ∷ st) e = let z : Sort.Label ≡ Sort.Node = cc in absurd (omega (arith, ap number z))
+        sole (item_tree x ∷ st) e = let z : Sort.Item ≡ Sort.Node = cc in absurd (omega (arith, ap number z))
+        sole (key_tree x ∷ st) e = let z : Sort.Key ≡ Sort.Node = cc in absurd (omega (arith, ap number z))
+        sole (target_tree x ∷ st) e = let z : Sort.Target ≡ Sort.Node = cc in absurd (omega (arith, ap number z))
+        sole (agg_tree x ∷ st) e = let z : Sort.Agg ≡ Sort.Node = cc in absurd (omega (arith, ap number z))
+        sole (row_tree x ∷ st) e = let z : Sort.Row ≡ Sort.Node = cc in absurd (omega (arith, ap number z))
 
-    ends_other : (stacked a height ≡ Sort.node ∷ [] → ⊥) → some p.cells.count ≡ place (plan_of s)
+    ends_other : (stacked a height ≡ Sort.Node ∷ [] → ⊥) → some p.cells.count ≡ place (plan_of s)
     ends_other q = ap some (cells_are l) ∙ sole g.trees (λ e. q (sym g.stand ∙ e)) ∙ all_read
       where
-        sole : (st : Stack) → (sorts st ≡ Sort.node ∷ [] → ⊥) → some (cell_count s) ≡ place (sole_node (cell_count s) st)
+        sole : (st : Stack) → (sorts st ≡ Sort.Node ∷ [] → ⊥) → some (cell_count s) ≡ place (sole_node (cell_count s) st)
         sole [] f = refl
         sole (node_tree n ∷ []) f = absurd (f refl)
         sole (node_tree n ∷ t ∷ st) f = refl
@@ -172,6 +171,6 @@ module _ {s a : List ℕ} {height i : ℕ} (g : Going s a height i) {p : Parts} 
     pub ends_many : (height ≡ 1 → ⊥) → some p.cells.count ≡ place (plan_of s)
     ends_many q = ends_other (λ e. q (omega (arith, ap length e, stacked_length a height)))
 
-    pub ends_part : height ≡ 1 → (get_or a 0 0 ≡ Sort.node → ⊥) → some p.cells.count ≡ place (plan_of s)
+    pub ends_part : height ≡ 1 → (get_or a 0 Sort.Constant ≡ Sort.Node → ⊥) → some p.cells.count ≡ place (plan_of s)
     unfolding stacked
-    ends_part o q = ends_other (λ e. let f : get_or a 0 0 ∷ [] ≡ Sort.node ∷ [] = rw o at e in q (cc))
+    ends_part o q = ends_other (λ e. let f : get_or a 0 Sort.Constant ∷ [] ≡ Sort.Node ∷ [] = rw o at e in q (cc))

@@ -10,12 +10,13 @@ use native.Mathlib.Omega.{arith}
 use Rattle.sql.specs.Expression.{Expression, constant, column, unary, binary}
 use Rattle.sheet.specs.Content.{Content, constant_cell, column_cell, unary_cell, binary_cell, label_cell, item_cell, key_cell, target_cell, agg_cell, row_cell, aggregate_cell, filter_cell, hash_join_cell, index_lookup_cell, key_lookup_cell, limit_cell, offset_cell, nested_loop_join_cell, nothing_cell, order_cell, projection_cell, remap_cell, scan_cell, values_cell, bit}
 use Rattle.sheet.specs.Tree.{Tree, expression_tree, label_tree, item_tree, key_tree, target_tree, agg_tree, row_tree, node_tree, Stack, bind, an_expression, a_constant, a_label, an_item, a_key, a_target, an_agg, a_row, a_node, pop, child, children, if_any, reduce}
-use Rattle.arity.specs.Sort
+use Rattle.arity.specs.declared.Sort.{Sort}
+use Rattle.std.specs.Prelude.{Some}
 use Rattle.arity.specs.Arity as Arity
 use Rattle.structure.specs.Sorts.{tree_sort, sorts, serves, if_so, taken, reduced}
 
 -- a stack's sorts, if there is a stack
-abbrev pub sorted : Option Stack → Option (List ℕ)
+abbrev pub sorted : Option Stack → Option (List Sort)
 sorted none = none
 sorted (some st) = some (sorts st)
 
@@ -28,7 +29,7 @@ there (some a) = true
 -- For each of the nine ways to take a tree as a child, that it can be taken so is that its sort serves.
 all_serve : (t : Tree)
     → there (a_constant t) ∷ there (an_expression t) ∷ there (a_label t) ∷ there (an_item t) ∷ there (a_key t) ∷ there (a_target t) ∷ there (an_agg t) ∷ there (a_row t) ∷ there (a_node t) ∷ []
-    ≡ map (serves (tree_sort t)) (1 ∷ 2 ∷ 3 ∷ 4 ∷ 5 ∷ 6 ∷ 7 ∷ 8 ∷ 9 ∷ [])
+    ≡ map (serves (tree_sort t)) (Sort.Constant ∷ Sort.Expression ∷ Sort.Label ∷ Sort.Item ∷ Sort.Key ∷ Sort.Target ∷ Sort.Agg ∷ Sort.Row ∷ Sort.Node ∷ [])
 all_serve (expression_tree (constant og v)) = refl
 all_serve (expression_tree (column og i)) = refl
 all_serve (expression_tree (unary og o x)) = refl
@@ -42,63 +43,63 @@ all_serve (row_tree x) = refl
 all_serve (node_tree x) = refl
 
 -- A way to take a tree as a child takes those whose sort serves.
-record Takes {A : Type 0} (as_child : Tree → Option A) (want : ℕ) : Type 0 where
+record Takes {A : Type 0} (as_child : Tree → Option A) (want : Sort) : Type 0 where
   is : (t : Tree) → there (as_child t) ≡ serves (tree_sort t) want
 
 nth : (n : ℕ) → List Bool → Bool
 nth n l = get_or l n true
 
-constants : Takes a_constant Sort.constant
+constants : Takes a_constant Sort.Constant
 unfolding nth
 constants = record { is = λ t. ap (nth 0) (all_serve t) }
 
-expressions : Takes an_expression Sort.expression
+expressions : Takes an_expression Sort.Expression
 unfolding nth
 expressions = record { is = λ t. ap (nth 1) (all_serve t) }
 
-labels : Takes a_label Sort.label
+labels : Takes a_label Sort.Label
 unfolding nth
 labels = record { is = λ t. ap (nth 2) (all_serve t) }
 
-items : Takes an_item Sort.item
+items : Takes an_item Sort.Item
 unfolding nth
 items = record { is = λ t. ap (nth 3) (all_serve t) }
 
-keys : Takes a_key Sort.key
+keys : Takes a_key Sort.Key
 unfolding nth
 keys = record { is = λ t. ap (nth 4) (all_serve t) }
 
-targets : Takes a_target Sort.target
+targets : Takes a_target Sort.Target
 unfolding nth
 targets = record { is = λ t. ap (nth 5) (all_serve t) }
 
-aggs : Takes an_agg Sort.agg
+aggs : Takes an_agg Sort.Agg
 unfolding nth
 aggs = record { is = λ t. ap (nth 6) (all_serve t) }
 
-rows : Takes a_row Sort.row
+rows : Takes a_row Sort.Row
 unfolding nth
 rows = record { is = λ t. ap (nth 7) (all_serve t) }
 
-nodes : Takes a_node Sort.node
+nodes : Takes a_node Sort.Node
 unfolding nth
 nodes = record { is = λ t. ap (nth 8) (all_serve t) }
 
 -- ---- taking children off
 
 -- What is done with a child, or children, leaves the sorts that g says.
-record Leaves {A : Type 0} (f : A → Stack → Option Stack) (g : List ℕ → Option (List ℕ)) : Type 0 where
+record Leaves {A : Type 0} (f : A → Stack → Option Stack) (g : List Sort → Option (List Sort)) : Type 0 where
   is : (a : A) (rest : Stack) → sorted (f a rest) ≡ g (sorts rest)
 
 -- A child is there, as it serves, and what is done with it leaves the same; or it isn't there, and nothing is left.
-either : {A : Type 0} (o : Option A) (b : Bool) → there o ≡ b → (f : A → Option Stack) (rest : Option (List ℕ)) (g : List ℕ → Option (List ℕ))
+either : {A : Type 0} (o : Option A) (b : Bool) → there o ≡ b → (f : A → Option Stack) (rest : Option (List Sort)) (g : List Sort → Option (List Sort))
     → ((a : A) → sorted (f a) ≡ bind rest g) → sorted (bind o f) ≡ bind (if_so b rest) g
 either none true e f rest g h = let z : ◌≡◌ {A = ℕ} 0 1 = cc in absurd (omega arith)
 either none false e f rest g h = refl
 either (some a) true e f rest g h = h a
 either (some a) false e f rest g h = let z : ◌≡◌ {A = ℕ} 0 1 = cc in absurd (omega arith)
 
-one_by_one : (want : ℕ) (st : List ℕ) (g : List ℕ → Option (List ℕ)) → bind (taken want 1 st) (λ below. bind (taken want 1 below) g) ≡ bind (taken want 2 st) g
+one_by_one : (want : Sort) (st : List Sort) (g : List Sort → Option (List Sort)) → bind (taken want 1 st) (λ below. bind (taken want 1 below) g) ≡ bind (taken want 2 st) g
 unfolding taken
 one_by_one want [] g = refl
 one_by_one want (have ∷ st) g = go (serves have want)
@@ -107,8 +108,8 @@ one_by_one want (have ∷ st) g = go (serves have want)
     go true = refl
     go false = refl
 
-module _ {A : Type 0} {as_child : Tree → Option A} {want : ℕ} (takes : Takes as_child want) where
-  child_leaves : {f : A → Stack → Option Stack} {g : List ℕ → Option (List ℕ)} → Leaves f g → (st : Stack)
+module _ {A : Type 0} {as_child : Tree → Option A} {want : Sort} (takes : Takes as_child want) where
+  child_leaves : {f : A → Stack → Option Stack} {g : List Sort → Option (List Sort)} → Leaves f g → (st : Stack)
       → sorted (child as_child st f) ≡ bind (taken want 1 (sorts st)) g
   unfolding taken
   child_leaves h [] = refl
@@ -116,11 +117,11 @@ module _ {A : Type 0} {as_child : Tree → Option A} {want : ℕ} (takes : Takes
       either (as_child t) (serves (tree_sort t) want) (takes.is t) (λ a. f a st) (some (sorts st)) g (λ a. h.is a st)
 
   -- two children of a sort, one after the other
-  two_leave : {f : A → A → Stack → Option Stack} {g : List ℕ → Option (List ℕ)} → ((a : A) → Leaves (f a) g) → (st : Stack)
+  two_leave : {f : A → A → Stack → Option Stack} {g : List Sort → Option (List Sort)} → ((a : A) → Leaves (f a) g) → (st : Stack)
       → sorted (child as_child st (λ r below. child as_child below (f r))) ≡ bind (taken want 2 (sorts st)) g
   two_leave {g} h st = child_leaves (record { is = λ a below. child_leaves (h a) below }) st ∙ one_by_one want (sorts st) g
 
-  module _ {f : List A → Stack → Option Stack} {g : List ℕ → Option (List ℕ)} (h : Leaves f g) where
+  module _ {f : List A → Stack → Option Stack} {g : List Sort → Option (List Sort)} (h : Leaves f g) where
     onward : Option (List A × Stack) → Option Stack
     onward o = bind o (λ p. f p.0 p.1)
 
@@ -143,8 +144,8 @@ module _ {A : Type 0} {as_child : Tree → Option A} {want : ℕ} (takes : Takes
     unfolding onward
     children_leaves n st = pop_leaves n [] st
 
-if_any_leaves : {f : Option Expression → Stack → Option Stack} {g : List ℕ → Option (List ℕ)} → Leaves f g → (b : Bool) (st : Stack)
-    → sorted (if_any b st f) ≡ bind (taken Sort.expression (bit b) (sorts st)) g
+if_any_leaves : {f : Option Expression → Stack → Option Stack} {g : List Sort → Option (List Sort)} → Leaves f g → (b : Bool) (st : Stack)
+    → sorted (if_any b st f) ≡ bind (taken Sort.Expression (bit b) (sorts st)) g
 unfolding taken
 if_any_leaves h false st = h.is none st
 if_any_leaves h true st = child_leaves expressions (record { is = λ e rest. h.is (some e) rest }) st
@@ -152,7 +153,7 @@ if_any_leaves h true st = child_leaves expressions (record { is = λ e rest. h.i
 -- ---- the law
 
 -- A cell on a stack of trees, and on the stack of their sorts.
-pub reduce_sorts : (og : ℕ) (k : Content) (st : Stack) → sorted (reduce og k st) ≡ reduced (Arity.sort k) (Arity.children k) (sorts st)
+pub reduce_sorts : (og : ℕ) (k : Content) (st : Stack) → sorted (reduce og k st) ≡ reduced (Some (Arity.sort k)) (Arity.children k) (sorts st)
 unfolding reduce taken
 reduce_sorts og (constant_cell v) st = refl
 reduce_sorts og (column_cell i) st = refl

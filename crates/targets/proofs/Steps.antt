@@ -9,7 +9,7 @@ use mathlib.Core.Option.{Option, none, some}
 use lib.Dec.{leb, ltb, eqb}
 use lib.ListN.{length, get_or, set, replicate, length-set, get_or-replicate}
 use lib.Seq.{get_or-set_same, get_or-set_other}
-use borrow.Author.Tests.{le-leb, lt-leb, lt-ltb, le-ltb, ne_eqb, eqb-true, eqb-false}
+use borrow.Author.Tests.{le-leb, lt-leb, lt-ltb, le-ltb, ltb-true, ltb-false, eqb-true, eqb-false}
 use Rattle.sql.specs.Expression.{Marked}
 use Rattle.sql.specs.Plan.{Over, filter, other, limit, offset, order, projection, remap, aggregate, Node, leaf, over, join}
 use Rattle.sheet.specs.Parts.{tables_at, table_count, cell_count}
@@ -19,25 +19,35 @@ use Rattle.sheet.specs.Scope.{member}
 use Rattle.sheet.specs.Check.{text, cells_of}
 use Rattle.sheet_laws.specs.Fits.{All, Each, EachOver, ExactCell}
 use Rattle.sheet_laws.specs.Plan.{Bytes}
-use Rattle.layout.specs.declared.Found.{Found}
+use Rattle.std.specs.Prelude.{Option as Found, Some, None, is_some}
 use Rattle.layout.specs.Layout.{found}
 use Rattle.node_scope.specs.Own.{is_node, segment}
 use Rattle.node_scope.proofs.Steps.{segment_first, segment_all, segment_end}
 use Rattle.scope.proofs.Reading.{indexes, stands}
-use Rattle.targets.specs.Targets.{target_number, Untargeted, Repeats}
+use Rattle.targets.specs.Targets.{numbered, target_number, Untargeted, Repeats}
 use Rattle.targets.proofs.Walk.{walk, Below, BelowOver, BelowNode, walked}
 
 -- ---- one cell
 
-module _ (k : Cell) where
-  pub number_is : k.tag ≡ 43 → k.flag ≡ 1 → k.a ≡ target_number k
-  number_is e f = rw (e, f) refl
+module _ (number : ℕ) where
+  -- what the code's answer says of the number
+  pub has_number : {n : ℕ} → Some n ≡ numbered number → (n ≡ number) × (number < 256)
+  has_number {n} e = go (ltb number 256) refl e
+    where
+      go : (b : Bool) → ltb number 256 ≡ b → Some n ≡ cond b (Some number) None → (n ≡ number) × (number < 256)
+      go true p q = (cc, ltb-true number 256 p)
+      go false p q = let z : ◌≡◌ {A = ℕ} 0 1 = cc in absurd (omega arith)
 
-  pub number_none : k.tag ≡ 43 → (k.flag ≡ 1 → ⊥) → 256 ≡ target_number k
-  number_none e f = rw (e, ne_eqb _ _ f) refl
+  pub has_none : None ≡ numbered number → 256 ≤ number
+  has_none e = go (ltb number 256) refl e
+    where
+      go : (b : Bool) → ltb number 256 ≡ b → None ≡ cond b (Some number) None → 256 ≤ number
+      go true p q = let z : ◌≡◌ {A = ℕ} 0 1 = cc in absurd (omega arith)
+      go false p q = ltb-false number 256 p
 
-  pub no_target : (k.tag ≡ 43 → ⊥) → 256 ≡ target_number k
-  no_target e = rw (ne_eqb _ _ e) refl
+  pub not_some : {r : Found ℕ} → r ≡ numbered number → false ≡ is_some r → 256 ≤ number
+  not_some {r = None} e f = has_none e
+  not_some {r = Some n} e f = let z : ◌≡◌ {A = ℕ} 0 1 = cc in absurd (omega arith)
 
 -- ---- the walk
 
@@ -196,7 +206,7 @@ module _ (text : List ℕ) (bytes tables : ℕ) where
   below_node (join og outer j l r) e = (below_node l e.0, below_node r e.1.0)
 
 -- An answer of the walk over a sheet's cells is the one asked for.
-pub repeats : (s : List ℕ) (r : Found) → Bytes s → found r ≡ walk 0 [] (cells_of s) → Repeats s r
+pub repeats : (s : List ℕ) (r : Found ℕ) → Bytes s → found r ≡ walk 0 [] (cells_of s) → Repeats s r
 repeats s r b e n ok reads =
     let d = stands s b n ok reads in
     e

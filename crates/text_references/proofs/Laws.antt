@@ -1,26 +1,27 @@
 -- Which tags refer to text, and the references of records and cells one after the other.
 -- Assumes nothing.
-use Prim.Native.Nat.{ℕ, zero, suc, ◌+◌, ◌-◌, ◌*◌, ◌≤◌, ◌<◌}
+use Prim.Native.Nat.{ℕ, zero, suc, ◌+◌, ◌*◌, ◌≤◌, ◌<◌}
 use native.Mathlib.Omega.{arith}
 use native.Mathlib.Numerals.{add-one}
-use borrow.Author.Tests.{ne_eqb, eq-eqb, ltb-true, ltb-false}
+use borrow.Author.Tests.{eqb-true, eqb-false, ne_eqb, ltb-true, ltb-false}
 use mathlib.Core.Path.{◌≡◌, refl, sym, ap, ap₂, ◌∙◌, subst}
 use mathlib.Core.Logic.{◌≢◌}
 use mathlib.Core.Bool.{Bool, true, false, cond}
 use mathlib.Core.List.{List, [], ◌∷◌, ◌++◌, map, append_assoc, append-nil}
 use mathlib.Core.Option.{Option, none, some}
 use lib.Dec.{leb, ltb, eqb, leb-zero}
-use lib.ListN.{length, take, drop, get_or, set, length-append, get_or-map, get_or-eq_default}
-use lib.Seq.{take-suc-set, take-set-le, take_all}
+use lib.ListN.{length, take, get_or, set, length-append, get_or-map, get_or-eq_default}
+use lib.Seq.{take-suc-set}
 use Rattle.sql.specs.Plan.{up_to}
 use Rattle.sheet.specs.Bytes.{byte, word}
 use Rattle.sheet.specs.Parts.{tables_at, columns_at, cells_at, table_count, column_count, cell_count}
 use Rattle.sheet.specs.Cell.{Cell, cell_from, Field, unused, any, bit, table, text, small, Tag, unknown, not_carried, carried, tags, tag_of}
 use Rattle.compact.specs.Slots.{Slot, number, reference, references, field_slot, field_slots, record_slots, cell_slots, in_each, slots}
-use Rattle.layout.specs.Layout.{Laid, IsCell, as_cell, parts_of}
+use Rattle.layout.specs.Layout.{Laid, IsCell}
 use Rattle.layout.specs.declared.Parts.{Parts}
 use Rattle.layout.specs.declared.Cell as Code
-use Rattle.text_references.specs.Asks.{asks, asks_a, asks_b, asks_c, if_refers, Listed}
+use Rattle.text_references.specs.Asks.{asks, asks_a, asks_b, asks_c, if_refers, slot_of, Fields, Listed}
+use Rattle.text_references.specs.declared.Slot as Field
 
 -- ---- tags
 
@@ -120,6 +121,29 @@ b_none t p q r u v =
     if_not t 40 (some 2) (cond (eqb t 41) (some 2) (cond (eqb t 53) (some 1) (cond (eqb t 54) (some 1) (cond (eqb t 62) (some 2) none)))) p
     ∙ if_not t 41 (some 2) (cond (eqb t 53) (some 1) (cond (eqb t 54) (some 1) (cond (eqb t 62) (some 2) none))) q
     ∙ if_not t 53 (some 1) (cond (eqb t 54) (some 1) (cond (eqb t 62) (some 2) none)) r ∙ if_not t 54 (some 1) (cond (eqb t 62) (some 2) none) u ∙ if_not t 62 (some 2) none v
+
+-- a Label or an Item
+pub a_label : (t : ℕ) → 40 ≤ t → t < 42 → a_by_number t ≡ some 1
+a_label t h k = go (eqb t 40) refl
+  where
+    go : (b : Bool) → eqb t 40 ≡ b → a_by_number t ≡ some 1
+    go true e = ap a_by_number (eqb-true t 40 e)
+    go false e = let q : t ≡ 41 = omega (arith, eqb-false t 40 e) in ap a_by_number q
+
+pub b_label : (t : ℕ) → 40 ≤ t → t < 42 → b_by_number t ≡ some 2
+b_label t h k = go (eqb t 40) refl
+  where
+    go : (b : Bool) → eqb t 40 ≡ b → b_by_number t ≡ some 2
+    go true e = ap b_by_number (eqb-true t 40 e)
+    go false e = let q : t ≡ 41 = omega (arith, eqb-false t 40 e) in ap b_by_number q
+
+-- a lookup
+pub b_lookup : (t : ℕ) → 53 ≤ t → t < 55 → b_by_number t ≡ some 1
+b_lookup t h k = go (eqb t 53) refl
+  where
+    go : (b : Bool) → eqb t 53 ≡ b → b_by_number t ≡ some 1
+    go true e = ap b_by_number (eqb-true t 53 e)
+    go false e = let q : t ≡ 54 = omega (arith, eqb-false t 53 e) in ap b_by_number q
 
 a_is : (t : ℕ) → a_threshold (tag_of t) ≡ a_by_number t
 a_is = by_number a_threshold a_by_number refl a_table (λ t h. a_none t (omega arith) (omega arith) (omega arith))
@@ -224,20 +248,26 @@ in_each_join g at at' (suc m) n e =
 pub listed_record : (s refs : List ℕ) (p j v : ℕ) → v ≡ word s p → j + 1 ≤ length refs → Listed (record_slots s p) refs j 1 (set refs j v) (j + 1)
 listed_record s refs p j v e h = listed_as (ap (λ (x : ℕ). x ∷ []) e) (omega arith) (pushed refs j v h)
 
-pub listed_cell : (s : List ℕ) (p : ℕ) (k : Code.Cell) {refs refs₁ refs₂ : List ℕ} {j i r : ℕ} {a b : Bool} → IsCell (cell_from s p) k
-    → a ≡ asks_a (tag_of k.tag) k.flag → b ≡ asks_b (tag_of k.tag) k.flag
-    → Listed (if_refers a k.a) refs j 1 refs₁ i → Listed (if_refers b k.b) refs₁ i 1 refs₂ r → Listed (cell_slots s p) refs j 2 refs₂ r
-listed_cell s p k {a = a} {b = b} c ea eb x y =
+-- What fields a and b of a cell are, by its bytes.
+pub fields_from : (s : List ℕ) (p : ℕ) (k : Code.Cell) {a b : Field.Slot} → IsCell (cell_from s p) k → Fields k a b
+    → (slot_of a ∷ [] ≡ if_refers (asks_a (tag_of (byte s p)) (byte s (p + 1))) (word s (p + 4))) × (slot_of b ∷ [] ≡ if_refers (asks_b (tag_of (byte s p)) (byte s (p + 1))) (word s (p + 8)))
+fields_from s p k c f =
     let is = c.is in
     let tag : k.tag ≡ byte s p = ap (λ (m : Cell). m.tag) is in
     let flag : k.flag ≡ byte s (p + 1) = ap (λ (m : Cell). m.flag) is in
     let va : k.a ≡ word s (p + 4) = ap (λ (m : Cell). m.a) is in
-    let vb : k.b ≡ word s (p + 8) = ap (λ (m : Cell). m.b) is in
-    let fa : if_refers a k.a ≡ if_refers (asks_a (tag_of (byte s p)) (byte s (p + 1))) (word s (p + 4)) = ap₂ if_refers (ea ∙ ap₂ (λ (t f : ℕ). asks_a (tag_of t) f) tag flag) va in
-    let fb : if_refers b k.b ≡ if_refers (asks_b (tag_of (byte s p)) (byte s (p + 1))) (word s (p + 8)) = ap₂ if_refers (eb ∙ ap₂ (λ (t f : ℕ). asks_b (tag_of t) f) tag flag) vb in
+    let vb : k.b ≡ word s (p + 8) = ap (λ (m : Cell). m.b) is in (
+      f.a_is ∙ ap₂ if_refers (ap₂ (λ (t g : ℕ). asks_a (tag_of t) g) tag flag) va,
+      f.b_is ∙ ap₂ if_refers (ap₂ (λ (t g : ℕ). asks_b (tag_of t) g) tag flag) vb,
+    )
+
+pub listed_cell : (s : List ℕ) (p : ℕ) (k : Code.Cell) {refs refs₁ refs₂ : List ℕ} {j i r : ℕ} {a b : Field.Slot} → IsCell (cell_from s p) k → Fields k a b
+    → Listed (slot_of a ∷ []) refs j 1 refs₁ i → Listed (slot_of b ∷ []) refs₁ i 1 refs₂ r → Listed (cell_slots s p) refs j 2 refs₂ r
+listed_cell s p k {a = a} {b = b} c f x y =
+    let (fa, fb) = fields_from s p k c f in
     let first = if_refers (asks_a (tag_of (byte s p)) (byte s (p + 1))) (word s (p + 4)) in
     let second = if_refers (asks_b (tag_of (byte s p)) (byte s (p + 1))) (word s (p + 8)) in
-    let e : references (if_refers a k.a ++ if_refers b k.b) ≡ references (cell_slots s p) =
+    let e : references ((slot_of a ∷ []) ++ (slot_of b ∷ [])) ≡ references (cell_slots s p) =
     ap₂ (λ (u v : List Slot). references (u ++ v)) fa fb ∙ references_append first second ∙ ap (λ (l : List ℕ). references first ++ l) (sym (append-nil (references second)) ∙ sym (references_append second (number (word s (p + 12)) ∷ [])))
     ∙ sym (references_append first (second ++ (number (word s (p + 12)) ∷ []))) ∙ sym (ap references (cell_slots_are s p)) in
     listed_as e (omega arith) (listed_then x y)

@@ -1,6 +1,9 @@
 -- Which fields of a cell are references, by its tag and its flag: what the code asks, set beside the words of crate `compact`.
-use Rattle.std.specs.Prelude.{ℕ, ◌+◌, ◌≤◌, ◌≡◌, Bool, true, false, cond, List, [], ◌∷◌, ◌++◌, leb, length, take}
-use Rattle.sheet.specs.Cell.{Field, unused, any, bit, table, text, small, Tag, unknown, not_carried, carried}
+use Rattle.std.specs.Prelude.{ℕ, ◌+◌, ◌≤◌, ◌≡◌, Bool, false, cond, List, [], ◌∷◌, ◌++◌, leb, length, take}
+use Rattle.sheet.specs.Cell.{Field, unused, any, bit, table, text, small, Tag, unknown, not_carried, carried, tag_of}
+use Rattle.layout.specs.declared.Cell.{Cell}
+use Rattle.text_references.specs.declared.Slot as Code
+use Rattle.text_references.specs.declared.Slot.TheVariants as Variants
 use Rattle.compact.specs.Slots.{Slot, number, reference, references}
 
 -- a field holds a reference
@@ -37,3 +40,13 @@ pub record Listed (xs : List Slot) (refs : List ℕ) (from most : ℕ) (refs' : 
 -- the word v of a field, a reference or not
 abbrev pub if_refers : Bool → ℕ → List Slot
 if_refers refers v = cond refers (reference v) (number v) ∷ []
+
+-- a field's word as the code has it
+abbrev pub slot_of : Code.Slot → Slot
+slot_of (Variants.Number v) = number v
+slot_of (Variants.Reference r) = reference r
+
+-- Fields a and b of a cell, by what its tag and its flag ask.
+pub record Fields (k : Cell) (a b : Code.Slot) : Type 0 where
+  pub a_is : slot_of a ∷ [] ≡ if_refers (asks_a (tag_of k.tag) k.flag) k.a
+  pub b_is : slot_of b ∷ [] ≡ if_refers (asks_b (tag_of k.tag) k.flag) k.b

@@ -1,11 +1,11 @@
 // The text references of a sheet, in order: the names of tables and columns, then those in cells.
 #![tactic(auto)]
 
-ghost use Rattle.std.specs.Prelude.{◌≡◌, ◌+◌, ◌*◌, ◌≤◌, length};
+ghost use Rattle.std.specs.Prelude.{◌≡◌, [], ◌∷◌, ◌+◌, ◌*◌, ◌≤◌, length};
 ghost use Rattle.sheet.specs.Cell.{tag_of};
 ghost use Rattle.compact.specs.Slots.{record_slots, cell_slots, in_each, slots};
 ghost use Rattle.layout.specs.Layout.{Whole};
-ghost use Rattle.text_references.specs.Asks.{asks_a, asks_b, if_refers, Listed};
+ghost use Rattle.text_references.specs.Asks.{asks_a, asks_b, if_refers, slot_of, Fields, Listed};
 
 // The most references that a sheet has: a name for each of 16 tables and 256 columns, and two for each of 2,048 cells.
 pub const MOST: usize = 4368;
@@ -14,38 +14,50 @@ pub const MOST: usize = 4368;
 pub fn a_refers(tag: u32, flag: usize) -> bool
     ensures { result ≡ asks_a (tag_of tag) flag }
 {
-    if tag == tags::STRING {
-        return true;
+    match tag {
+        tags::STRING => true,
+        tags::LABEL | tags::ITEM => 1 <= flag,
+        _ => false,
     }
-    if tag == tags::LABEL {
-        return 1 <= flag;
-    }
-    if tag == tags::ITEM {
-        return 1 <= flag;
-    }
-    false
 }
 
 // Field b of a cell is a reference: the second text of a Label or an Item, and the alias of a lookup or a Scan.
 pub fn b_refers(tag: u32, flag: usize) -> bool
     ensures { result ≡ asks_b (tag_of tag) flag }
 {
-    if tag == tags::LABEL {
-        return 2 <= flag;
+    match tag {
+        tags::LABEL | tags::ITEM | tags::SCAN => 2 <= flag,
+        tags::INDEX_LOOKUP | tags::KEY_LOOKUP => 1 <= flag,
+        _ => false,
     }
-    if tag == tags::ITEM {
-        return 2 <= flag;
+}
+
+// A field's word: a number, or a reference.
+#[derive(Clone, Copy)]
+pub enum Slot {
+    Number(usize),
+    Reference(usize),
+}
+
+// Fields a and b of a cell.
+pub fn fields(k: layout::Cell) -> (Slot, Slot)
+    ensures { Fields k result.0 result.1 }
+{
+    (
+        field(a_refers(k.tag, k.flag), k.a),
+        field(b_refers(k.tag, k.flag), k.b),
+    )
+}
+
+// The word v of a field, a reference or not.
+fn field(refers: bool, v: usize) -> Slot
+    ensures { slot_of result ∷ [] ≡ if_refers refers v }
+{
+    if refers {
+        Slot::Reference(v)
+    } else {
+        Slot::Number(v)
     }
-    if tag == tags::INDEX_LOOKUP {
-        return 1 <= flag;
-    }
-    if tag == tags::KEY_LOOKUP {
-        return 1 <= flag;
-    }
-    if tag == tags::SCAN {
-        return 2 <= flag;
-    }
-    false
 }
 
 // The names of n records, the first at byte `at`.
@@ -53,24 +65,24 @@ fn list_records(s: &[u8], at: usize, n: usize, refs: &mut [usize]) -> usize
     requires { (at + n * 16 ≤ length s.now) × (n ≤ length refs.old) }
     ensures { Listed (in_each (record_slots s.now) at n) refs.old 0 n refs.new result }
 {
-    let mut i: usize = 0;
-    while i < n {
+    for i in 0..n {
         refs[i] = layout::word_at(s, at + i * 16);
-        i += 1;
     }
-    i
+    n
 }
 
 // One more reference, if it is one.
-fn push(refs: &mut [usize], j: usize, refers: bool, v: usize) -> usize
+fn push(refs: &mut [usize], j: usize, slot: Slot) -> usize
     requires { j + 1 ≤ length refs.old }
-    ensures { Listed (if_refers refers v) refs.old j 1 refs.new result }
+    ensures { Listed (slot_of slot ∷ []) refs.old j 1 refs.new result }
 {
-    if refers {
-        refs[j] = v;
-        return j + 1;
+    match slot {
+        Slot::Number(_) => j,
+        Slot::Reference(r) => {
+            refs[j] = r;
+            j + 1
+        }
     }
-    j
 }
 
 // Those of the cell that starts at byte p, behind the first j.
@@ -78,11 +90,9 @@ fn list_cell(s: &[u8], p: usize, refs: &mut [usize], j: usize) -> usize
     requires { (p + 16 ≤ length s.now) × (j + 2 ≤ length refs.old) }
     ensures { Listed (cell_slots s.now p) refs.old j 2 refs.new result }
 {
-    let k = layout::cell_from(s, p);
-    let a = a_refers(k.tag, k.flag);
-    let b = b_refers(k.tag, k.flag);
-    let i = push(refs, j, a, k.a);
-    push(refs, i, b, k.b)
+    let (a, b) = fields(layout::cell_from(s, p));
+    let i = push(refs, j, a);
+    push(refs, i, b)
 }
 
 // Those of n cells, the first at byte `at`, behind the first `from`.
@@ -91,10 +101,8 @@ fn list_cells(s: &[u8], at: usize, n: usize, refs: &mut [usize], from: usize) ->
     ensures { Listed (in_each (cell_slots s.now) at n) refs.old from (n * 2) refs.new result }
 {
     let mut j = from;
-    let mut i: usize = 0;
-    while i < n {
+    for i in 0..n {
         j = list_cell(s, at + i * 16, refs, j);
-        i += 1;
     }
     j
 }

@@ -1,50 +1,26 @@
--- Laws of an Integer's 64 bits.
-use Prim.Native.Nat.{ℕ, zero, suc, ◌+◌, ◌-◌, ◌<◌, ◌≤◌}
-use mathlib.Core.Path.{◌≡◌, refl, sym, ap, ◌∙◌}
-use mathlib.Core.Bool.{true, false, cond}
+-- The library's casts between an Integer and its 64 bits are those of the definitions.
+use Prim.Native.Nat.{ℕ, suc, ◌-◌}
+use mathlib.Core.Path.{◌≡◌, refl, ap}
+use mathlib.Core.Bool.{Bool, true, false, cond}
 use native.Mathlib.Omega.{arith}
-use lib.Dec.{T}
-use lib.IntN.{ℤ, pos, negsuc, nat_abs, ◌-ℤ◌}
-use lib.Signed.{mag, le_z, non_neg}
+use lib.Dec.{ltb}
+use lib.IntN.{ℤ, pos, negsuc}
 use mir.Syntax.{w64}
-use mir.Val.{Fits, SFits, to_z}
-use mir.ValLaws.{to_z_pos}
-use borrow.Author.Tests.{lt-ltb, le-ltb, leb-false}
+use mir.Val.{of_z, to_z, sel}
 use Rattle.value.specs.Meaning.{integer_bits, integer_of_bits}
-use Rattle.value.proofs.Laws.{false≢true}
 
--- ---- an Integer that is not negative
+complement : (n : ℕ) → 18446744073709551616 - suc n ≡ 18446744073709551615 - n
+complement n = omega arith
 
-pub not_negative : (i : ℤ) → SFits w64 i → le_z (pos 0) i ≡ true → T (non_neg i) × Fits w64 (nat_abs i)
-not_negative (pos n) f h = let l : n < 9223372036854775808 = f.sfits in (tt, record { fits = omega arith })
-not_negative (negsuc n) f h = absurd (false≢true h)
-
-pub itself : (i : ℤ) → le_z (pos 0) i ≡ true → nat_abs i ≡ integer_bits i
+pub two_complement : (i : ℤ) → of_z w64 i ≡ integer_bits i
 unfolding integer_bits
-itself (pos n) h = refl
-itself (negsuc n) h = absurd (false≢true h)
+two_complement (pos n) = refl
+two_complement (negsuc n) = complement n
 
--- ---- a negative one, −(n + 1), is met as n = −1 − i
-
-pub turned : (i : ℤ) → le_z (pos 0) i ≡ false → negsuc 0 -ℤ i ≡ pos (mag i)
-turned (pos n) h = let l = leb-false 0 n h in absurd (omega arith)
-turned (negsuc n) h = ap (λ b. cond b (negsuc (1 - suc (suc n))) (pos (suc n - 1))) (le-ltb (suc n) 1 (omega arith)) ∙ ap pos (let e : suc n - 1 ≡ n = omega arith in e)
-
-pub complement : (i : ℤ) → le_z (pos 0) i ≡ false → 18446744073709551615 - mag i ≡ integer_bits i
-unfolding integer_bits
-complement (pos n) h = let l = leb-false 0 n h in absurd (omega arith)
-complement (negsuc n) h = refl
-
--- ---- back
-
-pub turned_back : (n : ℕ) → negsuc 0 -ℤ pos n ≡ negsuc n
-turned_back zero = refl
-turned_back (suc n) = ap (λ m. negsuc (suc m)) (let e : 0 + n ≡ n = omega arith in e)
-
-pub low : (bits : ℕ) → bits < 9223372036854775808 → to_z w64 bits ≡ integer_of_bits bits
+pub signed : (n : ℕ) → to_z w64 n ≡ integer_of_bits n
 unfolding integer_of_bits
-low bits h = to_z_pos w64 bits h ∙ sym (ap (λ b. cond b (pos bits) (negsuc (18446744073709551615 - bits))) (lt-ltb bits 9223372036854775808 h))
-
-pub high : (bits : ℕ) → 9223372036854775808 ≤ bits → negsuc (18446744073709551615 - bits) ≡ integer_of_bits bits
-unfolding integer_of_bits
-high bits h = sym (ap (λ b. cond b (pos bits) (negsuc (18446744073709551615 - bits))) (le-ltb bits 9223372036854775808 h))
+signed n = by_sign (ltb n 9223372036854775808)
+  where
+    by_sign : (b : Bool) → sel b (pos n) (negsuc (18446744073709551616 - suc n)) ≡ cond b (pos n) (negsuc (18446744073709551615 - n))
+    by_sign true = refl
+    by_sign false = ap negsuc (complement n)

@@ -2,7 +2,7 @@
 use Rattle.std.specs.Prelude.{ℕ, ◌+◌, ◌-◌, ◌^◌, ◌≡◌, refl, true, false, List, [], ◌∷◌, map, ℤ, pos, negsuc, replicate}
 use Rattle.std.specs.Float.Ieee as Ieee
 use Rattle.value.specs.Value.{Value, integer, float, string, the_nan, datum, null, boolean, Result, ok, err, overflow, division_by_zero, mismatch}
-use Rattle.value.specs.Logic.{logical_and, logical_or}
+use Rattle.value.specs.Logic.{logical_and}
 use Rattle.value.specs.Comparison.{Comparison, Null, Found, Less, Equal, Greater, Unordered, NotComparable, compare_integers, compare_floats, compare_bytes, compare, equal, greater_than, less_than}
 use Rattle.ieee754.specs.Ieee754.{units, root_bits, read}
 use Rattle.value.specs.Arithmetic.{add_integers, subtract_integers, multiply_integers, divide_integers, checked_add, checked_sub, checked_mul, checked_div, negate, square_root, checked}

@@ -1,5 +1,5 @@
 -- expression.rs, evaluate: And, Or and Not. The truth tables are those of ISO/IEC 9075-2 (boolean value expression); Tables.antt states them whole.
-use Rattle.value.specs.Value.{Truth, False, Unknown, True, Datum, Value, truth, datum, Result, ok, err, mismatch}
+use Rattle.value.specs.Value.{Truth, False, Unknown, True, Value, truth, datum, Result, ok, err, mismatch}
 
 abbrev pub not : Truth → Truth
 not False = True

@@ -1,16 +1,12 @@
 -- What the code's values and answers stand for. Contracts say that what a outcome_of stands for equals the definition at what the arguments stand for.
-use Rattle.std.specs.Prelude.{ℕ, ◌-◌, ◌/◌, ◌%◌, List, Bool, true, false, cond, ltb, ℤ, pos, negsuc, take, drop}
+use Rattle.std.specs.Prelude.{ℕ, ◌-◌, ◌/◌, ◌%◌, List, Bool, true, false, cond, ltb, ℤ, pos, negsuc, take, drop, Result, Ok, Err}
 use Rattle.std.specs.Float.Ieee as Ieee
 use Rattle.std.specs.Float.{binary64}
 use Rattle.value.specs.Value as Defined
 use Rattle.value.specs.Value.{Truth, integer, float, string, datum, null, boolean, ok, err, overflow, division_by_zero, mismatch}
 use Rattle.value.specs.Logic.{and, or}
 use Rattle.value.specs.declared.Value.{Value}
-use Rattle.value.specs.declared.Value.TheVariants as Value
 use Rattle.value.specs.declared.Error.{Error}
-use Rattle.value.specs.declared.Error.TheVariants as Error
-use Rattle.value.specs.declared.Result.{Result}
-use Rattle.value.specs.declared.Result.TheVariants as Result
 
 -- ---- text references: offset + 65,536 × length
 
@@ -39,9 +35,9 @@ error Error.Overflow = overflow
 error Error.DivisionByZero = division_by_zero
 error Error.Mismatch = mismatch
 
-abbrev pub outcome_of : List ℕ → Result → Defined.Result Defined.Value
-outcome_of text (Result.Ok v) = ok (meaning text v)
-outcome_of text (Result.Err e) = err (error e)
+abbrev pub outcome_of : List ℕ → Result Value Error → Defined.Result Defined.Value
+outcome_of text (Ok v) = ok (meaning text v)
+outcome_of text (Err e) = err (error e)
 
 -- ---- the 64 bits of an Integer, in two's complement
 

@@ -1,5 +1,5 @@
 -- expression.rs, evaluate: Is Null and Is NaN; value.rs: is_undefined.
-use Rattle.std.specs.Prelude.{ℕ, Bool, true, false}
+use Rattle.std.specs.Prelude.{Bool, true, false}
 use Rattle.std.specs.Float.Ieee as Ieee
 use Rattle.value.specs.Value.{Truth, False, Unknown, True, Datum, integer, float, string, Value, truth, datum, null, boolean, Result, ok, err, mismatch}
 use Rattle.value.specs.Comparison.{number_of}

@@ -23,7 +23,7 @@ pub enum Value {
 }
 
 // Why an operator has no value.
-#[derive(Clone, Copy)]
+#[derive(Clone, Copy, PartialEq, Eq)]
 pub enum Error {
     // an Integer outside 64 bits
     Overflow,
@@ -33,20 +33,16 @@ pub enum Error {
     Mismatch,
 }
 
-#[derive(Clone, Copy)]
-pub enum Result {
-    Ok(Value),
-    Err(Error),
-}
-
-// The number of the refusal that an error gives.
-pub fn number(e: Error) -> u32
-    ensures { result ≡ number (error e) }
-{
-    match e {
-        Error::Overflow => 11,
-        Error::DivisionByZero => 12,
-        Error::Mismatch => 13,
+impl Error {
+    // The number of the refusal that an error gives.
+    pub fn number(self) -> u32
+        ensures { result ≡ number (error self) }
+    {
+        match self {
+            Error::Overflow => 11,
+            Error::DivisionByZero => 12,
+            Error::Mismatch => 13,
+        }
     }
 }
 
@@ -54,7 +50,7 @@ pub fn number(e: Error) -> u32
 pub fn float_bits(x: f64) -> u64
     ensures { result ≡ Ieee.to_bits binary64 x }
 {
-    if x != x {
+    if x.is_nan() {
         return 0x7FF8000000000000;
     }
     f64::to_bits(x)
@@ -74,50 +70,43 @@ pub fn float_of_bits(bits: u64) -> f64
 pub fn integer_bits(i: i64) -> u64
     ensures { result ≡ integer_bits i }
 {
-    if 0 <= i {
-        return i as u64;
-    }
-    0xFFFFFFFFFFFFFFFF - (-1 - i) as u64
+    i.cast_unsigned()
 }
 
 // The Integer of 64 bits.
 pub fn integer_of_bits(bits: u64) -> i64
     ensures { result ≡ integer_of_bits bits }
 {
-    if bits < 0x8000000000000000 {
-        return bits as i64;
-    }
-    -1 - (0xFFFFFFFFFFFFFFFF - bits) as i64
+    bits.cast_signed()
 }
 
 // Whether a value is undefined: Null or NaN.
+#[tactic(auto, using(crate::proofs::Laws::nan_test))]
 pub fn is_undefined(v: Value) -> bool
     ensures { (text : List ℕ) → result ≡ is_undefined (meaning text v) }
 {
     match v {
         Value::Null => true,
-        Value::Float(x) => x != x,
+        Value::Float(x) => x.is_nan(),
         _ => false,
     }
 }
 
 // IS NULL.
-pub fn is_null(v: Value) -> Result
+pub fn is_null(v: Value) -> Result<Value, Error>
     ensures { (text : List ℕ) → outcome_of text result ≡ is_null (meaning text v) }
 {
-    match v {
-        Value::Null => Result::Ok(Value::Boolean(true)),
-        _ => Result::Ok(Value::Boolean(false)),
-    }
+    Ok(Value::Boolean(matches!(v, Value::Null)))
 }
 
 // IS NAN, of a Float or Null.
-pub fn is_nan(v: Value) -> Result
+#[tactic(auto, using(crate::proofs::Laws::nan_test))]
+pub fn is_nan(v: Value) -> Result<Value, Error>
     ensures { (text : List ℕ) → outcome_of text result ≡ is_nan (meaning text v) }
 {
     match v {
-        Value::Null => Result::Ok(Value::Null),
-        Value::Float(x) => Result::Ok(Value::Boolean(x != x)),
-        _ => Result::Err(Error::Mismatch),
+        Value::Null => Ok(Value::Null),
+        Value::Float(x) => Ok(Value::Boolean(x.is_nan())),
+        _ => Err(Error::Mismatch),
     }
 }

@@ -9,7 +9,7 @@
 ghost use Rattle.std.specs.Prelude.{◌+◌, ◌≤◌};
 
 use std::io::{self, ErrorKind, Read};
-use value::{Error, Result, Value};
+use value::{Error, Value};
 
 fn main(rt: HostRuntime) -> io::Result<()> {
     let mut input = rt.reader();
@@ -63,7 +63,7 @@ fn operand(tag: u8, length: u8, at: u32, bits: u64) -> Value
     }
 }
 
-fn evaluate(operator: u8, text: &[u8], lhs: Value, rhs: Value) -> Result {
+fn evaluate(operator: u8, text: &[u8], lhs: Value, rhs: Value) -> Result<Value, Error> {
     match operator {
         0 => rounded(lhs),
         10 => value::logic::and(lhs, rhs),
@@ -81,22 +81,22 @@ fn evaluate(operator: u8, text: &[u8], lhs: Value, rhs: Value) -> Result {
         33 => arithmetic::identity(lhs),
         34 => arithmetic::negate(lhs),
         36 => arithmetic::square_root(lhs),
-        _ => Result::Ok(Value::String(0)),
+        _ => Ok(Value::String(0)),
     }
 }
 
-fn rounded(v: Value) -> Result {
+fn rounded(v: Value) -> Result<Value, Error> {
     match v {
-        Value::Integer(i) => Result::Ok(Value::Float(ieee754::nearest_f64(i))),
-        _ => Result::Ok(Value::String(0)),
+        Value::Integer(i) => Ok(Value::Float(ieee754::nearest_f64(i))),
+        _ => Ok(Value::String(0)),
     }
 }
 
 // Whether a result is the one that a tag, or a refusal's number, and 64 bits give.
-fn is_result(r: Result, tag: u8, bits: u64) -> bool {
+fn is_result(r: Result<Value, Error>, tag: u8, bits: u64) -> bool {
     match r {
-        Result::Ok(v) => tag_of(v) == tag && bits_of(v) == bits,
-        Result::Err(e) => value::number(e) == wide32(tag) && bits == 0,
+        Ok(v) => tag_of(v) == tag && bits_of(v) == bits,
+        Err(e) => e.number() == wide32(tag) && bits == 0,
     }
 }
 
@@ -125,21 +125,13 @@ fn bits_of(v: Value) -> u64 {
 fn word(vector: &[u8; 32], at: usize) -> u64
     requires { at + 8 ≤ 32 }
 {
-    let mut bits: u64 = 0;
-    let mut i: usize = 8;
-    while 0 < i {
-        i -= 1;
-        bits = (bits << 8) | wide64(vector[at + i]);
-    }
-    bits
+    let mut bytes = [0u8; 8];
+    bytes.copy_from_slice(&vector[at..at + 8]);
+    u64::from_le_bytes(bytes)
 }
 
 fn wide32(x: u8) -> u32
     ensures { result ≤ 255 }
 {
-    x as u32
-}
-
-fn wide64(x: u8) -> u64 {
-    x as u64
+    u32::from(x)
 }

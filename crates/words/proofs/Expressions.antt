@@ -2,13 +2,13 @@
 use Prim.Native.Nat.{ℕ, ◌+◌, ◌-◌, ◌≤◌, ◌<◌}
 use native.Mathlib.Omega.{arith}
 use mathlib.Core.Path.{◌≡◌, refl, sym, ap, ◌∙◌, subst}
-use mathlib.Core.List.{List, [], ◌∷◌, ◌++◌, append_assoc}
-use lib.ListN.{length, get_or, length-append}
-use Rattle.value.specs.Value.{Truth, False, Unknown, True, Datum, integer, float, string, Value, truth, datum}
-use Rattle.sql.specs.Expression.{origin, Logical, And, Or, Function1, IsNull, IsNaN, Identity, Negate, SquareRoot, Function2, GreaterThan, LessThan, Add, Divide, Subtract, Multiply, Unary, Not, function, Binary, logical, Equal, Expression, constant, column, unary, binary}
-use Rattle.sheet.specs.Content.{Content, cell_of, constant_cell, column_cell, unary_cell, binary_cell, unary_tag, binary_tag}
+use mathlib.Core.List.{List, ◌++◌}
+use lib.ListN.{length}
+use Rattle.value.specs.Value.{False, Unknown, True, integer, float, string, Value, truth, datum}
+use Rattle.sql.specs.Expression.{origin, And, Or, IsNull, IsNaN, Identity, Negate, SquareRoot, GreaterThan, LessThan, Add, Divide, Subtract, Multiply, Unary, Not, function, Binary, logical, Equal, Expression, constant, column, unary, binary}
+use Rattle.sheet.specs.Content.{Content, cell_of, constant_cell, unary_cell, binary_cell, unary_tag, binary_tag}
 use Rattle.cells.specs.declared.Cell.{Cell}
-use Rattle.cells.specs.Cells.{cell_words, words, sized, cell_at, tag_at, origin_at, start_at, Part, Sized}
+use Rattle.cells.specs.Cells.{cell_words, sized, cell_at, tag_at, origin_at, start_at, Part, Sized}
 use Rattle.cells.proofs.Laws.{part_left, part_right, body_part, cell_in, tag_is, start_is, has_size, seam}
 use Rattle.cells.proofs.Laws as cells
 use Rattle.words.specs.Words.{cell, root, expression_words, operand_words}

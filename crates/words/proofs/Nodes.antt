@@ -1,21 +1,18 @@
 -- Laws on where nodes stand, and on which node a tag tells of.
-use Prim.Native.Nat.{ℕ, ◌+◌, ◌-◌, ◌≤◌, ◌<◌}
+use Prim.Native.Nat.{ℕ, ◌+◌, ◌-◌, ◌≤◌}
 use native.Mathlib.Omega.{arith}
 use mathlib.Core.Bool.{Bool}
-use mathlib.Core.Path.{◌≡◌, refl, sym, ap, ◌∙◌, subst}
-use mathlib.Core.List.{List, [], ◌∷◌, ◌++◌, append_assoc, append-nil}
+use mathlib.Core.Path.{◌≡◌, refl, sym, ◌∙◌, subst}
+use mathlib.Core.List.{List, ◌++◌, append_assoc}
 use mathlib.Core.Option.{Option, none, some}
-use lib.ListN.{length, get_or, length-append}
-use Rattle.value.specs.Value.{Value}
-use Rattle.sql.specs.Expression.{Expression}
-use Rattle.sql.specs.Plan.{node_origin, Label, Access, by_key, by_index, Leaf, scan, lookup, nothing, values, Other, limit, offset, order, projection, remap, aggregate, Over, filter, other, Join, nested_loop, hash, Node, leaf, over, join}
+use lib.ListN.{length, length-append}
+use Rattle.sql.specs.Plan.{node_origin, Access, by_key, by_index, Over, Join, Node, leaf, over, join}
 use Rattle.sheet.specs.Content.{Content, cell_of}
-use Rattle.cells.specs.declared.Cell.{Cell}
-use Rattle.cells.specs.Cells.{cell_words, words, sized, cell_at, tag_at, start_at, Part, Sized}
+use Rattle.cells.specs.Cells.{cell_words, sized, cell_at, tag_at, start_at, Part, Sized}
 use Rattle.cells.proofs.Laws.{part_left, part_right, body_part, cell_in, tag_is, start_is, has_size, seam}
 use Rattle.cells.proofs.Laws as cells
 use Rattle.words.specs.Words.{cell, node_words, source_words, own_words, node_cell}
-use Rattle.words.specs.Place.{NodeHere, NodeAt}
+use Rattle.words.specs.Place.{NodeHere}
 use Rattle.words.proofs.Expressions.{tag, tag_cell}
 
 pub node_shape : (p : Node) → node_words p ≡ sized (source_words p ++ own_words p) (cell (node_origin p) (node_cell p))

@@ -3,15 +3,14 @@ use Prim.Native.Nat.{ℕ, ◌+◌, ◌*◌}
 use native.Mathlib.Omega.{arith}
 use mathlib.Core.Bool.{Bool}
 use mathlib.Core.Path.{◌≡◌, refl}
-use mathlib.Core.List.{List, [], ◌∷◌, ◌++◌}
+use mathlib.Core.List.{List, [], ◌∷◌}
 use mathlib.Core.Option.{Option, none, some}
 use lib.ListN.{length, length-append}
-use Rattle.value.specs.Value.{Value}
 use Rattle.sql.specs.Expression.{Expression, constant, column, unary, binary, size}
 use Rattle.sql.specs.Plan.{Label, Leaf, scan, lookup, nothing, values, limit, offset, order, projection, remap, aggregate, Over, filter, other, Join, nested_loop, hash, Node, leaf, over, join, sum, optional_size, row_size, item_size, key_size, aggregate_size, leaf_size, over_size, join_size, node_size}
 use Rattle.cells.specs.declared.Cell.{Cell}
 use Rattle.cells.specs.Cells.{cell_words, words, sized}
-use Rattle.words.specs.Words.{cell, all_words, expression_words, optional_words, constant_words, label_words, target_words, item_words, key_words, agg_words, row_words, leaf_own, over_own, join_own, node_words}
+use Rattle.words.specs.Words.{all_words, expression_words, optional_words, constant_words, label_words, target_words, item_words, key_words, agg_words, row_words, leaf_own, over_own, join_own, node_words}
 
 pub sized_long : (b : List ℕ) (k : Cell) → length (sized b k) ≡ length b + cell_words
 sized_long b k = length-append b (words k (length b + cell_words))

@@ -8,7 +8,7 @@ use mathlib.Core.Option.{Option, none, some}
 use lib.ListN.{get_or}
 use Rattle.value.specs.Value.{Value}
 use Rattle.sql.specs.Expression.{Expression}
-use Rattle.sql.specs.Plan.{Label, Access, by_key, by_index, Leaf, scan, lookup, nothing, values, Other, limit, offset, order, projection, remap, aggregate, Over, filter, other, Join, nested_loop, hash, Node, leaf, over, join}
+use Rattle.sql.specs.Plan.{Label, by_key, by_index, Leaf, scan, lookup, nothing, values, limit, offset, order, projection, remap, aggregate, Over, filter, other, Join, nested_loop, hash, Node, leaf, over, join}
 use Rattle.words.specs.Words.{leaf_cell, over_cell, join_cell, node_cell, source_count}
 use Rattle.words.proofs.Expressions.{tag}
 

@@ -1,21 +1,18 @@
 -- Laws for functions that write an expression: a cell over what its operands' functions wrote.
-use Prim.Native.Nat.{ℕ, ◌+◌, ◌-◌, ◌≤◌, ◌<◌}
+use Prim.Native.Nat.{ℕ, ◌-◌, ◌≤◌, ◌<◌}
 use native.Mathlib.Omega.{arith}
-use mathlib.Core.Path.{◌≡◌, refl, sym, ap, ◌∙◌, subst}
-use mathlib.Core.List.{List, [], ◌∷◌, ◌++◌}
+use mathlib.Core.Path.{◌≡◌, refl, ◌∙◌, subst}
+use mathlib.Core.List.{List, ◌++◌}
 use lib.ListN.{length}
-use Rattle.sql.specs.Expression.{origin, Unary, Binary, Expression, constant, column, unary, binary}
+use Rattle.sql.specs.Expression.{origin, Binary, Expression, constant, column, unary, binary}
 use Rattle.cells.specs.declared.Cell.{Cell}
 use Rattle.cells.specs.Cells.{cell_words, sized, cell_at, tag_at, start_at}
+pub use Rattle.cells.specs.Cells.{plain}
 use Rattle.cells.specs.Room.{Wrote, Seals}
 use Rattle.cells.proofs.Laws.{then, nothing}
 use Rattle.words.specs.Words.{cell, root, expression_words, map_operands}
 use Rattle.words.specs.Place.{ExpressionHere, Maps}
 use Rattle.words.proofs.Expressions.{by_leaf, by_unary, by_binary, root_is, root_tag, here_operand, here_left, here_right}
-
--- a cell that says no more than its tag, with an origin
-abbrev pub plain : (og tag : ℕ) → Cell
-plain og t = record { origin = og; tag = t; flag = 0; a = 0; b = 0; c = 0 }
 
 module _ {s : List ℕ} {lo hi : ℕ} where
   -- the root's cell over what was written

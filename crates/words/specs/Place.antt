@@ -1,6 +1,6 @@
 -- Where expressions and nodes stand in a list of words, and what a function that writes one has done. A contract speaks of every expression, or node, that
 -- stands there.
-use Rattle.std.specs.Prelude.{ℕ, ◌+◌, ◌≤◌, ◌<◌, ◌≡◌, List, ◌++◌, length, take}
+use Rattle.std.specs.Prelude.{ℕ, List}
 use Rattle.sql.specs.Expression.{Expression}
 use Rattle.sql.specs.Plan.{Node}
 use Rattle.cells.specs.Cells.{Part}

@@ -1,22 +1,11 @@
 -- `arithmetic::checked_mul` meets its contract.
-use mathlib.Core.Path.{ap₂, ◌∙◌}
 use lib.Ieee.{binary64}
 use lib.Ieee as Ieee
-use Rattle.value.proofs.Laws.{read_back}
+use Rattle.std.proofs.Common.{rules}
 use Rattle.value.specs.Arithmetic.{multiply_integers}
+use Rattle.arithmetic.proofs.Integers.{checked_is}
 use Rattle.arithmetic.proofs.checked_mul.Goals as goal
 
-pub returns-in-Integers : goal.returns-in-Integers
-returns-in-Integers c text =
-    c.multiply_integers.ensures text
-    ∙ (ap₂ multiply_integers (read_back c.in-Integers.a c.in-Integers.known_told-1-own.given.0.1) (read_back c.in-Integers.b c.in-Integers.known_told-1-own.given.1.0.1)
-    ∙ (rw c.in-Integers.is at (c.operands_of.ensures text multiply_integers (Ieee.mul binary64))))
-
-pub returns-in-Floats : goal.returns-in-Floats
-returns-in-Floats c text = rw c.in-Floats.is at (c.operands_of.ensures text multiply_integers (Ieee.mul binary64))
-
-pub returns-in-Null : goal.returns-in-Null
-returns-in-Null c text = rw c.in-Null.is at (c.operands_of.ensures text multiply_integers (Ieee.mul binary64))
-
-pub returns-in-Mismatch : goal.returns-in-Mismatch
-returns-in-Mismatch c text = rw c.in-Mismatch.is at (c.operands_of.ensures text multiply_integers (Ieee.mul binary64))
+pub returns : goal.returns
+unfolding multiply_integers
+returns c text = c.operate.ensures text multiply_integers (Ieee.mul binary64) (λ a b r fa fb p. search (rules, checked_is)) (λ x y r p. search rules)

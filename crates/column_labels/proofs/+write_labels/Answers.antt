@@ -2,7 +2,6 @@ use Rattle.labels.proofs.Tracing.{says_false_here}
 use Rattle.nodes.proofs.Widths.{columns_node, counted_as, two_left, source_in, source_columns_at, join_sized, sources_in, left_columns_at, right_columns_at}
 use Rattle.nodes.proofs.Own.{at_in}
 use Rattle.column_labels.proofs.Steps.{source_written, sources_written}
-use Prim.Native.Nat.{◌-◌}
 use native.Mathlib.Omega.{arith}
 use mathlib.Core.Path.{sym, ◌∙◌}
 use Rattle.column_labels.proofs.+write_labels.Goals as goal
@@ -19,8 +18,8 @@ returns-then-n-eq0 t c = c.leaf_labels.ensures
 pub own_start-m-requires : goal.own_start-m-requires
 own_start-m-requires t c = columns_node c.requires.columns_at
 
-pub tag_at-t-requires : goal.tag_at-t-requires
-tag_at-t-requires t c = let (h, k) = at_in (columns_node c.requires.columns_at) in (omega arith, k)
+pub tag_at-requires : goal.tag_at-requires
+tag_at-requires t c = let (h, k) = at_in (columns_node c.requires.columns_at) in (omega arith, k)
 
 pub each_label-requires : goal.each_label-requires
 each_label-requires t c = record { columns_at = c.requires.columns_at; records_at = c.requires.records_at }
@@ -32,7 +31,7 @@ pub write_labels-requires : goal.write_labels-requires
 write_labels-requires t c = let s = counted_as c.source_count-n.ensures c.if-n-eq1.true in let (h, k) = source_in s c.own_start-m.ensures (columns_node c.requires.columns_at) in (omega (arith, c.decreases), (source_columns_at s c.own_start-m.ensures c.requires.columns_at, c.requires.records_at))
 
 pub returns-then-n-eq1 : goal.returns-then-n-eq1
-returns-then-n-eq1 t c = let (y, z) = says_false_here c.tag_at-t.ensures (sym c.says_columns.ensures ∙ c.if-says_columns.false) in source_written c.args.origin (counted_as c.source_count-n.ensures c.if-n-eq1.true) c.own_start-m.ensures y z c.write_labels.ensures
+returns-then-n-eq1 t c = let (y, z) = says_false_here c.tag_at.ensures (sym c.says_columns.ensures ∙ c.if-says_columns.false) in source_written c.args.origin (counted_as c.source_count-n.ensures c.if-n-eq1.true) c.own_start-m.ensures y z c.write_labels.ensures
 
 pub start-mid-requires : goal.start-mid-requires
 start-mid-requires t c = join_sized (two_left c.source_count-n.ensures c.if-n-eq0.false c.if-n-eq1.false) c.own_start-m.ensures (columns_node c.requires.columns_at)

@@ -1,5 +1,4 @@
 use Rattle.column_labels.proofs.Steps.{labelled_first, labelled_next, labelled_all}
-use Prim.Native.Nat.{◌-◌}
 use native.Mathlib.Omega.{arith}
 use mathlib.Core.Path.{refl, ◌∙◌}
 use Rattle.column_labels.proofs.each_label.Goals as goal

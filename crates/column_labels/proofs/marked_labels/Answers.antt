@@ -1,10 +1,8 @@
 use Rattle.cells.proofs.Laws.{part_in}
-use Rattle.column_labels.proofs.Steps.{marking_first, marking_in, marking_next, marking_all, marked_full}
-use Prim.Native.Nat.{◌-◌}
+use Rattle.column_labels.proofs.Steps.{marking_first, marking_next, marking_all, marked_full}
 use native.Mathlib.Omega.{arith}
 use mathlib.Core.Path.{refl}
 use lib.ListN.{length-set}
-use borrow.Author.Rules.{rules}
 use Rattle.column_labels.proofs.marked_labels.Goals as goal
 
 pub copy-end-requires : goal.copy-end-requires
@@ -19,14 +17,12 @@ loop-i-init c = (refl, λ e ls h w. marking_first c.args.origin ls h w)
 pub bounds-d-i : goal.bounds-d-i
 bounds-d-i c = omega (arith, c.loop-i.invariant.0, c.copy-end.auto)
 
-pub overflow_add-i : goal.overflow_add-i
-overflow_add-i c = let h = marking_in c.args.origin c.requires.labels (c.loop-i.invariant.1 c.args.d.now c.requires.labels (omega arith) (c.copy-end.ensures _ c.requires.part)) (omega arith) in search rules
-
-pub loop-i-smaller : goal.loop-i-smaller
-loop-i-smaller c = omega arith
-
 pub loop-i-preserved : goal.loop-i-preserved
 loop-i-preserved c = (simp length-set c.loop-i.invariant.0, λ e ls h w. marking_next c.args.origin ls (c.loop-i.invariant.1 e ls h w) (omega arith))
 
-pub returns : goal.returns
-returns c = λ ls p. marking_all c.args.origin ls (c.loop-i.invariant.1 c.args.d.now ls (omega arith) (c.copy-end.ensures _ p)) (omega arith) (omega arith)
+pub returns-else-d-end : goal.returns-else-d-end
+returns-else-d-end c = λ ls p. marking_all c.args.origin ls (c.loop-i.invariant.1 c.args.d.now ls (omega arith) (c.copy-end.ensures _ p)) (omega arith) (omega arith)
+
+-- after the last label
+pub returns-else-d-end-2 : goal.returns-else-d-end-2
+returns-else-d-end-2 c = λ ls p. marking_all c.args.origin ls (marking_next c.args.origin ls (c.loop-i.invariant.1 c.args.d.now ls (omega arith) (c.copy-end.ensures _ p)) (omega arith)) (omega arith) (omega arith)

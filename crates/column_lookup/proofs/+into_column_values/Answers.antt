@@ -1,47 +1,22 @@
-use Rattle.column_lookup.proofs.Values.{gathers_leaf, gathers_other, gathers_both, gathers_equal}
-use Rattle.cells.specs.Cells.{tag_at}
-use Rattle.words.proofs.Expressions.{at_in, at_last, at_left, at_right}
-use Prim.Native.Nat.{◌-◌, ◌≤◌, ◌<◌}
+use Rattle.words.proofs.Stands.{stands_in, said_where_it_stands}
+use Rattle.cells.specs.Cells.{cell_at}
 use native.Mathlib.Omega.{arith}
-use mathlib.Core.Path.{sym, ◌∙◌}
-use borrow.Author.Rules.{rules}
+use mathlib.Core.Path.{refl, ap, ap₂, ◌∙◌}
+use Rattle.column_lookup.specs.Values.{Gathers}
+use Rattle.column_lookup.proofs.Values.{gathers_other, gathers_both, gathers_equal}
 use Rattle.column_lookup.proofs.+into_column_values.Goals as goal
 
-pub tag_at-t-requires : goal.tag_at-t-requires
-tag_at-t-requires t c = let (h, k) = at_in c.requires in (omega arith, k)
-
-pub returns-then-t-lt-BINARY : goal.returns-then-t-lt-BINARY
-returns-then-t-lt-BINARY t c = gathers_leaf (omega (arith, c.tag_at-t.ensures, c.if-t-lt-BINARY.true))
-
-pub overflow_sub-end : goal.overflow_sub-end
-overflow_sub-end t c = let (h, k) = at_in c.requires in omega arith
-
-pub start-mid-requires : goal.start-mid-requires
-start-mid-requires t c = at_last (omega (arith, c.tag_at-t.ensures, c.if-t-lt-BINARY.false)) (omega (arith, c.tag_at-t.ensures, c.if-t-lt-EQUAL.true)) c.requires
-
 pub into_column_values-m-requires : goal.into_column_values-m-requires
-into_column_values-m-requires t c = let e = c.tag_at-t.ensures in let g : 10 ≤ tag_at c.args.s.now c.args.hi = omega (arith, e, c.if-t-lt-BINARY.false) in let f : tag_at c.args.s.now c.args.hi < 30 = omega (arith, e, c.if-t-lt-EQUAL.true) in let l = at_left g f c.start-mid.ensures c.requires in let r = at_right g f c.start-mid.ensures c.requires in let (h, k) = at_in r in let (h', k') = at_in l in (omega (arith, c.decreases), search rules)
+into_column_values-m-requires t c = let (h, k) = stands_in c.operands-in-10.result.0.stands in let (h', k') = stands_in c.operands-in-10.result.1.stands in (omega (arith, c.decreases, c.operands-in-10.ensures.lo.0, c.operands-in-10.ensures.lo.1, c.operands-in-10.ensures.hi.0, c.operands-in-10.ensures.hi.1), tt)
 
 pub into_column_values-requires : goal.into_column_values-requires
-into_column_values-requires t c = let e = c.tag_at-t.ensures in let g : 10 ≤ tag_at c.args.s.now c.args.hi = omega (arith, e, c.if-t-lt-BINARY.false) in let f : tag_at c.args.s.now c.args.hi < 30 = omega (arith, e, c.if-t-lt-EQUAL.true) in let l = at_left g f c.start-mid.ensures c.requires in let r = at_right g f c.start-mid.ensures c.requires in let (h, k) = at_in r in let (h', k') = at_in l in (omega (arith, c.decreases), search rules)
+into_column_values-requires t c = let (h, k) = stands_in c.operands-in-10.result.0.stands in let (h', k') = stands_in c.operands-in-10.result.1.stands in (omega (arith, c.decreases, c.operands-in-10.ensures.lo.0, c.operands-in-10.ensures.lo.1, c.operands-in-10.ensures.hi.0, c.operands-in-10.ensures.hi.1), tt)
 
-pub returns-then-t-lt-EQUAL : goal.returns-then-t-lt-EQUAL
-returns-then-t-lt-EQUAL t c = gathers_both c.start-mid.ensures c.into_column_values-m.auto.d (omega (arith, c.tag_at-t.ensures, c.if-t-lt-BINARY.false)) (omega (arith, c.tag_at-t.ensures, c.if-t-lt-EQUAL.true)) c.into_column_values-m.ensures c.into_column_values.ensures
+pub returns-in-10 : goal.returns-in-10
+returns-in-10 t c = gathers_both c.operands-in-10.ensures.hi.0 c.into_column_values-m.auto.d (omega (arith, c.tag.ensures)) (omega (arith, c.tag.ensures)) (said_where_it_stands (λ s lo hi. Gathers s lo hi c.args.d.now c.args.at c.into_column_values-m.result c.into_column_values-m.new.d) c.operands-in-10.ensures.words.0 c.operands-in-10.ensures.lo.0 refl c.into_column_values-m.ensures) (said_where_it_stands (λ s lo hi. Gathers s lo hi c.into_column_values-m.new.d c.into_column_values-m.result c.into_column_values.result c.into_column_values.new.d) c.operands-in-10.ensures.words.1 c.operands-in-10.ensures.lo.1 c.operands-in-10.ensures.hi.1 c.into_column_values.ensures)
 
-pub start-mid-requires-then-t-eq-EQUAL : goal.start-mid-requires-then-t-eq-EQUAL
-start-mid-requires-then-t-eq-EQUAL t c = at_last (omega (arith, c.tag_at-t.ensures, c.if-t-eq-EQUAL.true)) (omega (arith, c.tag_at-t.ensures, c.if-t-eq-EQUAL.true)) c.requires
+pub returns-in-12 : goal.returns-in-12
+returns-in-12 t c = gathers_equal c.operands.ensures.hi.0 c.equal_value-m.auto.d (omega (arith, c.tag.ensures)) (c.cell.ensures ∙ ap (λ w. cell_at w c.operands.result.0.hi) c.operands.ensures.words.0) (c.cell-in-12.ensures ∙ ap₂ cell_at c.operands.ensures.words.1 c.operands.ensures.hi.1) c.equal_value-m.ensures c.equal_value.ensures
 
-pub cell_at-requires : goal.cell_at-requires
-cell_at-requires t c = let e = c.tag_at-t.ensures in let (h, k) = at_in (at_left (omega (arith, e, c.if-t-eq-EQUAL.true)) (omega (arith, e, c.if-t-eq-EQUAL.true)) c.start-mid-then-t-eq-EQUAL.ensures c.requires) in (omega arith, k)
-
-pub cell_at-requires-then-t-eq-EQUAL : goal.cell_at-requires-then-t-eq-EQUAL
-cell_at-requires-then-t-eq-EQUAL t c = let e = c.tag_at-t.ensures in let (h, k) = at_in (at_right (omega (arith, e, c.if-t-eq-EQUAL.true)) (omega (arith, e, c.if-t-eq-EQUAL.true)) c.start-mid-then-t-eq-EQUAL.ensures c.requires) in let (h', k') = at_in (at_left (omega (arith, e, c.if-t-eq-EQUAL.true)) (omega (arith, e, c.if-t-eq-EQUAL.true)) c.start-mid-then-t-eq-EQUAL.ensures c.requires) in (omega arith, omega arith)
-
-pub returns-then-t-eq-EQUAL : goal.returns-then-t-eq-EQUAL
-returns-then-t-eq-EQUAL t c = gathers_equal c.start-mid-then-t-eq-EQUAL.ensures c.equal_value-m.auto.d (sym c.tag_at-t.ensures ∙ c.if-t-eq-EQUAL.true) c.cell_at.ensures c.cell_at-then-t-eq-EQUAL.ensures c.equal_value-m.ensures c.equal_value.ensures
-
-pub origin_at-requires : goal.origin_at-requires
-origin_at-requires t c = let (h, k) = at_in c.requires in (omega arith, k)
-
-pub returns : goal.returns
-returns t c = gathers_other c.tag_at-t.ensures (omega (arith, c.if-t-lt-EQUAL.false, c.if-t-eq-EQUAL.false)) c.origin_at.ensures c.is_value.ensures
+pub returns-in_default : goal.returns-in_default
+returns-in_default t c = gathers_other c.tag.ensures (λ z. omega arith) (λ z. omega arith) (λ z. omega arith) c.origin.ensures c.is_value.ensures

@@ -2,4 +2,4 @@ use Prim.Native.Nat.{◌-◌}
 use Rattle.column_lookup.proofs.+into_column_values.Given as goal
 
 abbrev pub decreases-into_column_values : goal.decreases-into_column_values
-decreases-into_column_values l = l.hi - l.lo
+decreases-into_column_values l = l.e.hi - l.e.lo

@@ -2,4 +2,4 @@ use Prim.Native.Nat.{◌-◌}
 use Rattle.column_lookup.proofs.+is_column_lookup.Given as goal
 
 abbrev pub decreases-is_column_lookup : goal.decreases-is_column_lookup
-decreases-is_column_lookup l = l.hi - l.lo
+decreases-is_column_lookup l = l.e.hi - l.e.lo

@@ -1,23 +1,20 @@
-use Prim.Native.Nat.{◌-◌}
+use Rattle.std.specs.Prelude.{◌≡◌, ◌+◌, ◌∷◌, [], length, drop}
 use native.Mathlib.Omega.{arith}
+use mathlib.Core.Path.{sym, subst, refl}
+use Rattle.compact.specs.Slots.{references, slot_bytes}
+use Rattle.encode.specs.Encode.{written}
+use Rattle.text_references.specs.Asks.{slot_of}
+use Rattle.text_references.specs.declared.Slot as Field
+use Rattle.compactor.specs.Compactor.{fill}
 use Rattle.compactor.proofs.Laws.{put_reference, put_number}
-use mathlib.Core.Bool.{true, false}
 use Rattle.compactor.proofs.put_field.Goals as goal
 
-pub offset_bounds-fresh-j : goal.offset_bounds-fresh-j
-offset_bounds-fresh-j c = omega (arith, c.well_formed.1.1.0.1, c.requires.0)
+pub returns-in-Number : goal.returns-in-Number
+returns-in-Number c =
+    subst (λ (x : Field.Slot). (c.args.j ≡ c.args.j + length (references (slot_of x ∷ []))) × (c.put_word.new.out ≡ written c.args.out.now c.args.at (slot_bytes (fill (slot_of x ∷ []) (drop c.args.j c.args.fresh.now)))))
+    (sym c.in-Number.is) (omega arith, put_number c.args.out.now _ c.args.fresh.now c.in-Number.v c.args.j c.args.at c.put_word.ensures.1)
 
-pub bounds-fresh-j : goal.bounds-fresh-j
-bounds-fresh-j c = omega (arith, c.requires.0)
-
-pub put_word-requires : goal.put_word-requires
-put_word-requires c = omega (arith, c.requires.1)
-
-pub returns-then-refers : goal.returns-then-refers
-returns-then-refers c = put_reference c.args.refers c.args.out.now _ c.args.fresh.now c.args.v c.args.j c.args.at c.if-refers.true c.put_word.ensures.1
-
-pub put_word-requires-2 : goal.put_word-requires-2
-put_word-requires-2 c = omega (arith, c.requires.1)
-
-pub returns : goal.returns
-returns c = put_number c.args.refers c.args.out.now _ c.args.fresh.now c.args.v c.args.j c.args.at c.if-refers.false c.put_word-2.ensures.1
+pub returns-in-Reference : goal.returns-in-Reference
+returns-in-Reference c =
+    subst (λ (x : Field.Slot). (c.args.j + 1 ≡ c.args.j + length (references (slot_of x ∷ []))) × (c.put_word-in-Reference.new.out ≡ written c.args.out.now c.args.at (slot_bytes (fill (slot_of x ∷ []) (drop c.args.j c.args.fresh.now)))))
+    (sym c.in-Reference.is) (refl, put_reference c.args.out.now _ c.args.fresh.now c.in-Reference.field-0 c.args.j c.args.at c.put_word-in-Reference.ensures.1)

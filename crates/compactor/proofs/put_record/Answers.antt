@@ -1,4 +1,3 @@
-use Prim.Native.Nat.{◌-◌}
 use native.Mathlib.Omega.{arith}
 use Rattle.compactor.proofs.Laws.{record_put}
 use Rattle.compactor.proofs.put_record.Goals as goal

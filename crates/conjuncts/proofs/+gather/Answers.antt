@@ -5,7 +5,7 @@ use Rattle.sql.specs.Expression.{ands}
 use Rattle.sql.specs.Optimizer.{flat_map}
 use Rattle.cells.specs.Cells.{tag_at}
 use Rattle.words.proofs.Expressions.{at_in, at_last, at_left, at_right}
-use Prim.Native.Nat.{◌-◌, ◌≤◌, ◌<◌}
+use Prim.Native.Nat.{◌≤◌, ◌<◌}
 use native.Mathlib.Omega.{arith}
 use mathlib.Core.Path.{sym, ◌∙◌}
 use Rattle.conjuncts.proofs.+gather.Goals as goal
@@ -28,14 +28,8 @@ gather-requires t c = let e = c.tag_at.ensures in let g : 10 ≤ tag_at c.args.s
 pub returns-then-tag_at-eq-AND : goal.returns-then-tag_at-eq-AND
 returns-then-tag_at-eq-AND t c = walk_and c.args.origin (chosen c.args.to c.args.n c.args.shift) c.gather-m.auto.d c.start-mid.ensures (sym c.tag_at.ensures ∙ c.if-tag_at-eq-AND.true) c.gather-m.ensures c.gather.ensures
 
-pub refers-requires : goal.refers-requires
-refers-requires t c = c.requires.expression_at
-
-pub append-requires : goal.append-requires
-append-requires t c = record { expression_at = c.requires.expression_at; gathered_at = c.requires.gathered_at }
-
 pub returns-then-goes : goal.returns-then-goes
-returns-then-goes t c = walk_one c.args.origin (chosen c.args.to c.args.n c.args.shift) (λ z. c.if-tag_at-eq-AND.false (c.tag_at.ensures ∙ z)) (chosen_here c.args.to c.args.n c.args.shift c.goes.ensures c.refers.ensures c.args.origin c.if-goes.true c.append.ensures)
+returns-then-goes t c = walk_one c.args.origin (chosen c.args.to c.args.n c.args.shift) (λ z. c.if-tag_at-eq-AND.false (c.tag_at.ensures ∙ z)) (chosen_here c.args.to c.args.n c.args.shift c.goes.ensures c.args.origin c.if-goes.true c.append.ensures)
 
 pub returns : goal.returns
-returns t c = walk_one c.args.origin (chosen c.args.to c.args.n c.args.shift) (λ z. c.if-tag_at-eq-AND.false (c.tag_at.ensures ∙ z)) (not_chosen c.args.to c.args.n c.args.shift c.goes.ensures c.refers.ensures c.args.origin c.if-goes.false)
+returns t c = walk_one c.args.origin (chosen c.args.to c.args.n c.args.shift) (λ z. c.if-tag_at-eq-AND.false (c.tag_at.ensures ∙ z)) (not_chosen c.args.to c.args.n c.args.shift c.goes.ensures c.args.origin c.if-goes.false)

@@ -8,4 +8,4 @@ pub returns-then-at-from : goal.returns-then-at-from
 returns-then-at-from c = join_first c.args.origin c.if-d-at.false c.if-at-from.true
 
 pub returns : goal.returns
-returns c = join_next c.args.origin c.if-d-at.false c.if-at-from.false c.put.ensures.0
+returns c = join_next c.args.origin c.if-d-at.false c.if-at-from.false (rw c.new.ensures at c.put.ensures.0)

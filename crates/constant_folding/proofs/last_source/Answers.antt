@@ -1,5 +1,4 @@
 use Rattle.constant_folding.proofs.Nodes.{last_none, last_sized, last_some}
-use Prim.Native.Nat.{◌-◌}
 use native.Mathlib.Omega.{arith}
 use Rattle.constant_folding.proofs.last_source.Goals as goal
 

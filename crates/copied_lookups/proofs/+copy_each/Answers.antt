@@ -3,7 +3,7 @@ use Rattle.conjuncts.proofs.Walking.{walk_and, walk_one}
 use Rattle.copied_lookups.proofs.Copying.{copies_gathered}
 use Rattle.cells.specs.Cells.{tag_at}
 use Rattle.words.proofs.Expressions.{at_in, at_last, at_left, at_right}
-use Prim.Native.Nat.{◌-◌, ◌≤◌, ◌<◌}
+use Prim.Native.Nat.{◌≤◌, ◌<◌}
 use native.Mathlib.Omega.{arith}
 use mathlib.Core.Path.{sym, ◌∙◌}
 use Rattle.copied_lookups.proofs.+copy_each.Goals as goal

@@ -1,35 +1,34 @@
-use mathlib.Core.Path.{sym, ◌∙◌}
 use native.Mathlib.Omega.{arith}
 use Rattle.words.proofs.Expressions.{at_in, at_last, at_left, at_right, at_operand}
 use Rattle.copied_lookups.proofs.Last.{of_equal, of_is, of_none, of_other}
 use Rattle.copied_lookups.proofs.is_lookup_of.Goals as goal
 
-pub tag_at-t-requires : goal.tag_at-t-requires
-tag_at-t-requires c = let (h, k) = at_in c.requires in (omega arith, k)
-
 pub overflow_sub-end : goal.overflow_sub-end
 overflow_sub-end c = let (h, k) = at_in c.requires in omega arith
 
+pub tag_at-requires : goal.tag_at-requires
+tag_at-requires c = let (h, k) = at_in c.requires in (omega arith, k)
+
 pub start-mid-requires : goal.start-mid-requires
-start-mid-requires c = at_last (omega (arith, c.tag_at-t.ensures, c.if-t-eq-EQUAL.true)) (omega (arith, c.tag_at-t.ensures, c.if-t-eq-EQUAL.true)) c.requires
+start-mid-requires c = at_last (omega arith) (omega arith) c.requires
 
 pub cell_at-requires : goal.cell_at-requires
-cell_at-requires c = let (h, k) = at_in (at_left (omega (arith, c.tag_at-t.ensures, c.if-t-eq-EQUAL.true)) (omega (arith, c.tag_at-t.ensures, c.if-t-eq-EQUAL.true)) c.start-mid.ensures c.requires) in (omega arith, k)
+cell_at-requires c = let (h, k) = at_in (at_left (omega arith) (omega arith) c.start-mid.ensures c.requires) in (omega arith, k)
 
-pub cell_at-requires-then-t-eq-EQUAL : goal.cell_at-requires-then-t-eq-EQUAL
-cell_at-requires-then-t-eq-EQUAL c = let (h, k) = at_in (at_right (omega (arith, c.tag_at-t.ensures, c.if-t-eq-EQUAL.true)) (omega (arith, c.tag_at-t.ensures, c.if-t-eq-EQUAL.true)) c.start-mid.ensures c.requires) in (omega arith, k)
+pub cell_at-requires-in-12 : goal.cell_at-requires-in-12
+cell_at-requires-in-12 c = let (h, k) = at_in (at_right (omega arith) (omega arith) c.start-mid.ensures c.requires) in (omega arith, k)
 
-pub returns-then-t-eq-EQUAL : goal.returns-then-t-eq-EQUAL
-returns-then-t-eq-EQUAL c = of_equal c.args.c c.start-mid.ensures (sym c.tag_at-t.ensures ∙ c.if-t-eq-EQUAL.true) c.cell_at.ensures c.cell_at-then-t-eq-EQUAL.ensures c.is_equal_lookup.ensures
+pub returns-in-12 : goal.returns-in-12
+returns-in-12 c = of_equal c.args.c c.start-mid.ensures (omega arith) c.cell_at.ensures c.cell_at-in-12.ensures c.is_equal_lookup.ensures
 
-pub returns-then-t-lt-IS_NULL : goal.returns-then-t-lt-IS_NULL
-returns-then-t-lt-IS_NULL c = of_none c.args.c (λ z. c.if-t-eq-OR.false (c.tag_at-t.ensures ∙ z)) (λ z. c.if-t-eq-EQUAL.false (c.tag_at-t.ensures ∙ z)) (omega (arith, c.tag_at-t.ensures, c.if-t-lt-IS_NULL.true))
+pub cell_at-requires-in-31 : goal.cell_at-requires-in-31
+cell_at-requires-in-31 c = let (h, k) = at_in (at_operand (omega arith) c.requires) in (omega arith, k)
 
-pub returns-then-t-gt-IS_NAN : goal.returns-then-t-gt-IS_NAN
-returns-then-t-gt-IS_NAN c = of_other c.args.c (omega (arith, c.tag_at-t.ensures, c.if-t-gt-IS_NAN.true))
+pub returns-in-31 : goal.returns-in-31
+returns-in-31 c = of_is c.args.c (omega arith) (omega arith) c.cell_at-in-31.ensures c.is_column.ensures
 
-pub cell_at-requires-2 : goal.cell_at-requires-2
-cell_at-requires-2 c = let (h, k) = at_in (at_operand (omega (arith, c.tag_at-t.ensures, c.if-t-lt-IS_NULL.false)) c.requires) in (omega arith, k)
+pub returns-in_default : goal.returns-in_default
+returns-in_default c = of_none c.args.c (λ z. omega arith) (λ z. omega arith) (omega arith)
 
-pub returns : goal.returns
-returns c = of_is c.args.c (omega (arith, c.tag_at-t.ensures, c.if-t-lt-IS_NULL.false)) (omega (arith, c.tag_at-t.ensures, c.if-t-gt-IS_NAN.false)) c.cell_at-2.ensures c.is_column.ensures
+pub returns-in_default-2 : goal.returns-in_default-2
+returns-in_default-2 c = of_other c.args.c (omega arith)

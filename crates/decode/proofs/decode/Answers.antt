@@ -1,5 +1,4 @@
 use Rattle.decode.proofs.Laws.{whole, going_start, trees_last, going_on, going_full, going_done}
-use Prim.Native.Nat.{◌-◌}
 use native.Mathlib.Omega.{arith}
 use mathlib.Core.Path.{refl, ◌∙◌}
 use Rattle.decode.proofs.decode.Goals as goal
@@ -24,9 +23,6 @@ put_over-at-requires c = trees_last c.loop-i.invariant.1 c.parts_of-parts.ensure
 
 pub returns-then-x-at : goal.returns-then-x-at
 returns-then-x-at c = going_full c.loop-i.invariant.1 c.parts_of-parts.ensures c.loop-i-test.true c.cell_from-k.ensures c.put_over-at.ensures c.loop-i.invariant.0 c.put_over-at.auto.x (omega arith) (omega arith)
-
-pub loop-i-smaller : goal.loop-i-smaller
-loop-i-smaller c = omega arith
 
 pub loop-i-preserved : goal.loop-i-preserved
 loop-i-preserved c = (c.put_over-at.auto.x ∙ c.loop-i.invariant.0, going_on c.loop-i.invariant.1 c.parts_of-parts.ensures c.loop-i-test.true c.cell_from-k.ensures c.put_over-at.ensures c.put_over-at.auto.x (omega arith))

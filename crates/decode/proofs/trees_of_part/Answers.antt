@@ -1,6 +1,5 @@
 use Rattle.decode.specs.Decode.{part_trees}
 use Rattle.decode.proofs.Trees.{said_at}
-use Prim.Native.Nat.{◌-◌}
 use native.Mathlib.Omega.{arith}
 use mathlib.Core.Path.{refl}
 use Rattle.decode.proofs.trees_of_part.Goals as goal

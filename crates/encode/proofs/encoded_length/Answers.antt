@@ -1,5 +1,4 @@
 use Rattle.encode.proofs.Laws.{lengths}
-use Prim.Native.Nat.{◌-◌}
 use native.Mathlib.Omega.{arith}
 use Rattle.encode.proofs.encoded_length.Goals as goal
 

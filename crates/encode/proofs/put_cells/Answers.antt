@@ -1,29 +1,21 @@
-use Rattle.encode.proofs.Laws.{going_start, cell_inside, cell_room, going_on, going_done}
-use Prim.Native.Nat.{◌-◌}
+use Rattle.encode.proofs.Laws.{cell_room, going_on, going_done}
+use Rattle.cells.specs.Cells.{cell_words, cell_at}
+use Prim.Native.Nat.{◌+◌, ◌*◌}
 use native.Mathlib.Omega.{arith}
-use mathlib.Core.Path.{refl, ◌∙◌}
+use mathlib.Core.Path.{◌≡◌, ap, ◌∙◌}
 use Rattle.encode.proofs.put_cells.Goals as goal
 
-pub loop-i-init : goal.loop-i-init
-loop-i-init c = (refl, going_start c.requires)
-
-pub overflow_add-i : goal.overflow_add-i
-overflow_add-i c = omega (arith, cell_inside c.loop-i.invariant.1 c.loop-i-test.true)
-
-pub cell_at-k-requires : goal.cell_at-k-requires
-cell_at-k-requires c = let (h, j) = cell_inside c.loop-i.invariant.1 c.loop-i-test.true in (omega arith, omega arith)
-
 pub put_cell-to-requires : goal.put_cell-to-requires
-put_cell-to-requires c = cell_room c.loop-i.invariant.1 c.loop-i-test.true c.cell_at-k.ensures c.loop-i.invariant.0
-
-pub overflow_add-i-in-loop-i : goal.overflow_add-i-in-loop-i
-overflow_add-i-in-loop-i c = omega (arith, cell_inside c.loop-i.invariant.1 c.loop-i-test.true)
-
-pub loop-i-smaller : goal.loop-i-smaller
-loop-i-smaller c = omega arith
+put_cell-to-requires c =
+    let next : (c.loop-i.i + 1) * cell_words ≡ c.loop-i.i * cell_words + cell_words = omega arith in
+    cell_room c.loop-i.invariant.1 (omega arith) (c.cell_at-k.ensures ∙ ap (cell_at c.args.x.now) next) c.loop-i.invariant.0
 
 pub loop-i-preserved : goal.loop-i-preserved
-loop-i-preserved c = (c.put_cell-to.auto.out ∙ c.loop-i.invariant.0, going_on c.loop-i.invariant.1 c.loop-i-test.true c.cell_at-k.ensures c.put_cell-to.ensures)
+loop-i-preserved c =
+    let next : (c.loop-i.i + 1) * cell_words ≡ c.loop-i.i * cell_words + cell_words = omega arith in (
+      c.put_cell-to.auto.out ∙ c.loop-i.invariant.0,
+      rw next (going_on c.loop-i.invariant.1 (omega arith) (c.cell_at-k.ensures ∙ ap (cell_at c.args.x.now) next) c.put_cell-to.ensures),
+    )
 
 pub returns : goal.returns
-returns c = going_done c.loop-i.invariant.1 (omega arith)
+returns c = going_done c.loop-i.invariant.1 (omega (arith, c.requires.whole))

@@ -1,18 +1,13 @@
-use Rattle.encode.proofs.Written.{put_bytes}
-use lib.ListN.{length-set}
-use Prim.Native.Nat.{◌-◌}
-use native.Mathlib.Omega.{arith}
-use mathlib.Core.Path.{refl}
+use Rattle.std.specs.Prelude.{ℕ, List, ◌≡◌, ◌+◌, length, take}
+use Rattle.encode.specs.Encode.{written}
+use Rattle.sheet.specs.Bytes.{bytes}
+use Rattle.encode.proofs.Written.{low_bytes, length_bytes}
+use mathlib.Core.Path.{ap, ◌∙◌}
 use Rattle.encode.proofs.put_word.Goals as goal
 
-pub bounds-out-at-2 : goal.bounds-out-at-2
-bounds-out-at-2 c = simp length-set (omega arith)
-
-pub bounds-out-at-3 : goal.bounds-out-at-3
-bounds-out-at-3 c = simp length-set (omega arith)
-
-pub bounds-out-at-4 : goal.bounds-out-at-4
-bounds-out-at-4 c = simp length-set (omega arith)
-
 pub returns : goal.returns
-returns c = (refl, put_bytes c.args.out.now c.args.at c.args.w (omega arith))
+returns c =
+    let e : take 4 c.to_le_bytes.result ≡ bytes c.args.w = ap (take 4) c.to_le_bytes.ensures ∙ low_bytes c.args.w in (
+      c.put.ensures.0 ∙ ap (λ (v : List ℕ). c.args.at + length v) e ∙ ap (λ (k : ℕ). c.args.at + k) (length_bytes c.args.w),
+      c.put.ensures.1 ∙ ap (written c.args.out.now c.args.at) e,
+    )

@@ -2,6 +2,7 @@
 use Rattle.evaluate.proofs.Laws.{binary_at, binary_else}
 use Rattle.value.specs.Meaning.{meaning}
 use mathlib.Core.Path.{◌∙◌}
+use borrow.Author.Rules.{rules}
 use Rattle.evaluate.proofs.evaluate_binary.Goals as goal
 
 pub returns-in-10 : goal.returns-in-10
@@ -29,4 +30,4 @@ pub returns-in-18 : goal.returns-in-18
 returns-in-18 c = λ p e. c.checked_mul.ensures c.args.text.now ∙ binary_at p e 18 c.in-18.is (meaning c.args.text.now c.args.v) (meaning c.args.text.now c.args.w)
 
 pub returns-in_default : goal.returns-in_default
-returns-in_default c = λ p e. c.checked_div.ensures c.args.text.now ∙ binary_else p e c.in_default.in_default-own.rest.0.0.0.0.0.0.0.1 c.in_default.in_default-own.rest.0.0.0.0.0.0.1 c.in_default.in_default-own.rest.0.0.0.0.0.1 c.in_default.in_default-own.rest.0.0.0.0.1 c.in_default.in_default-own.rest.0.0.0.1 c.in_default.in_default-own.rest.0.0.1 c.in_default.in_default-own.rest.0.1 c.in_default.in_default-own.rest.1 (meaning c.args.text.now c.args.v) (meaning c.args.text.now c.args.w)
+returns-in_default c = λ p e. c.checked_div.ensures c.args.text.now ∙ binary_else p e (search rules) (search rules) (search rules) (search rules) (search rules) (search rules) (search rules) (search rules) (meaning c.args.text.now c.args.v) (meaning c.args.text.now c.args.w)

@@ -2,6 +2,7 @@
 use Rattle.evaluate.proofs.Laws.{unary_at, unary_else}
 use Rattle.value.specs.Meaning.{meaning}
 use mathlib.Core.Path.{◌∙◌}
+use borrow.Author.Rules.{rules}
 use Rattle.evaluate.proofs.evaluate_unary.Goals as goal
 
 pub returns-in-30 : goal.returns-in-30
@@ -20,4 +21,4 @@ pub returns-in-36 : goal.returns-in-36
 returns-in-36 c = λ text p e. c.square_root.ensures text ∙ unary_at p e 36 c.in-36.is (meaning text c.args.v)
 
 pub returns-in_default : goal.returns-in_default
-returns-in_default c = λ text p e. c.negate.ensures text ∙ unary_else p e c.in_default.in_default-own.rest.0.0.0.0.1 c.in_default.in_default-own.rest.0.0.0.1 c.in_default.in_default-own.rest.0.0.1 c.in_default.in_default-own.rest.0.1 c.in_default.in_default-own.rest.1 (meaning text c.args.v)
+returns-in_default c = λ text p e. c.negate.ensures text ∙ unary_else p e (search rules) (search rules) (search rules) (search rules) (search rules) (meaning text c.args.v)

@@ -7,6 +7,7 @@ use lib.Ieee.{binary64}
 use lib.Ieee as Ieee
 use lib.IntN.{ℤ}
 use mathlib.Core.Path.{ap, ◌∙◌}
+use borrow.Author.Rules.{rules}
 use Rattle.evaluate.proofs.value_of.Goals as goal
 
 pub joined-requires : goal.joined-requires
@@ -28,4 +29,4 @@ pub returns-in-4 : goal.returns-in-4
 returns-in-4 c = λ text og v f e. ap (λ (x : Ieee.Float). datum (float (Ieee.to_bits binary64 x))) (c.float_of_bits.ensures ∙ ap (Ieee.of_bits binary64) c.joined-in-4.ensures) ∙ said_at text og v f e 4 c.in-4.is
 
 pub returns-in_default : goal.returns-in_default
-returns-in_default c = λ text og v f e. said_else text og v f e c.in_default.in_default-own.rest.0.0.0.1 c.in_default.in_default-own.rest.0.0.1 c.in_default.in_default-own.rest.0.1 c.in_default.in_default-own.rest.1
+returns-in_default c = λ text og v f e. said_else text og v f e (search rules) (search rules) (search rules) (search rules)

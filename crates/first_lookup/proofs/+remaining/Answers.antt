@@ -2,7 +2,7 @@ use Rattle.first_lookup.proofs.Leaving.{left_gathered, leaves_and, leaves_one}
 use Rattle.first_lookup.specs.First.{marks_in}
 use Rattle.cells.specs.Cells.{tag_at}
 use Rattle.words.proofs.Expressions.{at_in, at_last, at_left, at_right}
-use Prim.Native.Nat.{◌-◌, ◌≤◌, ◌<◌}
+use Prim.Native.Nat.{◌≤◌, ◌<◌}
 use native.Mathlib.Omega.{arith}
 use mathlib.Core.Path.{sym, ◌∙◌}
 use Rattle.first_lookup.proofs.+remaining.Goals as goal

@@ -10,7 +10,7 @@ pub returns-then-k-lt-INTEGER : goal.returns-then-k-lt-INTEGER
 returns-then-k-lt-INTEGER c = neutral_value c.args.place c.args.origin c.requires.few c.cell_at-k.ensures (omega (arith, c.if-k-lt-INTEGER.true)) c.with_origin.ensures c.put.ensures.0
 
 pub returns-then-k-lt-COLUMN : goal.returns-then-k-lt-COLUMN
-returns-then-k-lt-COLUMN c = neutral_mismatch c.args.place c.args.origin c.cell_at-k.ensures (omega (arith, c.if-k-lt-INTEGER.false)) (omega (arith, c.if-k-lt-COLUMN.true)) c.number.ensures
+returns-then-k-lt-COLUMN c = neutral_mismatch c.args.place c.args.origin c.cell_at-k.ensures (omega (arith, c.if-k-lt-INTEGER.false)) (omega (arith, c.if-k-lt-COLUMN.true))
 
 pub returns : goal.returns
 returns c = neutral_column c.args.place c.args.origin c.cell_at-k.ensures (omega (arith, c.if-k-lt-COLUMN.false))

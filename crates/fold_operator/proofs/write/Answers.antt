@@ -6,4 +6,4 @@ pub returns-in-Ok : goal.returns-in-Ok
 returns-in-Ok c = value_written c.args.place c.args.origin c.in-Ok.v c.cell_of.ensures c.put.ensures.0 c.args.r c.in-Ok.is
 
 pub returns-in-Err : goal.returns-in-Err
-returns-in-Err c = error_written c.args.place c.args.origin c.in-Err.e c.number.ensures c.args.r c.in-Err.is
+returns-in-Err c = error_written c.args.place c.args.origin c.in-Err.error c.args.r c.in-Err.is

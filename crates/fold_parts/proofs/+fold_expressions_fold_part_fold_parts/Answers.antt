@@ -1,5 +1,6 @@
+use Rattle.std.proofs.lemmas.Result.{err_from_is_err_and}
 use Rattle.fold_parts.proofs.Parts.{parts_in, last_size, those_at, last_at, parts_bound, parts_none, parts_refused, parts_done, part_at_in, alone_at, number_low, under_at, under_tag, part_alone, parts_one, under_refused, under_done}
-use Prim.Native.Nat.{◌-◌, ◌<◌}
+use Prim.Native.Nat.{◌<◌}
 use native.Mathlib.Omega.{arith}
 use mathlib.Core.Path.{sym, ◌∙◌}
 use Rattle.fold_parts.proofs.+fold_expressions_fold_part_fold_parts.Goals as goal
@@ -40,11 +41,11 @@ fold_part-fold_expressions-requires t c = let (h, k) = part_at_in c.requires.par
 pub fold_part-cell_at-requires : goal.fold_part-cell_at-requires
 fold_part-cell_at-requires t c = let (h, k) = part_at_in c.requires.part_at in (omega arith, k)
 
-pub fold_part-returns-in-Done : goal.fold_part-returns-in-Done
-fold_part-returns-in-Done t c = under_done (omega (arith, c.tag_at.ensures, c.if-tag_at-lt-PARTS.false)) c.fold_expressions.ensures c.requires.part_at c.in-Done.is c.requires.lo_in_bounds c.fold_expressions.auto.d c.cell_at.ensures c.put.ensures.0
+pub fold_part-returns : goal.fold_part-returns
+fold_part-returns t c = under_done (omega (arith, c.tag_at.ensures, c.if-tag_at-lt-PARTS.false)) c.fold_expressions.ensures c.requires.part_at c.in_ok-n.was c.requires.lo_in_bounds c.fold_expressions.auto.d c.cell_at.ensures c.put.ensures.0
 
-pub fold_part-returns-in-Refused : goal.fold_part-returns-in-Refused
-fold_part-returns-in-Refused t c = under_refused (omega (arith, c.tag_at.ensures, c.if-tag_at-lt-PARTS.false)) c.fold_expressions.ensures c.in-Refused.is
+pub fold_part-returns-in_err-n : goal.fold_part-returns-in_err-n
+fold_part-returns-in_err-n t c = let same = err_from_is_err_and c.from_residual.result c.from_residual.ensures.1 in rw (same.1, same.2) (under_refused (omega (arith, c.tag_at.ensures, c.if-tag_at-lt-PARTS.false)) c.fold_expressions.ensures c.in_err-n.was)
 
 pub fold_parts-returns-then-hi-lo : goal.fold_parts-returns-then-hi-lo
 fold_parts-returns-then-hi-lo t c = parts_none c.if-hi-lo.true
@@ -56,10 +57,10 @@ pub fold_parts-fold_parts-requires : goal.fold_parts-fold_parts-requires
 fold_parts-fold_parts-requires t c = let (h, k) = part_at_in (last_at (omega (arith, c.if-hi-lo.false)) c.start-mid.ensures c.requires.parts_at) in let u = those_at (omega (arith, c.if-hi-lo.false)) c.start-mid.ensures c.requires.parts_at in let (i, j) = parts_in u in (omega (arith, c.decreases), (u, (omega (arith, c.requires.lo_in_bounds.0), c.requires.lo_in_bounds.1)))
 
 pub fold_parts-fold_part-requires : goal.fold_parts-fold_part-requires
-fold_parts-fold_part-requires t c = let u = last_at (omega (arith, c.if-hi-lo.false)) c.start-mid.ensures c.requires.parts_at in let (h, k) = part_at_in u in let (i, j) = parts_in (those_at (omega (arith, c.if-hi-lo.false)) c.start-mid.ensures c.requires.parts_at) in (omega (arith, c.decreases), (u, (omega (arith, c.requires.lo_in_bounds.0, parts_bound c.in-Done.is c.fold_parts.ensures, c.fold_parts.auto.d), omega (arith, c.requires.lo_in_bounds.1, c.fold_parts.auto.d))))
+fold_parts-fold_part-requires t c = let u = last_at (omega (arith, c.if-hi-lo.false)) c.start-mid.ensures c.requires.parts_at in let (h, k) = part_at_in u in let (i, j) = parts_in (those_at (omega (arith, c.if-hi-lo.false)) c.start-mid.ensures c.requires.parts_at) in (omega (arith, c.decreases), (u, (omega (arith, c.requires.lo_in_bounds.0, parts_bound c.in_ok-m.was c.fold_parts.ensures, c.fold_parts.auto.d), omega (arith, c.requires.lo_in_bounds.1, c.fold_parts.auto.d))))
 
-pub fold_parts-returns-in-Done : goal.fold_parts-returns-in-Done
-fold_parts-returns-in-Done t c = let (h, k) = part_at_in (last_at (omega (arith, c.if-hi-lo.false)) c.start-mid.ensures c.requires.parts_at) in let (i, j) = parts_in (those_at (omega (arith, c.if-hi-lo.false)) c.start-mid.ensures c.requires.parts_at) in parts_done (omega (arith, c.if-hi-lo.false)) c.start-mid.ensures c.fold_parts.ensures c.in-Done.is i (omega arith) c.fold_part.ensures
+pub fold_parts-returns : goal.fold_parts-returns
+fold_parts-returns t c = let (h, k) = part_at_in (last_at (omega (arith, c.if-hi-lo.false)) c.start-mid.ensures c.requires.parts_at) in let (i, j) = parts_in (those_at (omega (arith, c.if-hi-lo.false)) c.start-mid.ensures c.requires.parts_at) in parts_done (omega (arith, c.if-hi-lo.false)) c.start-mid.ensures c.fold_parts.ensures c.in_ok-m.was i (omega arith) c.fold_part.ensures
 
-pub fold_parts-returns-in-Refused : goal.fold_parts-returns-in-Refused
-fold_parts-returns-in-Refused t c = parts_refused (omega (arith, c.if-hi-lo.false)) c.start-mid.ensures c.fold_parts.ensures c.in-Refused.is
+pub fold_parts-returns-in_err-m : goal.fold_parts-returns-in_err-m
+fold_parts-returns-in_err-m t c = let same = err_from_is_err_and c.from_residual.result c.from_residual.ensures.1 in rw (same.1, same.2) (parts_refused (omega (arith, c.if-hi-lo.false)) c.start-mid.ensures c.fold_parts.ensures c.in_err-m.was)

@@ -5,10 +5,10 @@ use mathlib.Core.Path.{subst}
 use Rattle.hand_out.proofs.hand_out.Goals as goal
 
 pub write-requires : goal.write-requires
-write-requires c = left_written (subst (AnsweredAt c.args.s.now c.args.x.now) c.in-Done.is c.requires.answered_at)
+write-requires c = left_written (subst (AnsweredAt c.args.s.now c.args.x.now) c.in-Ok.is c.requires.answered_at)
 
-pub returns-in-Done : goal.returns-in-Done
-returns-in-Done c = hands_done_as c.args.s.now c.args.x.now _ c.args.columns c.args.out.now _ _ c.args.r c.in-Done.is c.write.ensures
+pub returns-in-Ok : goal.returns-in-Ok
+returns-in-Ok c = hands_done_as c.args.s.now c.args.x.now _ c.args.columns c.args.out.now _ _ c.args.r c.in-Ok.is c.write.ensures
 
-pub returns-in-Refused : goal.returns-in-Refused
-returns-in-Refused c = hands_refused_as c.args.s.now c.args.x.now _ _ c.args.columns c.args.out.now _ c.args.r c.in-Refused.is c.refusal.ensures
+pub returns-in-Err : goal.returns-in-Err
+returns-in-Err c = hands_refused_as c.args.s.now c.args.x.now _ c.args.columns c.args.out.now _ c.args.r c.in-Err.is c.refused.ensures

@@ -12,8 +12,8 @@ finish-requires c = join_in c.requires
 pub returns-then-m-end : goal.returns-then-m-end
 returns-then-m-end c = rewrites_alone c.args.n c.if-m-end.true c.finish.ensures
 
-pub equijoin-columns-requires : goal.equijoin-columns-requires
-equijoin-columns-requires c = predicate_at c.requires c.if-m-end.false
+pub invariant_of-predicate : goal.invariant_of-predicate
+invariant_of-predicate c = record { stands = ∣ predicate_at c.requires c.if-m-end.false ∣₁ }
 
 pub finish-requires-in_default : goal.finish-requires-in_default
 finish-requires-in_default c = join_in c.requires
@@ -25,4 +25,4 @@ pub cell_at-requires : goal.cell_at-requires
 cell_at-requires c = let (h, k) = join_in c.requires in (omega arith, k)
 
 pub returns : goal.returns
-returns c = rewrites_hash c.args.n c.if-m-end.false c.equijoin-columns.ensures (pair_told c.in-Pair.is c.one_on_each_side.ensures) c.cell_at.ensures c.hash_join_cell-cell.ensures c.put.ensures.0
+returns c = rewrites_hash c.args.n c.if-m-end.false c.equijoin-columns.ensures (pair_told c.in-Some.is c.one_on_each_side.ensures) c.cell_at.ensures c.hash_join_cell-cell.ensures c.put.ensures.0

@@ -14,11 +14,5 @@ columns-requires c = c.requires.columns_at
 pub returns-then-tag-eq-AGGREGATE : goal.returns-then-tag-eq-AGGREGATE
 returns-then-tag-eq-AGGREGATE c = c.columns.ensures
 
-pub columns-requires-then-tag-ge-PROJECTION : goal.columns-requires-then-tag-ge-PROJECTION
-columns-requires-then-tag-ge-PROJECTION c = c.requires.columns_at
-
-pub returns-then-tag-ge-PROJECTION : goal.returns-then-tag-ge-PROJECTION
-returns-then-tag-ge-PROJECTION c = c.columns-then-tag-ge-PROJECTION.ensures
-
 pub returns : goal.returns
 returns c = columns_through c.requires.source_count c.requires.own_start refl c.requires.column_count c.tag_at-tag.ensures c.if-tag-eq-AGGREGATE.false c.if-tag-ge-PROJECTION.false

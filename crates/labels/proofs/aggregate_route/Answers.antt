@@ -1,7 +1,6 @@
 use Rattle.labels.proofs.Routes.{aggregate_ends, groups_behind, group_ends, aggregate_goes}
 use Rattle.nodes.proofs.Trees.{trees_few}
 use Rattle.nodes.proofs.Own.{at_in}
-use Prim.Native.Nat.{◌-◌}
 use native.Mathlib.Omega.{arith}
 use Rattle.labels.proofs.aggregate_route.Goals as goal
 

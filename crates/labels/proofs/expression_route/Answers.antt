@@ -1,5 +1,4 @@
 use Rattle.labels.proofs.Routes.{expression_in, to_column, no_column}
-use Prim.Native.Nat.{◌-◌}
 use Rattle.labels.proofs.expression_route.Goals as goal
 
 pub cell_at-c-requires : goal.cell_at-c-requires

@@ -1,5 +1,4 @@
 use Rattle.labels.proofs.Routes.{item_in, item_expression, to_expression, own_label}
-use Prim.Native.Nat.{◌-◌}
 use native.Mathlib.Omega.{arith}
 use Rattle.labels.proofs.item_route.Goals as goal
 

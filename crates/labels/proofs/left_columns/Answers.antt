@@ -1,6 +1,5 @@
 use Rattle.labels.proofs.Tracing.{left_counted, right_below, left_by_right}
 use Rattle.nodes.proofs.Widths.{columns_node, sources_in, left_columns_at, right_columns_at}
-use Prim.Native.Nat.{◌-◌}
 use native.Mathlib.Omega.{arith}
 use Rattle.labels.proofs.left_columns.Goals as goal
 
@@ -13,8 +12,8 @@ overflow_sub-m c = let (a, (b, d)) = sources_in c.requires.source_count c.requir
 pub columns-requires : goal.columns-requires
 columns-requires c = left_columns_at c.requires.source_count c.requires.own_start c.requires.mid_value c.requires.counted_at.at
 
-pub returns-then-mid-lo : goal.returns-then-mid-lo
-returns-then-mid-lo c = left_counted c.requires.source_count c.requires.own_start c.requires.mid_value c.columns.ensures
+pub returns-then-mid-spot : goal.returns-then-mid-spot
+returns-then-mid-spot c = left_counted c.requires.source_count c.requires.own_start c.requires.mid_value c.columns.ensures
 
 pub columns-right-requires : goal.columns-right-requires
 columns-right-requires c = right_columns_at c.requires.source_count c.requires.own_start c.requires.mid_value c.requires.counted_at.at

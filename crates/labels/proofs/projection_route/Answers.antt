@@ -1,6 +1,5 @@
 use Rattle.labels.proofs.Routes.{projection_ends, items_behind, item_ends, projection_goes}
 use Rattle.nodes.proofs.Own.{at_in}
-use Prim.Native.Nat.{◌-◌}
 use native.Mathlib.Omega.{arith}
 use Rattle.labels.proofs.projection_route.Goals as goal
 

@@ -1,8 +1,6 @@
 -- `layout::bad_cell` meets its contract: the loop's invariant is that no cell passed so far fails.
 use Rattle.layout.proofs.Cells.{tested, cells_walked}
 use Rattle.layout.proofs.Failing.{passed_none, passed_more, passed_but, passed_all}
-use borrow.Author.Tests.{not-true, not-false}
-use Prim.Native.Nat.{◌-◌}
 use Rattle.layout.proofs.bad_cell.Goals as goal
 
 pub loop-i-init : goal.loop-i-init

@@ -1,7 +1,6 @@
 -- `layout::bad_column` meets its contract: the loop's invariant is that no record behind the tables passed so far fails.
 use Rattle.layout.proofs.Laws.{column_out, column_in, record_column, columns_walked}
 use Rattle.layout.proofs.Failing.{goes_from, passed_more, passed_but, passed_all}
-use borrow.Author.Tests.{not-true, not-false}
 use Prim.Native.Nat.{◌-◌}
 use native.Mathlib.Omega.{arith}
 use mathlib.Core.Path.{sym, ◌∙◌}

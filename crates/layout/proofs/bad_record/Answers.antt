@@ -1,8 +1,6 @@
 -- `layout::bad_record` meets its contract: the loop's invariant is that no table passed so far fails, and the columns are left behind them.
 use Rattle.layout.proofs.Laws.{tables_are, columns_are, record_table, records_walked}
 use Rattle.layout.proofs.Failing.{passed_none, passed_more, passed_but, passed_to}
-use borrow.Author.Tests.{not-true, not-false}
-use Prim.Native.Nat.{◌-◌}
 use native.Mathlib.Omega.{arith}
 use mathlib.Core.Path.{sym, ◌∙◌}
 use Rattle.layout.proofs.bad_record.Goals as goal

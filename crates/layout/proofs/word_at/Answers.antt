@@ -1,8 +1,8 @@
 -- `layout::word_at` meets its contract: the bytes that it read are those of the definition.
-use Rattle.layout.proofs.Laws.{word_is}
+use native.Mathlib.Omega.{arith}
+use Rattle.sheet.specs.Bytes.{word}
 use Rattle.layout.proofs.word_at.Goals as goal
 
 pub returns : goal.returns
-returns c =
-    word_is _ _ c.wide.ensures c.wide-2.ensures
-    c.wide-3.ensures c.wide-4.ensures
+unfolding word
+returns c = record { is = omega (arith, c.from_le_bytes.ensures); small = c.from_le_bytes.type_inv }

@@ -1,12 +1,8 @@
 use Rattle.listing.proofs.Written.{lines_to}
 use Rattle.cells.specs.Room.{Wrote}
-use Prim.Native.Nat.{◌-◌, ◌≤◌}
 use mathlib.Core.Path.{◌≡◌}
 use lib.ListN.{length}
 use Rattle.listing.proofs.cell_lines.Given as goal
 
 abbrev pub invariant-loop-i : goal.invariant-loop-i
-invariant-loop-i l = (l.i ≤ l.count) × ((length l.d ≡ length l.initial.d) × Wrote l.initial.d l.at (lines_to l.s l.i) l.m l.d)
-
-abbrev pub decreases-loop-i : goal.decreases-loop-i
-decreases-loop-i l = l.count - l.i
+invariant-loop-i l = (length l.d ≡ length l.initial.d) × Wrote l.initial.d l.at (lines_to l.s l.i) l.m l.d

@@ -1,3 +1,4 @@
+use borrow.Author.Tests.{ne_eqb}
 use Rattle.words.proofs.Nodes.{node_in}
 use Rattle.lookup_step.proofs.Steps.{filter_by_flag, filter_none}
 use native.Mathlib.Omega.{arith}
@@ -9,5 +10,5 @@ cell_at-k-requires c = let (h, k) = node_in c.requires.p c.requires.here in (ome
 pub returns-then-k-eq-SCAN : goal.returns-then-k-eq-SCAN
 returns-then-k-eq-SCAN c = filter_by_flag c.cell_at-k.ensures c.if-k-eq-SCAN.true
 
-pub returns : goal.returns
-returns c = filter_none c.cell_at-k.ensures c.if-k-eq-SCAN.false
+pub returns-else-k-eq-SCAN : goal.returns-else-k-eq-SCAN
+returns-else-k-eq-SCAN c = simp (ne_eqb _ _ c.if-k-eq-SCAN.false) (filter_none c.cell_at-k.ensures c.if-k-eq-SCAN.false)

@@ -7,11 +7,11 @@ use Rattle.lookup_step.proofs.index_lookup.Goals as goal
 pub has_filter-requires : goal.has_filter-requires
 has_filter-requires c = stream_node c.requires.stream_at
 
-pub overflow_sub-hi : goal.overflow_sub-hi
-overflow_sub-hi c = let (h, k) = stream_in c.requires.stream_at in omega arith
+pub overflow_sub-filter : goal.overflow_sub-filter
+overflow_sub-filter c = let (h, k) = stream_in c.requires.stream_at in omega arith
 
 pub into_cnf-m-requires : goal.into_cnf-m-requires
-into_cnf-m-requires c = record { expression_at = filter_at c.has_filter.ensures c.requires.source_count c.if-has_filter.true c.requires.stream_at; z_len = (c.requires.z_len.0 ∙ sym c.requires.z_len.1, omega (arith, c.requires.stream_at.short_out, c.requires.z_len.1)) }
+into_cnf-m-requires c = (c.requires.z_len.0 ∙ sym c.requires.z_len.1, omega (arith, c.requires.stream_at.short_out, c.requires.z_len.1))
 
 pub returns-then-w-m : goal.returns-then-w-m
 returns-then-w-m c = leaf_refused c.has_filter.ensures c.requires.source_count c.if-has_filter.true c.into_cnf-m.ensures (c.into_cnf-m.auto.w ∙ c.requires.z_len.1) c.if-w-m.true
@@ -27,3 +27,6 @@ copy-requires c = let (h, k) = stream_in c.requires.stream_at in (omega arith, k
 
 pub returns : goal.returns
 returns c = leaf_copied c.has_filter.ensures c.requires.source_count c.if-has_filter.false c.copy.auto.d c.copy.ensures
+
+pub invariant_of-filter : goal.invariant_of-filter
+invariant_of-filter c = record { stands = ∣ filter_at c.has_filter.ensures c.requires.source_count c.if-has_filter.true c.requires.stream_at ∣₁ }

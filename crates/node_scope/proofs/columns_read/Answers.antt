@@ -1,5 +1,4 @@
 -- `node_scope::columns_read` meets its contract: the table's columns, or those of the sources, by the tag.
-use Prim.Native.Nat.{◌-◌}
 use native.Mathlib.Omega.{arith}
 use mathlib.Core.Path.{sym, ◌∙◌}
 use borrow.Author.Rules.{rules}

@@ -1,10 +1,6 @@
-use Prim.Native.Nat.{◌-◌, ◌≤◌}
 use mathlib.Core.Path.{◌≡◌}
 use Rattle.node_scope.specs.Own.{segment, first_row}
 use Rattle.node_scope.proofs.first_row.Given as goal
 
 abbrev pub invariant-loop-i : goal.invariant-loop-i
-invariant-loop-i l = (l.from ≤ l.i) × ((l.i ≤ l.to) × (first_row (segment l.s l.i l.to) ≡ first_row (segment l.s l.from l.to)))
-
-abbrev pub decreases-loop-i : goal.decreases-loop-i
-decreases-loop-i l = l.to - l.i
+invariant-loop-i l = first_row (segment l.s l.i l.to) ≡ first_row (segment l.s l.from l.to)

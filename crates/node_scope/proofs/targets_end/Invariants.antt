@@ -1,10 +1,7 @@
-use Prim.Native.Nat.{◌-◌, ◌≤◌, max}
+use Prim.Native.Nat.{◌≤◌, max}
 use mathlib.Core.Path.{◌≡◌}
 use Rattle.node_scope.specs.Own.{segment, targets_end}
 use Rattle.node_scope.proofs.targets_end.Given as goal
 
 abbrev pub invariant-loop-i : goal.invariant-loop-i
-invariant-loop-i l = ((l.i ≤ l.to) × (l.end ≤ 4294967296)) × (max l.end (targets_end (segment l.s l.i l.to)) ≡ targets_end (segment l.s l.from l.to))
-
-abbrev pub decreases-loop-i : goal.decreases-loop-i
-decreases-loop-i l = l.to - l.i
+invariant-loop-i l = (l.end ≤ 4294967296) × (max l.end (targets_end (segment l.s l.i l.to)) ≡ targets_end (segment l.s l.from l.to))

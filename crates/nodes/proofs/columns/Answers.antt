@@ -1,5 +1,4 @@
 use Rattle.nodes.proofs.Widths.{counting_first, counting_size, counting_in, counting_at, counting_columns_at, counting_few, counting_own, counting_said, counting_through, counting_done, through_as}
-use Prim.Native.Nat.{◌-◌}
 use native.Mathlib.Omega.{arith}
 use Rattle.nodes.proofs.columns.Goals as goal
 
@@ -15,14 +14,14 @@ own_start-m-requires c = counting_at c.loop-end.invariant c.requires c.loop-end-
 pub goes_through-requires : goal.goes_through-requires
 goes_through-requires c = counting_at c.loop-end.invariant c.requires c.loop-end-test.true c.start-from.ensures
 
-pub loop-end-smaller-then-goes_through-eq1 : goal.loop-end-smaller-then-goes_through-eq1
-loop-end-smaller-then-goes_through-eq1 c = counting_own c.loop-end.invariant c.requires c.loop-end-test.true c.start-from.ensures c.goes_through.ensures c.if-goes_through-eq1.true c.own_start-m.ensures
+pub loop-end-smaller-then-goes_through : goal.loop-end-smaller-then-goes_through
+loop-end-smaller-then-goes_through c = counting_own c.loop-end.invariant c.requires c.loop-end-test.true c.start-from.ensures c.goes_through.ensures c.if-goes_through.true c.own_start-m.ensures
 
-pub loop-end-preserved-then-goes_through-eq1 : goal.loop-end-preserved-then-goes_through-eq1
-loop-end-preserved-then-goes_through-eq1 c = counting_through c.loop-end.invariant c.loop-end-test.true c.start-from.ensures c.requires c.goes_through.ensures c.if-goes_through-eq1.true c.own_start-m.ensures
+pub loop-end-preserved-then-goes_through : goal.loop-end-preserved-then-goes_through
+loop-end-preserved-then-goes_through c = counting_through c.loop-end.invariant c.loop-end-test.true c.start-from.ensures c.requires c.goes_through.ensures c.if-goes_through.true c.own_start-m.ensures
 
 pub said_columns-total-requires : goal.said_columns-total-requires
-said_columns-total-requires c = record { columns_at = counting_columns_at c.loop-end.invariant c.requires c.loop-end-test.true c.start-from.ensures; own_start = c.own_start-m.ensures; goes_through = through_as c.goes_through.ensures c.if-goes_through-eq1.false }
+said_columns-total-requires c = record { columns_at = counting_columns_at c.loop-end.invariant c.requires c.loop-end-test.true c.start-from.ensures; own_start = c.own_start-m.ensures; goes_through = through_as c.goes_through.ensures c.if-goes_through.false }
 
 pub overflow_add-total : goal.overflow_add-total
 overflow_add-total c = omega (arith, counting_few c.loop-end.invariant c.requires c.loop-end-test.true c.start-from.ensures c.said_columns-total.ensures)

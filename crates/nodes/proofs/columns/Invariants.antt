@@ -1,5 +1,4 @@
 use Rattle.nodes.proofs.Widths.{Counting}
-use Prim.Native.Nat.{◌-◌}
 use Rattle.nodes.proofs.columns.Given as goal
 
 abbrev pub invariant-loop-end : goal.invariant-loop-end

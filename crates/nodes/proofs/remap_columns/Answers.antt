@@ -1,5 +1,4 @@
 use Rattle.nodes.proofs.Widths.{remaining_all, remaining_in, remaining_few, remaining_next, remaining_none}
-use Prim.Native.Nat.{◌-◌}
 use native.Mathlib.Omega.{arith}
 use Rattle.nodes.proofs.remap_columns.Goals as goal
 
@@ -15,11 +14,12 @@ cell_at-c-requires c = let (h, k) = remaining_in c.requires.targets (c.loop-i.in
 pub past_target-n-requires : goal.past_target-n-requires
 past_target-n-requires c = remaining_few c.requires.targets (c.loop-i.invariant c.requires.targets c.requires.part) (omega arith) c.cell_at-c.ensures c.requires.few
 
-pub loop-i-smaller : goal.loop-i-smaller
-loop-i-smaller c = omega arith
-
 pub loop-i-preserved : goal.loop-i-preserved
 loop-i-preserved c = λ ts p. remaining_next ts (c.loop-i.invariant ts p) (omega arith) c.cell_at-c.ensures c.past_target-n.ensures
 
 pub returns : goal.returns
 returns c = λ ts p. remaining_none ts (c.loop-i.invariant ts p) (omega arith)
+
+-- after the last Target
+pub returns-2 : goal.returns-2
+returns-2 c = λ ts p. remaining_none ts (remaining_next ts (c.loop-i.invariant ts p) (omega arith) c.cell_at-c.ensures c.past_target-n.ensures) (omega arith)

@@ -1,5 +1,4 @@
 use Rattle.nodes.proofs.Widths.{columns_node, counted_as, one_source, own_tag}
-use Prim.Native.Nat.{◌-◌}
 use Rattle.nodes.proofs.said_columns.Goals as goal
 
 pub source_count-requires : goal.source_count-requires

@@ -1,30 +1,30 @@
 use Rattle.nodes.proofs.Own.{at_in, tag_in, count_told, told_low, told_lookup, told_high, told_last}
 use Rattle.words.proofs.Tags.{told}
-use Prim.Native.Nat.{◌-◌}
 use native.Mathlib.Omega.{arith}
+use mathlib.Core.Logic.{⊎_elim}
 use mathlib.Core.Path.{ap}
 use Rattle.nodes.proofs.source_count.Goals as goal
 
-pub tag_at-tag-requires : goal.tag_at-tag-requires
-tag_at-tag-requires c = let (h, k) = at_in c.requires in (omega arith, k)
+pub tag_at-requires : goal.tag_at-requires
+tag_at-requires c = let (h, k) = at_in c.requires in (omega arith, k)
 
-pub returns-then-tag-eq-HASH_JOIN : goal.returns-then-tag-eq-HASH_JOIN
-returns-then-tag-eq-HASH_JOIN c = count_told c.tag_at-tag.ensures (ap told c.if-tag-eq-HASH_JOIN.true)
+pub returns-in-52 : goal.returns-in-52
+returns-in-52 c = count_told c.tag_at.ensures (⊎_elim (ap told) (ap told) c.in-52.is)
 
-pub returns-then-tag-eq-NESTED_LOOP_JOIN : goal.returns-then-tag-eq-NESTED_LOOP_JOIN
-returns-then-tag-eq-NESTED_LOOP_JOIN c = count_told c.tag_at-tag.ensures (ap told c.if-tag-eq-NESTED_LOOP_JOIN.true)
+pub returns-in-53 : goal.returns-in-53
+returns-in-53 c = count_told c.tag_at.ensures (ap told c.in-53.is)
 
-pub returns-then-tag-lt-INDEX_LOOKUP : goal.returns-then-tag-lt-INDEX_LOOKUP
-returns-then-tag-lt-INDEX_LOOKUP c = let (h, k) = tag_in c.requires c.tag_at-tag.ensures in count_told c.tag_at-tag.ensures (told_low h c.if-tag-eq-HASH_JOIN.false c.if-tag-lt-INDEX_LOOKUP.true)
+pub returns-in-53-2 : goal.returns-in-53-2
+returns-in-53-2 c = count_told c.tag_at.ensures (told_lookup (grind arith) (omega arith))
 
-pub returns-then-tag-lt-LIMIT : goal.returns-then-tag-lt-LIMIT
-returns-then-tag-lt-LIMIT c = count_told c.tag_at-tag.ensures (told_lookup c.if-tag-lt-INDEX_LOOKUP.false c.if-tag-lt-LIMIT.true)
+pub returns-in-53-3 : goal.returns-in-53-3
+returns-in-53-3 c = count_told c.tag_at.ensures (told_last (omega arith) (omega arith))
 
-pub returns-then-tag-eq-NOTHING : goal.returns-then-tag-eq-NOTHING
-returns-then-tag-eq-NOTHING c = count_told c.tag_at-tag.ensures (ap told c.if-tag-eq-NOTHING.true)
+pub returns-in_default : goal.returns-in_default
+returns-in_default c = let (h, k) = tag_in c.requires c.tag_at.ensures in count_told c.tag_at.ensures (told_low h (λ z. omega arith) (omega arith))
 
-pub returns-then-tag-lt-SCAN : goal.returns-then-tag-lt-SCAN
-returns-then-tag-lt-SCAN c = count_told c.tag_at-tag.ensures (told_high c.if-tag-lt-LIMIT.false c.if-tag-eq-NESTED_LOOP_JOIN.false c.if-tag-eq-NOTHING.false c.if-tag-lt-SCAN.true)
+pub returns-in_default-2 : goal.returns-in_default-2
+returns-in_default-2 c = count_told c.tag_at.ensures (told_high (omega arith) (λ z. grind arith) (λ z. omega arith) (omega arith))
 
-pub returns : goal.returns
-returns c = let (h, k) = tag_in c.requires c.tag_at-tag.ensures in count_told c.tag_at-tag.ensures (told_last c.if-tag-lt-SCAN.false k)
+pub returns-in_default-3 : goal.returns-in_default-3
+returns-in_default-3 c = let (h, k) = tag_in c.requires c.tag_at.ensures in absurd (omega arith)

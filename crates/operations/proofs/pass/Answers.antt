@@ -1,5 +1,4 @@
 use Rattle.operations.proofs.Checking.{no_pass_0, no_pass_6, pass_refused, stands, fits, pass_run}
-use Prim.Native.Nat.{◌-◌}
 use native.Mathlib.Omega.{arith}
 use Rattle.operations.proofs.pass.Goals as goal
 

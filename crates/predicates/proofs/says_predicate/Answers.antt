@@ -1,17 +1,13 @@
-use Rattle.predicates.proofs.Search.{part_isnt, filter_is, join_by_bit, scan_by_bit, another_isnt}
+use Rattle.predicates.proofs.Search.{filter_is, join_by_bit, scan_by_bit, another_isnt}
+use native.Mathlib.Omega.{arith}
+use mathlib.Core.Logic.{⊎_elim}
 use Rattle.predicates.proofs.says_predicate.Goals as goal
 
-pub returns-then-tag-lt-FILTER : goal.returns-then-tag-lt-FILTER
-returns-then-tag-lt-FILTER c = part_isnt c.args.tag c.args.flag c.if-tag-lt-FILTER.true
+pub returns-in-51 : goal.returns-in-51
+returns-in-51 c = filter_is c.args.tag c.args.flag c.in-51.is
 
-pub returns-then-tag-eq-FILTER : goal.returns-then-tag-eq-FILTER
-returns-then-tag-eq-FILTER c = filter_is c.args.tag c.args.flag c.if-tag-eq-FILTER.true
+pub returns-in-56 : goal.returns-in-56
+returns-in-56 c = ⊎_elim (λ z. join_by_bit c.args.tag c.args.flag (λ y. omega arith) z) (λ z. scan_by_bit c.args.tag c.args.flag (λ y. omega arith) (λ y. omega arith) z) c.in-56.is
 
-pub returns-then-tag-eq-NESTED_LOOP_JOIN : goal.returns-then-tag-eq-NESTED_LOOP_JOIN
-returns-then-tag-eq-NESTED_LOOP_JOIN c = join_by_bit c.args.tag c.args.flag c.if-tag-eq-FILTER.false c.if-tag-eq-NESTED_LOOP_JOIN.true
-
-pub returns-then-tag-eq-SCAN : goal.returns-then-tag-eq-SCAN
-returns-then-tag-eq-SCAN c = scan_by_bit c.args.tag c.args.flag c.if-tag-eq-FILTER.false c.if-tag-eq-NESTED_LOOP_JOIN.false c.if-tag-eq-SCAN.true
-
-pub returns : goal.returns
-returns c = another_isnt c.args.tag c.args.flag c.if-tag-eq-FILTER.false c.if-tag-eq-NESTED_LOOP_JOIN.false c.if-tag-eq-SCAN.false
+pub returns-in_default : goal.returns-in_default
+returns-in_default c = another_isnt c.args.tag c.args.flag (λ z. grind arith) (λ z. grind arith) (λ z. grind arith)

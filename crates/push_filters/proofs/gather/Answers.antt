@@ -9,4 +9,4 @@ pub shape_of-y : goal.shape_of-y
 shape_of-y c = c.put.auto.d ∙ c.copy-m.auto.d
 
 pub returns : goal.returns
-returns c = gathers c.args.origin c.copy-m.auto.d c.copy-m.ensures c.put.ensures.0
+returns c = gathers c.args.origin c.copy-m.auto.d c.copy-m.ensures (rw c.new.ensures at c.put.ensures.0)

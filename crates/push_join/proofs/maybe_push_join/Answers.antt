@@ -15,11 +15,11 @@ has_predicate-requires c = held_at c.requires.pass_at.held
 pub own_start-m-requires : goal.own_start-m-requires
 own_start-m-requires c = held_at c.requires.pass_at.held
 
-pub overflow_sub-hi-then-has_predicate : goal.overflow_sub-hi-then-has_predicate
-overflow_sub-hi-then-has_predicate c = (node_at_in (held_at c.requires.pass_at.held)).0
+pub overflow_sub-predicate : goal.overflow_sub-predicate
+overflow_sub-predicate c = (node_at_in (held_at c.requires.pass_at.held)).0
 
-pub into_nnf-k-requires : goal.into_nnf-k-requires
-into_nnf-k-requires c = predicate_at c.own_start-m.ensures (is_known c.has_predicate.ensures c.if-has_predicate.true) (held_at c.requires.pass_at.held)
+pub invariant_of-predicate : goal.invariant_of-predicate
+invariant_of-predicate c = record { stands = ∣ predicate_at c.own_start-m.ensures (is_known c.has_predicate.ensures c.if-has_predicate.true) (held_at c.requires.pass_at.held) ∣₁ }
 
 pub shape_of-x-then-z-k : goal.shape_of-x-then-z-k
 shape_of-x-then-z-k c = refl
@@ -30,8 +30,8 @@ shape_of-z-then-z-k c = c.into_nnf-k.auto.d
 pub returns-then-z-k : goal.returns-then-z-k
 returns-then-z-k c = let all = passes_below c.requires.pass_at refl (nnf_over (is_known c.has_predicate.ensures c.if-has_predicate.true) c.own_start-m.ensures c.requires.z_len c.into_nnf-k.auto.d c.into_nnf-k.ensures c.if-z-k.true) in record { passes = all.0; passes_below = all.1 }
 
-pub distribute-end-requires : goal.distribute-end-requires
-distribute-end-requires c = nnf_at c.own_start-m.ensures c.into_nnf-k.auto.d c.into_nnf-k.ensures c.if-z-k.false (is_known c.has_predicate.ensures c.if-has_predicate.true) (held_at c.requires.pass_at.held)
+pub invariant_of-nnf : goal.invariant_of-nnf
+invariant_of-nnf c = record { stands = ∣ nnf_at c.own_start-m.ensures c.into_nnf-k.auto.d c.into_nnf-k.ensures c.if-z-k.false (is_known c.has_predicate.ensures c.if-has_predicate.true) (held_at c.requires.pass_at.held) ∣₁ }
 
 pub shape_of-x-then-w-end : goal.shape_of-x-then-w-end
 shape_of-x-then-w-end c = refl

@@ -19,16 +19,16 @@ pub returns-then-m-eq0 : goal.returns-then-m-eq0
 returns-then-m-eq0 c = own_nothing c.args.origin c.args.into c.args.n c.args.shift c.takes.ensures c.part-m.ensures c.if-m-eq0.true
 
 pub with_predicate-requires : goal.with_predicate-requires
-with_predicate-requires c = record { taker_at = taker c.requires.node_at c.takes.ensures c.if-takes.true; predicate_written = part_predicate c.args.origin c.args.into c.args.n c.args.shift c.requires.expression_at c.part-m.auto.d c.if-m-eq0.false c.part-m.ensures }
+with_predicate-requires c = record { taker_at = taker c.requires.node_at c.takes.ensures c.if-not-takes.false; predicate_written = part_predicate c.args.origin c.args.into c.args.n c.args.shift c.requires.expression_at c.part-m.auto.d c.if-m-eq0.false c.part-m.ensures }
 
-pub shape_of-g-then-takes : goal.shape_of-g-then-takes
-shape_of-g-then-takes c = c.part-m.auto.g
+pub shape_of-g : goal.shape_of-g
+shape_of-g c = c.part-m.auto.g
 
-pub shape_of-d-then-takes : goal.shape_of-d-then-takes
-shape_of-d-then-takes c = c.with_predicate.auto.d ∙ c.part-m.auto.d
-
-pub returns-then-takes : goal.returns-then-takes
-returns-then-takes c = own_taken c.args.origin c.args.into c.args.n c.args.shift c.takes.ensures c.part-m.ensures c.if-takes.true c.if-m-eq0.false c.part-m.auto.d c.with_predicate.ensures
+pub shape_of-d : goal.shape_of-d
+shape_of-d c = c.with_predicate.auto.d ∙ c.part-m.auto.d
 
 pub returns : goal.returns
-returns c = own_refused c.args.origin c.args.into c.args.n c.args.shift c.takes.ensures c.if-takes.false
+returns c = own_taken c.args.origin c.args.into c.args.n c.args.shift c.takes.ensures c.part-m.ensures c.if-not-takes.false c.if-m-eq0.false c.part-m.auto.d c.with_predicate.ensures
+
+pub returns-then-not-takes : goal.returns-then-not-takes
+returns-then-not-takes c = own_refused c.args.origin c.args.into c.args.n c.args.shift c.takes.ensures c.if-not-takes.true

@@ -11,6 +11,3 @@ use Rattle.remove_useless.proofs.pass_through.Given as goal
 
 abbrev pub invariant-loop-i : goal.invariant-loop-i
 invariant-loop-i l = (items : List (Expression × Label × ℕ)) → Part l.s l.lo l.hi (all_words item_words items) → l.n ≡ length items → Unasked l.s l.lo l.end l.i items
-
-abbrev pub decreases-loop-i : goal.decreases-loop-i
-decreases-loop-i l = l.i

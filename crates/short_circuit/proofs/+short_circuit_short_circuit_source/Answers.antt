@@ -3,7 +3,6 @@ use Rattle.chain.proofs.Bare.{bare_in}
 use Rattle.nodes.proofs.Widths.{counted_as, two_left, join_sized}
 use Rattle.stream.proofs.Sources.{own_in, mid_in}
 use Rattle.short_circuit.proofs.Pass.{records_at, leaf_ready, source_at, over_ready, left_at, right_at, join_ready, leaf_circuits, scan_circuits, over_stop, over_circuits, left_stop, right_stop, join_circuits, node_there, node_inside}
-use Prim.Native.Nat.{◌-◌}
 use native.Mathlib.Omega.{arith}
 use mathlib.Core.Path.{refl, sym, ◌∙◌}
 use Rattle.short_circuit.proofs.+short_circuit_short_circuit_source.Goals as goal

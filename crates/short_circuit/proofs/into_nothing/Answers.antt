@@ -32,4 +32,4 @@ pub copy-at-requires : goal.copy-at-requires
 copy-at-requires c = (omega arith, labels_end c.columns-n.ensures c.origin_at-origin.ensures c.write_labels-end.auto.d c.write_labels-end.ensures (omega (arith, c.if-y-tail.false, c.requires.z_len.0)) (omega (arith, c.requires.z_len.0, c.requires.z_len.1.1)) c.requires.records_at c.requires.columns_at)
 
 pub returns : goal.returns
-returns c = let (h, k) = at_in (columns_node c.requires.columns_at) in emptied c.columns-n.ensures c.origin_at-origin.ensures c.write_labels-end.auto.d c.write_labels-end.ensures (omega (arith, c.if-y-tail.false, c.requires.z_len.0)) (omega (arith, c.requires.z_len.0, c.requires.z_len.1.1)) (omega (arith, c.if-y-tail.false, c.requires.z_len.1.0)) c.requires.z_len.1.1 c.copy-at.auto.d c.copy-at.ensures c.put.ensures.0
+returns c = let (h, k) = at_in (columns_node c.requires.columns_at) in emptied c.columns-n.ensures c.origin_at-origin.ensures c.write_labels-end.auto.d c.write_labels-end.ensures (omega (arith, c.if-y-tail.false, c.requires.z_len.0)) (omega (arith, c.requires.z_len.0, c.requires.z_len.1.1)) (omega (arith, c.if-y-tail.false, c.requires.z_len.1.0)) c.requires.z_len.1.1 c.copy-at.auto.d c.copy-at.ensures (rw c.new.ensures at c.put.ensures.0)

@@ -8,8 +8,8 @@ returns-then-d-at c = rejoin_full c.if-d-at.true
 pub cell_at-c-requires : goal.cell_at-c-requires
 cell_at-c-requires c = cell_there c.requires
 
-pub overflow_sub-c : goal.overflow_sub-c
-overflow_sub-c c = omega (arith, flag_least c.cell_at-c.ensures c.requires)
+pub overflow_sub-without_flag : goal.overflow_sub-without_flag
+overflow_sub-without_flag c = omega (arith, flag_least c.cell_at-c.ensures c.requires)
 
 pub shape_of-d-then-at-mid : goal.shape_of-d-then-at-mid
 shape_of-d-then-at-mid c = c.put.auto.d

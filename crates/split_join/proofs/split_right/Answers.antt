@@ -3,59 +3,59 @@ use native.Mathlib.Omega.{arith}
 use mathlib.Core.Path.{sym, ◌∙◌}
 use Rattle.split_join.proofs.split_right.Goals as goal
 
-pub own_part-k-requires : goal.own_part-k-requires
-own_part-k-requires c = record { node_at = right_at c.requires.join_at; expression_at = c.requires.expression_at; g_len = c.requires.g_len }
+pub own_part-part-requires : goal.own_part-part-requires
+own_part-part-requires c = record { node_at = right_at c.requires.join_at; expression_at = c.requires.expression_at; g_len = c.requires.g_len }
 
 pub replace_end-requires : goal.replace_end-requires
-replace_end-requires c = record { join_at = c.requires.join_at; lo_le_from = from_end c.requires.join_at; y_len = c.own_part-k.auto.d ∙ c.requires.y_len; expression_at = c.requires.expression_at; g_len = c.own_part-k.auto.g ∙ c.requires.g_len }
+replace_end-requires c = record { join_at = c.requires.join_at; lo_le_from = from_end c.requires.join_at; y_len = c.own_part-part.auto.d ∙ c.requires.y_len; expression_at = c.requires.expression_at; g_len = c.own_part-part.auto.g ∙ c.requires.g_len }
 
-pub shape_of-x-then-k-eq0 : goal.shape_of-x-then-k-eq0
-shape_of-x-then-k-eq0 c = c.replace_end.auto.x
+pub shape_of-x-in_default : goal.shape_of-x-in_default
+shape_of-x-in_default c = c.replace_end.auto.x
 
-pub shape_of-y-then-k-eq0 : goal.shape_of-y-then-k-eq0
-shape_of-y-then-k-eq0 c = c.replace_end.auto.y ∙ c.own_part-k.auto.d
+pub shape_of-y-in_default : goal.shape_of-y-in_default
+shape_of-y-in_default c = c.replace_end.auto.y ∙ c.own_part-part.auto.d
 
-pub shape_of-g-then-k-eq0 : goal.shape_of-g-then-k-eq0
-shape_of-g-then-k-eq0 c = c.replace_end.auto.g ∙ c.own_part-k.auto.g
+pub shape_of-g-in_default : goal.shape_of-g-in_default
+shape_of-g-in_default c = c.replace_end.auto.g ∙ c.own_part-part.auto.g
 
-pub returns-then-k-eq0 : goal.returns-then-k-eq0
-returns-then-k-eq0 c = right_none c.args.origin c.args.n c.own_part-k.ensures c.if-k-eq0.true c.replace_end.ensures
+pub returns-in_default : goal.returns-in_default
+returns-in_default c = right_none c.args.origin c.args.n c.own_part-part.ensures c.in_default.is c.replace_end.ensures
 
 pub own_start-own-requires : goal.own_start-own-requires
 own_start-own-requires c = right_at c.requires.join_at
 
 pub replace_end-u-requires : goal.replace_end-u-requires
-replace_end-u-requires c = record { join_at = c.requires.join_at; lo_le_from = from_right c.requires.join_at c.own_start-own.ensures; y_len = c.own_part-k.auto.d ∙ c.requires.y_len; expression_at = c.requires.expression_at; g_len = c.own_part-k.auto.g ∙ c.requires.g_len }
+replace_end-u-requires c = record { join_at = c.requires.join_at; lo_le_from = from_right c.requires.join_at c.own_start-own.ensures; y_len = c.own_part-part.auto.d ∙ c.requires.y_len; expression_at = c.requires.expression_at; g_len = c.own_part-part.auto.g ∙ c.requires.g_len }
 
 pub shape_of-x-then-x-u : goal.shape_of-x-then-x-u
 shape_of-x-then-x-u c = c.replace_end-u.auto.x
 
 pub shape_of-y-then-x-u : goal.shape_of-y-then-x-u
-shape_of-y-then-x-u c = c.replace_end-u.auto.y ∙ c.own_part-k.auto.d
+shape_of-y-then-x-u c = c.replace_end-u.auto.y ∙ c.own_part-part.auto.d
 
 pub shape_of-g-then-x-u : goal.shape_of-g-then-x-u
-shape_of-g-then-x-u c = c.replace_end-u.auto.g ∙ c.own_part-k.auto.g
+shape_of-g-then-x-u c = c.replace_end-u.auto.g ∙ c.own_part-part.auto.g
 
 pub returns-then-x-u : goal.returns-then-x-u
-returns-then-x-u c = right_full c.args.origin c.args.n c.own_part-k.ensures c.if-k-eq0.false c.own_start-own.ensures c.own_part-k.auto.d c.replace_end-u.ensures c.if-x-u.true
+returns-then-x-u c = right_full c.args.origin c.args.n c.own_part-part.ensures c.in-Some.is c.own_start-own.ensures c.own_part-part.auto.d c.replace_end-u.ensures c.if-x-u.true
 
 pub overflow_sub-u : goal.overflow_sub-u
-overflow_sub-u c = (right_room c.args.origin c.args.n c.own_part-k.ensures c.if-k-eq0.false c.own_start-own.ensures c.own_part-k.auto.d c.replace_end-u.ensures (c.requires.y_len ∙ sym c.replace_end-u.auto.x) c.if-x-u.false (omega (arith, c.replace_end-u.auto.x, c.requires.join_at.short)) c.requires.join_at c.requires.expression_at).0
+overflow_sub-u c = (right_room c.args.origin c.args.n c.own_part-part.ensures c.in-Some.is c.own_start-own.ensures c.own_part-part.auto.d c.replace_end-u.ensures (c.requires.y_len ∙ sym c.replace_end-u.auto.x) c.if-x-u.false (omega (arith, c.replace_end-u.auto.x, c.requires.join_at.short)) c.requires.join_at c.requires.expression_at).0
 
 pub overflow_sub-u-2 : goal.overflow_sub-u-2
-overflow_sub-u-2 c = (right_room c.args.origin c.args.n c.own_part-k.ensures c.if-k-eq0.false c.own_start-own.ensures c.own_part-k.auto.d c.replace_end-u.ensures (c.requires.y_len ∙ sym c.replace_end-u.auto.x) c.if-x-u.false (omega (arith, c.replace_end-u.auto.x, c.requires.join_at.short)) c.requires.join_at c.requires.expression_at).1.0
+overflow_sub-u-2 c = (right_room c.args.origin c.args.n c.own_part-part.ensures c.in-Some.is c.own_start-own.ensures c.own_part-part.auto.d c.replace_end-u.ensures (c.requires.y_len ∙ sym c.replace_end-u.auto.x) c.if-x-u.false (omega (arith, c.replace_end-u.auto.x, c.requires.join_at.short)) c.requires.join_at c.requires.expression_at).1.0
 
 pub reseal-requires : goal.reseal-requires
-reseal-requires c = (right_room c.args.origin c.args.n c.own_part-k.ensures c.if-k-eq0.false c.own_start-own.ensures c.own_part-k.auto.d c.replace_end-u.ensures (c.requires.y_len ∙ sym c.replace_end-u.auto.x) c.if-x-u.false (omega (arith, c.replace_end-u.auto.x, c.requires.join_at.short)) c.requires.join_at c.requires.expression_at).1.1
+reseal-requires c = (right_room c.args.origin c.args.n c.own_part-part.ensures c.in-Some.is c.own_start-own.ensures c.own_part-part.auto.d c.replace_end-u.ensures (c.requires.y_len ∙ sym c.replace_end-u.auto.x) c.if-x-u.false (omega (arith, c.replace_end-u.auto.x, c.requires.join_at.short)) c.requires.join_at c.requires.expression_at).1.1
 
 pub shape_of-x : goal.shape_of-x
 shape_of-x c = c.reseal.auto.x ∙ c.replace_end-u.auto.x
 
 pub shape_of-y : goal.shape_of-y
-shape_of-y c = c.replace_end-u.auto.y ∙ c.own_part-k.auto.d
+shape_of-y c = c.replace_end-u.auto.y ∙ c.own_part-part.auto.d
 
 pub shape_of-g : goal.shape_of-g
-shape_of-g c = c.replace_end-u.auto.g ∙ c.own_part-k.auto.g
+shape_of-g c = c.replace_end-u.auto.g ∙ c.own_part-part.auto.g
 
 pub returns : goal.returns
-returns c = right_done c.args.origin c.args.n c.own_part-k.ensures c.if-k-eq0.false c.own_start-own.ensures c.own_part-k.auto.d c.replace_end-u.ensures (c.requires.y_len ∙ sym c.replace_end-u.auto.x) c.if-x-u.false (omega (arith, c.replace_end-u.auto.x, c.requires.join_at.short)) c.reseal.auto.x c.reseal.ensures
+returns c = right_done c.args.origin c.args.n c.own_part-part.ensures c.in-Some.is c.own_start-own.ensures c.own_part-part.auto.d c.replace_end-u.ensures (c.requires.y_len ∙ sym c.replace_end-u.auto.x) c.if-x-u.false (omega (arith, c.replace_end-u.auto.x, c.requires.join_at.short)) c.reseal.auto.x c.reseal.ensures

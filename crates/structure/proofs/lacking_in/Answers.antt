@@ -2,7 +2,6 @@
 -- Assumes nothing.
 use Rattle.structure.proofs.Read.{going_start, going_on, going_lacks, ends_one, ends_many, ends_part}
 use Rattle.layout.proofs.Laws.{cells_are}
-use Prim.Native.Nat.{◌-◌}
 use native.Mathlib.Omega.{arith}
 use mathlib.Core.Path.{refl, ◌∙◌}
 use Rattle.structure.proofs.lacking_in.Goals as goal
@@ -26,7 +25,7 @@ pub returns-in_default : goal.returns-in_default
 returns-in_default c = going_lacks c.loop-i.invariant.1 c.parts_of-parts.ensures c.requires.whole.1 c.loop-i-test.true c.cell_from-k.ensures c.reduced.ensures c.in_default.is
 
 pub loop-i-preserved : goal.loop-i-preserved
-loop-i-preserved c = (c.reduced.auto.stack ∙ c.loop-i.invariant.0, going_on c.loop-i.invariant.1 c.parts_of-parts.ensures c.requires.whole.1 c.loop-i-test.true c.cell_from-k.ensures c.reduced.ensures c.in-At.is)
+loop-i-preserved c = (c.reduced.auto.stack ∙ c.loop-i.invariant.0, going_on c.loop-i.invariant.1 c.parts_of-parts.ensures c.requires.whole.1 c.loop-i-test.true c.cell_from-k.ensures c.reduced.ensures c.in-Some.is)
 
 pub shape_of-stack-then-height-ne1 : goal.shape_of-stack-then-height-ne1
 shape_of-stack-then-height-ne1 c = c.loop-i.invariant.0
@@ -34,17 +33,14 @@ shape_of-stack-then-height-ne1 c = c.loop-i.invariant.0
 pub returns-then-height-ne1 : goal.returns-then-height-ne1
 returns-then-height-ne1 c = ends_many c.loop-i.invariant.1 c.parts_of-parts.ensures c.loop-i-test.false c.if-height-ne1.true
 
-pub bounds-stack-0 : goal.bounds-stack-0
-bounds-stack-0 c = omega (arith, c.if-height-ne1.false, c.loop-i.invariant.1.few, c.loop-i.invariant.1.within, c.loop-i.invariant.0, c.requires.s_in_bounds)
+pub shape_of-stack-in-Node : goal.shape_of-stack-in-Node
+shape_of-stack-in-Node c = c.loop-i.invariant.0
 
-pub shape_of-stack-then-stack : goal.shape_of-stack-then-stack
-shape_of-stack-then-stack c = c.loop-i.invariant.0
+pub returns-in-Node : goal.returns-in-Node
+returns-in-Node c = ends_one c.loop-i.invariant.1 c.parts_of-parts.ensures c.loop-i-test.false c.if-height-ne1.false c.in-Node.is
 
-pub returns-then-stack : goal.returns-then-stack
-returns-then-stack c = ends_part c.loop-i.invariant.1 c.parts_of-parts.ensures c.loop-i-test.false c.if-height-ne1.false c.if-stack.true
+pub shape_of-stack-in_default-stack : goal.shape_of-stack-in_default-stack
+shape_of-stack-in_default-stack c = c.loop-i.invariant.0
 
-pub shape_of-stack : goal.shape_of-stack
-shape_of-stack c = c.loop-i.invariant.0
-
-pub returns : goal.returns
-returns c = ends_one c.loop-i.invariant.1 c.parts_of-parts.ensures c.loop-i-test.false c.if-height-ne1.false c.if-stack.false
+pub returns-in_default-stack : goal.returns-in_default-stack
+returns-in_default-stack c = ends_part c.loop-i.invariant.1 c.parts_of-parts.ensures c.loop-i-test.false c.if-height-ne1.false c.in_default-stack.not-Node

@@ -1,11 +1,7 @@
 use Rattle.structure.proofs.Read.{Going}
-use Prim.Native.Nat.{◌-◌}
 use mathlib.Core.Path.{◌≡◌}
 use lib.ListN.{length}
 use Rattle.structure.proofs.lacking_in.Given as goal
 
 abbrev pub invariant-loop-i : goal.invariant-loop-i
 invariant-loop-i l = (length l.stack ≡ length l.initial.stack) × Going l.s l.stack l.height l.i
-
-abbrev pub decreases-loop-i : goal.decreases-loop-i
-decreases-loop-i l = l.count - l.i

@@ -1,18 +1,17 @@
-use Prim.Native.Nat.{◌-◌}
+use native.Mathlib.Omega.{arith}
 use mathlib.Core.Path.{ap, ◌∙◌}
-use Rattle.text_references.proofs.Laws.{always, a_asks, a_none, a_by_number}
+use Rattle.text_references.proofs.Laws.{always, a_asks, a_none, a_label, a_by_number}
 use mathlib.Core.Option.{none, some}
-use mathlib.Core.Bool.{true, false}
 use Rattle.text_references.proofs.a_refers.Goals as goal
 
-pub returns-then-tag-eq-STRING : goal.returns-then-tag-eq-STRING
-returns-then-tag-eq-STRING c = always c.args.flag ∙ a_asks c.args.tag c.args.flag (some 0) (ap a_by_number c.if-tag-eq-STRING.true)
+pub returns-in-5 : goal.returns-in-5
+returns-in-5 c = always c.args.flag ∙ a_asks c.args.tag c.args.flag (some 0) (ap a_by_number c.in-5.is)
 
-pub returns-then-tag-eq-LABEL : goal.returns-then-tag-eq-LABEL
-returns-then-tag-eq-LABEL c = a_asks c.args.tag c.args.flag (some 1) (ap a_by_number c.if-tag-eq-LABEL.true)
+pub returns-in-40 : goal.returns-in-40
+returns-in-40 c = a_asks c.args.tag c.args.flag (some 1) (a_label c.args.tag (omega arith) (omega arith))
 
-pub returns-then-tag-eq-ITEM : goal.returns-then-tag-eq-ITEM
-returns-then-tag-eq-ITEM c = a_asks c.args.tag c.args.flag (some 1) (ap a_by_number c.if-tag-eq-ITEM.true)
+pub returns-in_default : goal.returns-in_default
+returns-in_default c = a_asks c.args.tag c.args.flag none (a_none c.args.tag (omega arith) (omega arith) (omega arith))
 
-pub returns : goal.returns
-returns c = a_asks c.args.tag c.args.flag none (a_none c.args.tag c.if-tag-eq-STRING.false c.if-tag-eq-LABEL.false c.if-tag-eq-ITEM.false)
+pub returns-in_default-2 : goal.returns-in_default-2
+returns-in_default-2 c = a_asks c.args.tag c.args.flag none (a_none c.args.tag (omega arith) (omega arith) (omega arith))

@@ -1,4 +1,4 @@
-use Prim.Native.Nat.{◌-◌, ◌*◌}
+use Prim.Native.Nat.{◌*◌}
 use native.Mathlib.Omega.{arith}
 use mathlib.Core.Path.{refl, ◌∙◌}
 use Rattle.text_references.proofs.Laws.{listed_none, cells_on, listed_to}
@@ -7,12 +7,6 @@ use Rattle.text_references.proofs.list_cells.Goals as goal
 
 pub loop-i-init : goal.loop-i-init
 loop-i-init c = (refl, (omega arith, listed_none c.args.refs.now c.args.from))
-
-pub overflow_mul-i : goal.overflow_mul-i
-overflow_mul-i c = omega arith
-
-pub overflow_add-at : goal.overflow_add-at
-overflow_add-at c = omega arith
 
 pub list_cell-j-requires : goal.list_cell-j-requires
 list_cell-j-requires c = (omega arith, omega (arith, c.requires.1, c.loop-i.invariant.0, c.loop-i.invariant.1.1.few))

@@ -1,4 +1,4 @@
-use Prim.Native.Nat.{◌-◌, ◌*◌, ◌≤◌}
+use Prim.Native.Nat.{◌*◌, ◌≤◌}
 use mathlib.Core.Path.{◌≡◌}
 use lib.ListN.{length}
 use Rattle.compact.specs.Slots.{cell_slots, in_each}
@@ -7,6 +7,3 @@ use Rattle.text_references.proofs.list_cells.Given as goal
 
 abbrev pub invariant-loop-i : goal.invariant-loop-i
 invariant-loop-i l = (length l.refs ≡ length l.initial.refs) × ((l.i ≤ l.n) × Listed (in_each (cell_slots l.s) l.at l.i) l.initial.refs l.from (l.i * 2) l.refs l.j)
-
-abbrev pub decreases-loop-i : goal.decreases-loop-i
-decreases-loop-i l = l.n - l.i

@@ -1,4 +1,3 @@
-use Prim.Native.Nat.{◌-◌}
 use Rattle.text_references.proofs.Laws.{listed_all}
 use Rattle.text_references.proofs.references.Goals as goal
 

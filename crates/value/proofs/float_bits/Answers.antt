@@ -1,15 +1,11 @@
--- `value::float_bits` meets its contract.
-use mathlib.Core.Path.{sym, ap, ◌∙◌, subst}
-use mathlib.Core.Bool.{not}
+use mathlib.Core.Path.{sym, ap, ◌∙◌}
 use lib.Ieee.{binary64}
 use lib.Ieee as Ieee
-use lib.Dec.{T}
-use Rattle.value.proofs.Laws.{differs, is_nan}
+use Rattle.value.proofs.Laws.{is_nan}
 use Rattle.value.proofs.float_bits.Goals as goal
 
-pub returns-then-x : goal.returns-then-x
-unfolding Ieee.to_bits
-returns-then-x c = sym (ap (Ieee.to_bits binary64) (is_nan c.args.x (sym (differs c.args.x) ∙ c.if-x.true)))
+-- `value::float_bits` meets its contract.
 
-pub float_to_bits-result : goal.float_to_bits-result
-float_to_bits-result c = subst (λ b. T (not b)) (sym (sym (differs c.args.x) ∙ c.if-x.false)) tt
+pub returns-then-is_nan : goal.returns-then-is_nan
+unfolding Ieee.to_bits
+returns-then-is_nan c = sym (ap (Ieee.to_bits binary64) (is_nan c.args.x (sym c.is_nan.ensures.value ∙ c.if-is_nan.true)))

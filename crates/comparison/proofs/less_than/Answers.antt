@@ -1,6 +1,0 @@
--- `comparison::less_than` meets its contract.
-use mathlib.Core.Path.{◌∙◌}
-use Rattle.comparison.proofs.less_than.Goals as goal
-
-pub returns : goal.returns
-returns c = c.answer.ensures c.args.text.now ∙ rw (c.is_less.ensures, c.compare-c.ensures)
