@@ -1,7 +1,7 @@
 -- What each function has written, from what its calls have.
 use Prim.Native.Nat.{ℕ, ◌-◌, ◌<◌}
 use native.Mathlib.Omega.{arith}
-use mathlib.Core.Path.{◌≡◌, refl, sym, ◌∙◌, subst}
+use mathlib.Core.Path.{◌≡◌, refl, sym, ◌∙◌}
 use mathlib.Core.List.{List, ◌++◌}
 use lib.ListN.{length}
 use Rattle.sql.specs.Expression.{And, Or, Binary, logical, Equal, function, Expression, constant, column, unary, binary, and, or, single, both, distribute, conjuncts}
@@ -10,8 +10,9 @@ use Rattle.cells.specs.Cells.{cell_words, tag_at, origin_at, start_at}
 use Rattle.cells.specs.Room.{Wrote, Seals}
 use Rattle.cells.proofs.Laws.{then, full_already}
 use Rattle.words.specs.Words.{cell, root, expression_words, map_operands}
-use Rattle.words.specs.Place.{ExpressionHere, Maps}
+use Rattle.words.specs.Place.{ExpressionHere, own, Maps}
 use Rattle.words.proofs.Expressions.{tag, by_binary, by_and, by_or, root_tag, root_origin, here_left, here_right}
+use Rattle.words.proofs.Stands.{here_own}
 use Rattle.words.proofs.Writing.{plain}
 use Rattle.cnf.specs.Cnf.{MapsTwo, spread, spread_right}
 
@@ -87,9 +88,7 @@ module _ {s t : List ℕ} {a x b z : ℕ} {d : List ℕ} {at : ℕ} where
         → MapsTwo (spread_right new) s a x t b z d at n d₃
     right_or new h f₁ f₂ w e g u v = rw (conjuncts_other g (λ k. h (root_tag g v ∙ k))) (or_written e₁ e₂ (distribute e) (distribute g) (f₁ e u) (f₂ g v) new w)
 
--- what was made of two expressions, said of where they stand
-pub where_both_stand : (f : Expression → Expression → Expression) {s s' t t' d d' : List ℕ} {a a' x x' b b' z z' at n : ℕ} → s' ≡ s → a' ≡ a → x' ≡ x → t' ≡ t → b' ≡ b → z' ≡ z
-    → MapsTwo f s' a' x' t' b' z' d at n d' → MapsTwo f s a x t b z d at n d'
-where_both_stand f {s} {s'} {t} {t'} {d} {d'} {a} {a'} {x} {x'} {b} {b'} {z} {z'} {at} {n} p q r p' q' r' m =
-    subst (λ h. MapsTwo f s a x t b h d at n d') r' (subst (λ l. MapsTwo f s a x t l z' d at n d') q' (subst (λ w. MapsTwo f s a x w b' z' d at n d') p'
-    (subst (λ h. MapsTwo f s a h t' b' z' d at n d') r (subst (λ l. MapsTwo f s l x' t' b' z' d at n d') q (subst (λ w. MapsTwo f w a' x' t' b' z' d at n d') p m)))))
+-- what was made of two expressions, each by itself, said of where they stand
+pub where_both_stand : {s w t v : List ℕ} {a x b z : ℕ} → w ≡ own s a x → v ≡ own t b z → (f : Expression → Expression → Expression) {d d' : List ℕ} {at n : ℕ}
+    → MapsTwo f w 0 (length w) v 0 (length v) d at n d' → MapsTwo f s a x t b z d at n d'
+where_both_stand p q f m e g h k = m e g (here_own p h) (here_own q k)

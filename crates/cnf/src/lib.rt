@@ -14,18 +14,18 @@ use words::Expression;
 
 // distribute of the expression, which is its words as they are if it holds no Or.
 pub fn distribute(e: Expression, d: &mut [u32], at: usize) -> usize
-    ensures { Maps Defined.distribute e.entry.words.now e.entry.lo e.entry.hi d.old at result d.new }
+    ensures { Maps Defined.distribute e.entry.words.now 0 (length e.entry.words.now) d.old at result d.new }
 {
     if nnf::contains_tag(e, tags::OR) {
         return distribute_expression(e, d, at);
     }
-    cells::copy(e.words, e.lo, e.hi, d, at)
+    cells::copy(e.words, 0, e.words.len(), d, at)
 }
 
 // distribute of the expression, cell by cell.
 #[cycle(distribute_expression_distribute_operands_or_both_or_right)]
 fn distribute_expression(e: Expression, d: &mut [u32], at: usize) -> usize
-    ensures { Maps Defined.distribute e.entry.words.now e.entry.lo e.entry.hi d.old at result d.new }
+    ensures { Maps Defined.distribute e.entry.words.now 0 (length e.entry.words.now) d.old at result d.new }
 {
     if d.len() < at {
         return at;
@@ -40,7 +40,7 @@ fn distribute_expression(e: Expression, d: &mut [u32], at: usize) -> usize
 // The expression with distribute of its operands.
 #[cycle(distribute_expression_distribute_operands_or_both_or_right)]
 fn distribute_operands(e: Expression, d: &mut [u32], at: usize) -> usize
-    ensures { Maps (map_operands Defined.distribute) e.entry.words.now e.entry.lo e.entry.hi d.old at result d.new }
+    ensures { Maps (map_operands Defined.distribute) e.entry.words.now 0 (length e.entry.words.now) d.old at result d.new }
 {
     let cell = e.cell();
     if cell.tag < tags::BINARY {
@@ -59,7 +59,7 @@ fn distribute_operands(e: Expression, d: &mut [u32], at: usize) -> usize
 // Or, with that origin, of two expressions, spread over the Ands at the top of both. What it puts together has the Or's origin.
 #[cycle(distribute_expression_distribute_operands_or_both_or_right)]
 fn or_both(left: Expression, right: Expression, d: &mut [u32], at: usize, origin: u32) -> usize
-    ensures { MapsTwo (spread origin) left.entry.words.now left.entry.lo left.entry.hi right.entry.words.now right.entry.lo right.entry.hi d.old at result d.new }
+    ensures { MapsTwo (spread origin) left.entry.words.now 0 (length left.entry.words.now) right.entry.words.now 0 (length right.entry.words.now) d.old at result d.new }
 {
     if d.len() < at {
         return at;
@@ -76,7 +76,7 @@ fn or_both(left: Expression, right: Expression, d: &mut [u32], at: usize, origin
 // The same where the left one is no And.
 #[cycle(distribute_expression_distribute_operands_or_both_or_right)]
 fn or_right(left: Expression, right: Expression, d: &mut [u32], at: usize, origin: u32) -> usize
-    ensures { MapsTwo (spread_right origin) left.entry.words.now left.entry.lo left.entry.hi right.entry.words.now right.entry.lo right.entry.hi d.old at result d.new }
+    ensures { MapsTwo (spread_right origin) left.entry.words.now 0 (length left.entry.words.now) right.entry.words.now 0 (length right.entry.words.now) d.old at result d.new }
 {
     if d.len() < at {
         return at;

@@ -2,7 +2,7 @@
 // is looked up for, and which two columns it sets equal. Expressions are in their working form (crate cells).
 #![tactic(auto)]
 
-ghost use Rattle.std.specs.Prelude.{◌≡◌, ℕ, ◌-◌, ◌<◌};
+ghost use Rattle.std.specs.Prelude.{◌≡◌, ℕ, ◌-◌, ◌<◌, length};
 ghost use Rattle.sql.specs.Expression.{same_column};
 ghost use Rattle.sql.specs.Optimizer.{ordered};
 ghost use Rattle.cells.specs.Room.{Wrote};
@@ -49,7 +49,7 @@ fn same_column(l: Option<u32>, r: Option<u32>) -> Option<u32>
 
 // The column that the expression looks up: Equal of a column and a constant, Is Null or Is NaN of a column, or an Or of lookups of one column.
 pub fn is_column_lookup(e: Expression) -> Option<u32>
-    ensures { LooksUp e.entry.words.now e.entry.lo e.entry.hi result }
+    ensures { LooksUp e.entry.words.now 0 (length e.entry.words.now) result }
 {
     match e.tag() {
         tags::OR => {
@@ -115,7 +115,7 @@ fn is_value(d: &mut [u32], at: usize, t: u32, origin: u32) -> usize
 
 // The constants that the expression, a lookup, looks its column up for.
 pub fn into_column_values(e: Expression, d: &mut [u32], at: usize) -> usize
-    ensures { Gathers e.entry.words.now e.entry.lo e.entry.hi d.old at result d.new }
+    ensures { Gathers e.entry.words.now 0 (length e.entry.words.now) d.old at result d.new }
 {
     match e.tag() {
         tags::AND | tags::OR => {
@@ -145,7 +145,7 @@ fn ordered(l: Option<u32>, r: Option<u32>) -> Option<(JoinedColumn, JoinedColumn
 
 // The two columns of a join's row that the expression sets equal, the lower one first, if it is an equijoin.
 pub fn equijoin(e: Expression) -> Option<(JoinedColumn, JoinedColumn)>
-    ensures { SetsEqual e.entry.words.now e.entry.lo e.entry.hi result }
+    ensures { SetsEqual e.entry.words.now 0 (length e.entry.words.now) result }
 {
     if e.tag() != tags::EQUAL {
         return None;

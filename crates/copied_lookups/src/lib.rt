@@ -48,7 +48,7 @@ fn is_or_lookup(s: &[u32], lo: usize, hi: usize, c: u32) -> bool
     requires { ExpressionAt s.now lo hi }
     ensures { IsLookupOf c s.now lo hi result }
 {
-    let or = Expression { words: s, lo, hi };
+    let or = Expression { words: &s[lo..hi] };
     column_lookup::is_column_lookup(or) == Some(c)
 }
 
@@ -202,7 +202,7 @@ fn copy_conjunct(
     requires gathered_at { GatheredAt d.old from at }
     ensures { CopiesConjunct origin into n shift s.now lo hi g.now a b d.old from at result d.new }
 {
-    let conjunct = Expression { words: s, lo, hi };
+    let conjunct = Expression { words: &s[lo..hi] };
     let Some((l, r)) = column_lookup::equijoin(conjunct) else {
         return at;
     };

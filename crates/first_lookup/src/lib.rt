@@ -39,7 +39,7 @@ fn find_one(s: &[u32], lo: usize, hi: usize, key: usize, columns: &[u8]) -> Opti
     requires { ExpressionAt s.now lo hi }
     ensures { FindsOne (marks_in key columns.now) s.now lo hi result }
 {
-    let conjunct = Expression { words: s, lo, hi };
+    let conjunct = Expression { words: &s[lo..hi] };
     let column = column_lookup::is_column_lookup(conjunct)?;
     has_index(key, columns, column as usize).then_some(FoundLookup {
         start: lo,

@@ -53,11 +53,7 @@ fn hash_join(x: &[u32], m: usize, hi: usize, y: &mut [u32], lo: usize, at: usize
     if m == end {
         return stream::finish(x, m, hi, y, lo, at);
     }
-    let predicate = Expression {
-        words: x,
-        lo: m,
-        hi: end,
-    };
+    let predicate = Expression { words: &x[m..end] };
     let columns = column_lookup::equijoin(predicate);
     let Some((left_column, right_column)) = one_on_each_side(columns, n) else {
         return stream::finish(x, m, hi, y, lo, at);

@@ -41,9 +41,7 @@ fn lookup(scan: Cell, key: usize, found: FoundLookup, w: &[u32], y: &mut [u32], 
     ensures { Looks scan key found.column w.now found.start found.end y.old at result y.new }
 {
     let conjunct = Expression {
-        words: w,
-        lo: found.start,
-        hi: found.end,
+        words: &w[found.start..found.end],
     };
     let n = column_lookup::into_column_values(conjunct, y, at);
     if y.len() < n {

@@ -25,17 +25,13 @@ fn has_filter(x: &[u32], lo: usize, hi: usize) -> bool
 // The conjunctive normal form of the expression, as the first words of w. What into_nnf gives stands in z, and counts for room too.
 fn into_cnf(e: Expression, z: &mut [u32], w: &mut [u32]) -> usize
     requires { (length z.old ≡ length w.old) × (length w.old ≤ most_words) }
-    ensures { Normalizes e.entry.words.now e.entry.lo e.entry.hi result w.new }
+    ensures { Normalizes e.entry.words.now 0 (length e.entry.words.now) result w.new }
 {
     let n = nnf::into_nnf(e, z, 0);
     if z.len() < n {
         return n;
     }
-    let nnf = Expression {
-        words: z,
-        lo: 0,
-        hi: n,
-    };
+    let nnf = Expression { words: &z[..n] };
     cnf::distribute(nnf, w, 0)
 }
 
@@ -88,9 +84,7 @@ pub fn index_lookup(
 {
     if has_filter(x, lo, hi) {
         let filter = Expression {
-            words: x,
-            lo,
-            hi: hi - cells::CELL_WORDS,
+            words: &x[lo..hi - cells::CELL_WORDS],
         };
         let m = into_cnf(filter, z, w);
         if w.len() < m {

@@ -14,26 +14,26 @@ use words::Expression;
 
 // Whether a cell of the expression has the tag.
 pub fn contains_tag(e: Expression, tag: u32) -> bool
-    ensures { ContainsTag e.entry.words.now e.entry.lo e.entry.hi tag result }
+    ensures { ContainsTag e.entry.words.now 0 (length e.entry.words.now) tag result }
 {
-    let (all, _) = e.words[e.lo..e.hi].as_chunks::<{ cells::CELL_WORDS }>();
+    let (all, _) = e.words.as_chunks::<{ cells::CELL_WORDS }>();
     all.iter().any(|cell| cell[cells::TAG] == tag)
 }
 
 // into_nnf of the expression, which is its words as they are if it holds no Not.
 pub fn into_nnf(e: Expression, d: &mut [u32], at: usize) -> usize
-    ensures { Maps into_nnf e.entry.words.now e.entry.lo e.entry.hi d.old at result d.new }
+    ensures { Maps into_nnf e.entry.words.now 0 (length e.entry.words.now) d.old at result d.new }
 {
     if contains_tag(e, tags::NOT) {
         return into_nnf_expression(e, d, at);
     }
-    cells::copy(e.words, e.lo, e.hi, d, at)
+    cells::copy(e.words, 0, e.words.len(), d, at)
 }
 
 // into_nnf of the expression, cell by cell.
 #[cycle(into_nnf_expression_into_nnf_not_into_nnf_operands_negate_both)]
 fn into_nnf_expression(e: Expression, d: &mut [u32], at: usize) -> usize
-    ensures { Maps into_nnf e.entry.words.now e.entry.lo e.entry.hi d.old at result d.new }
+    ensures { Maps into_nnf e.entry.words.now 0 (length e.entry.words.now) d.old at result d.new }
 {
     if e.tag() == tags::NOT {
         return into_nnf_not(e.operand(), d, at, e.origin());
@@ -44,7 +44,7 @@ fn into_nnf_expression(e: Expression, d: &mut [u32], at: usize) -> usize
 // into_nnf of Not, with that origin, of the expression. What it puts together has the Not's origin.
 #[cycle(into_nnf_expression_into_nnf_not_into_nnf_operands_negate_both)]
 fn into_nnf_not(e: Expression, d: &mut [u32], at: usize, origin: u32) -> usize
-    ensures { Maps (into_nnf_not origin) e.entry.words.now e.entry.lo e.entry.hi d.old at result d.new }
+    ensures { Maps (into_nnf_not origin) e.entry.words.now 0 (length e.entry.words.now) d.old at result d.new }
 {
     match e.tag() {
         tags::NOT => into_nnf_operands(e.operand(), d, at),
@@ -60,9 +60,9 @@ fn into_nnf_not(e: Expression, d: &mut [u32], at: usize, origin: u32) -> usize
 // The two operands of the expression, negated, under the And or Or with tag o and that origin.
 #[cycle(into_nnf_expression_into_nnf_not_into_nnf_operands_negate_both)]
 fn negate_both(e: Expression, d: &mut [u32], at: usize, o: u32, origin: u32) -> usize
-    requires bound { (10 ≤ tag_at e.words.now e.hi) × (tag_at e.words.now e.hi < 30) }
+    requires bound { (10 ≤ tag_at e.words.now (length e.words.now)) × (tag_at e.words.now (length e.words.now) < 30) }
     requires fact { (o ≡ 10) ⊎ (o ≡ 11) }
-    ensures { Maps (negated o origin) e.entry.words.now e.entry.lo e.entry.hi d.old at result d.new }
+    ensures { Maps (negated o origin) e.entry.words.now 0 (length e.entry.words.now) d.old at result d.new }
 {
     let (left, right) = e.operands();
     let m = into_nnf_not(left, d, at, origin);
@@ -73,7 +73,7 @@ fn negate_both(e: Expression, d: &mut [u32], at: usize, o: u32, origin: u32) -> 
 // The expression with into_nnf of its operands.
 #[cycle(into_nnf_expression_into_nnf_not_into_nnf_operands_negate_both)]
 fn into_nnf_operands(e: Expression, d: &mut [u32], at: usize) -> usize
-    ensures { Maps into_nnf_operands e.entry.words.now e.entry.lo e.entry.hi d.old at result d.new }
+    ensures { Maps into_nnf_operands e.entry.words.now 0 (length e.entry.words.now) d.old at result d.new }
 {
     let cell = e.cell();
     if cell.tag < tags::BINARY {

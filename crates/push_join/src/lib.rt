@@ -43,19 +43,13 @@ pub fn maybe_push_join(
     if has_predicate(x, lo, hi) {
         let m = nodes::own_start(x, lo, hi);
         let predicate = Expression {
-            words: x,
-            lo: m,
-            hi: hi - cells::CELL_WORDS,
+            words: &x[m..hi - cells::CELL_WORDS],
         };
         let k = nnf::into_nnf(predicate, z, 0);
         if z.len() < k {
             return k;
         }
-        let nnf = Expression {
-            words: z,
-            lo: 0,
-            hi: k,
-        };
+        let nnf = Expression { words: &z[..k] };
         let end = cnf::distribute(nnf, w, 0);
         if w.len() < end {
             return end;

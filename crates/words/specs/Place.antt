@@ -1,6 +1,6 @@
 -- Where expressions and nodes stand in a list of words, and what a function that writes one has done. A contract speaks of every expression, or node, that
 -- stands there.
-use Rattle.std.specs.Prelude.{ℕ, List}
+use Rattle.std.specs.Prelude.{ℕ, ◌-◌, List, take, drop}
 use Rattle.sql.specs.Expression.{Expression}
 use Rattle.sql.specs.Plan.{Node}
 use Rattle.cells.specs.Cells.{Part}
@@ -15,6 +15,10 @@ pub record ExpressionHere (s : List ℕ) (lo hi : ℕ) (e : Expression) : Type 0
 pub record ExpressionAt (s : List ℕ) (lo hi : ℕ) : Type 0 where
   pub e : Expression
   pub here : ExpressionHere s lo hi e
+
+-- the words of s from word lo up to hi, by themselves
+abbrev pub own : List ℕ → ℕ → ℕ → List ℕ
+own s lo hi = take (hi - lo) (drop lo s)
 
 -- f of the expression from lo up to hi is appended to the first `at` words of d, or has no room.
 abbrev pub Maps : (Expression → Expression) → List ℕ → ℕ → ℕ → List ℕ → ℕ → ℕ → List ℕ → Type 0

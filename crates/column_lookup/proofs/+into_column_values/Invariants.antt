@@ -1,5 +1,5 @@
-use Prim.Native.Nat.{◌-◌}
+use lib.ListN.{length}
 use Rattle.column_lookup.proofs.+into_column_values.Given as goal
 
 abbrev pub decreases-into_column_values : goal.decreases-into_column_values
-decreases-into_column_values l = l.e.hi - l.e.lo
+decreases-into_column_values l = length l.e.words.now
