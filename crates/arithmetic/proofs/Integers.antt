@@ -1,21 +1,23 @@
--- What the library's checked operations on two Integers give is what the definitions give.
-use Prim.Native.Nat.{zero, suc, ◌<◌, ℕ, ◌*◌, ◌≤◌}
+-- What the library's checked operations on two Integers give is what the definitions give; and which products fit, by the code's division.
+use Prim.Native.Nat.{zero, suc, ◌<◌, ℕ, ◌*◌, ◌/◌, ◌≤◌}
 use mathlib.Core.Logic.{◌↔◌}
-use mathlib.Core.Path.{◌≡◌, refl, sym, ap, ◌∙◌}
+use mathlib.Core.Path.{◌≡◌, refl, sym, ap, ◌∙◌, subst}
 use mathlib.Core.Bool.{Bool, true, false, cond}
 use native.Mathlib.Omega.{arith}
+use native.Mathlib.Nat.{le-div_iff_mul-le, mul_comm, zero-mul}
 use lib.Dec.{ltb}
 use lib.IntN.{ℤ, pos, negsuc, neg_ℤ, nat_abs, ◌*ℤ◌}
-use lib.Signed.{mag, quot_z}
+use lib.Signed.{mag, lt_z, quot_z}
 use mir.Syntax.{w64}
 use mir.Val.{SFits, of_z}
 use borrow.Author.Tests.{ltb-true, lt-ltb}
 use Rattle.std.specs.Prelude.{Option, Some, None, SomeIff}
 use Rattle.std.specs.Option.{ok_or}
 use Rattle.value.specs.Value.{datum, integer, ok, err, overflow, division_by_zero}
-use Rattle.value.specs.Arithmetic.{checked, divide_integers}
+use Rattle.value.specs.Arithmetic.{checked, multiply_integers, divide_integers}
 use Rattle.value.specs.declared.Error.TheVariants.{Overflow}
 use Rattle.arithmetic.specs.Operands.{answered, largest_magnitude}
+use Rattle.value.proofs.Laws.{false≢true}
 
 pub fits : (i : ℤ) → SFits w64 i → ok (datum (integer i)) ≡ checked i
 unfolding checked
@@ -29,7 +31,7 @@ overflows i h = sym (ap (λ b. cond b (ok (datum (integer i))) (err overflow)) (
     never true e = absurd (h (record { sfits = ltb-true (mag i) 9223372036854775808 e }))
     never false e = e
 
--- of a sum, a difference, a product or an opposite, i
+-- of a sum, a difference or an opposite, i
 pub checked_is : (i : ℤ) (o : Option ℤ) → SomeIff o (SFits w64 i) i → answered (ok_or o Overflow) ≡ checked i
 checked_is i None h = overflows i h
 checked_is i (Some x) h = ap (λ z. ok (datum (integer z))) h.1 ∙ fits i h.0
@@ -66,3 +68,46 @@ product_fits (pos a) (pos b) = positive_magnitude (a * b)
 product_fits (pos a) (negsuc b) = negative_magnitude (a * suc b)
 product_fits (negsuc a) (pos b) = negative_magnitude (suc a * b)
 product_fits (negsuc a) (negsuc b) = positive_magnitude (suc a * suc b)
+
+-- as the code tests it: l is that largest magnitude, x and y are the factors'
+module _ (a b : ℤ) (l x y : ℕ) (large : l ≡ largest_magnitude a b) (left : x ≡ nat_abs a) (right : y ≡ nat_abs b) (nonzero : x ≡ 0 → ⊥) where
+  divides : (y ≤ l / x) ↔ (y * x ≤ l)
+  divides = le-div_iff_mul-le {k = x} {x = y} {y = l} (above x nonzero)
+    where
+      above : (n : ℕ) → (n ≡ 0 → ⊥) → 0 < n
+      above n h = omega arith
+
+  magnitudes : y * x ≡ nat_abs a * nat_abs b
+  magnitudes = ap (λ n. n * x) right ∙ ap (λ n. nat_abs b * n) left ∙ mul_comm (nat_abs b) (nat_abs a)
+
+  pub divided_fits : y ≤ l / x → SFits w64 (a *ℤ b)
+  divided_fits h = record { sfits = (product_fits a b).1 (subst (λ n. n ≤ largest_magnitude a b) magnitudes (subst (λ n. y * x ≤ n) large (divides.0 h))) }
+
+  pub divided_overflows : l / x < y → err overflow ≡ multiply_integers a b
+  unfolding multiply_integers
+  divided_overflows h = overflows (a *ℤ b) never
+    where
+      never : SFits w64 (a *ℤ b) → ⊥
+      never f =
+          let m = divides.1 (subst (λ n. y * x ≤ n) (sym large) (subst (λ n. n ≤ largest_magnitude a b) (sym magnitudes) ((product_fits a b).0 f.sfits))) in
+          omega arith
+
+pub product_is : (a b : ℤ) → SFits w64 (a *ℤ b) → ok (datum (integer (a *ℤ b))) ≡ multiply_integers a b
+unfolding multiply_integers
+product_is a b h = fits (a *ℤ b) h
+
+pub zero_product : (a b : ℤ) → nat_abs a ≡ 0 → ok (datum (integer (pos 0))) ≡ multiply_integers a b
+unfolding multiply_integers
+zero_product (pos n) (pos m) h = fits (pos 0) (record { sfits = omega arith }) ∙ ap (λ k. checked (pos k)) (sym (ap (λ k. k * m) h ∙ zero-mul m))
+zero_product (pos n) (negsuc m) h = fits (pos 0) (record { sfits = omega arith }) ∙ ap (λ k. checked (neg_ℤ (pos k))) (sym (ap (λ k. k * suc m) h ∙ zero-mul (suc m)))
+zero_product (negsuc n) b h = absurd (omega arith)
+
+-- ---- signs, by the code's test
+
+pub below : (a : ℤ) → lt_z a (pos 0) ≡ true → (n : ℕ) × (a ≡ negsuc n)
+below (pos n) h = let l = ltb-true n 0 h in absurd (omega arith)
+below (negsuc n) h = (n, refl)
+
+pub not_below : (a : ℤ) → lt_z a (pos 0) ≡ false → (n : ℕ) × (a ≡ pos n)
+not_below (pos n) h = (n, refl)
+not_below (negsuc n) h = absurd (false≢true (sym h))

@@ -6,10 +6,10 @@ ghost use Rattle.std.specs.Float.Ieee as Ieee;
 ghost use Rattle.std.specs.Float.{binary64};
 ghost use Rattle.value.specs.Meaning.{meaning, outcome_of};
 ghost use Rattle.ieee754.specs.Ieee754.{square_root_bits};
-ghost use Rattle.arithmetic.specs.Operands.{answered, Operates};
-ghost use Rattle.value.specs.Arithmetic.{divide_integers, checked_add, checked_sub, checked_mul, checked_div, identity, negate, square_root};
+ghost use Rattle.arithmetic.specs.Operands.{answered, largest_magnitude, Operates};
+ghost use Rattle.value.specs.Arithmetic.{multiply_integers, divide_integers, checked_add, checked_sub, checked_mul, checked_div, identity, negate, square_root};
 
-use ieee754::nearest_f64;
+use ieee754::{magnitude, nearest_f64};
 use value::{Error, Value};
 
 // Adds two values.
@@ -40,12 +40,7 @@ pub fn checked_sub(lhs: Value, rhs: Value) -> Result<Value, Error>
 pub fn checked_mul(lhs: Value, rhs: Value) -> Result<Value, Error>
     ensures { (text : List ℕ) → outcome_of text result ≡ checked_mul (meaning text lhs) (meaning text rhs) }
 {
-    operate(
-        lhs,
-        rhs,
-        |a, b| a.checked_mul(b).ok_or(Error::Overflow),
-        |x, y| x * y,
-    )
+    operate(lhs, rhs, multiply_integers, |x, y| x * y)
 }
 
 // Divides two values.
@@ -74,6 +69,39 @@ where
         (Value::Integer(_) | Value::Float(_), Value::Null) => Ok(Value::Null),
         _ => Err(Error::Mismatch), // also Null + 'a', unlike Null = 'a'
     }
+}
+
+// The largest magnitude that a product of Integers with the signs of a and b may have.
+#[tactic(auto, using(crate::proofs::Integers::below, crate::proofs::Integers::not_below))]
+fn largest_magnitude(a: i64, b: i64) -> u64
+    ensures { result ≡ largest_magnitude a b }
+{
+    if a < 0 {
+        if b < 0 {
+            return 0x7FFFFFFFFFFFFFFF;
+        }
+        return 0x8000000000000000;
+    }
+    if b < 0 {
+        return 0x8000000000000000;
+    }
+    0x7FFFFFFFFFFFFFFF
+}
+
+// A product's magnitude is at most n where one factor's is at most n over the other's, so that no
+// product is worked out before it is known to fit.
+#[tactic(auto, using(crate::proofs::Integers::zero_product, crate::proofs::Integers::divided_fits, crate::proofs::Integers::divided_overflows, crate::proofs::Integers::product_is))]
+fn multiply_integers(a: i64, b: i64) -> Result<i64, Error>
+    ensures { answered result ≡ multiply_integers a b }
+{
+    let x = magnitude(a);
+    if x == 0 {
+        return Ok(0);
+    }
+    if largest_magnitude(a, b) / x < magnitude(b) {
+        return Err(Error::Overflow);
+    }
+    Ok(a * b)
 }
 
 // The quotient, cut toward zero.
