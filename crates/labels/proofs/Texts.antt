@@ -2,11 +2,11 @@
 use Prim.Native.Nat.{ℕ, ◌+◌, ◌*◌, ◌≤◌, ◌<◌}
 use native.Mathlib.Omega.{arith}
 use mathlib.Core.Bool.{Bool, true, false}
-use mathlib.Core.Path.{◌≡◌, refl, sym, ap, ◌∙◌}
+use mathlib.Core.Path.{◌≡◌, refl, sym, ap, ap₂, ◌∙◌}
 use mathlib.Core.List.{List}
 use lib.ListN.{length}
 use Rattle.std.proofs.Common.{Option as CodeOption, Some, None}
-use Rattle.std.specs.Option.{unwrap_or}
+use Rattle.std.specs.Option.{is_some, unwrap_or}
 use Rattle.value.specs.Meaning.{bytes_at}
 use Rattle.sql.specs.Schema.{Column, Table, table_of}
 use Rattle.sql.specs.Plan.{Node, table_label, column_label, qualified}
@@ -51,6 +51,12 @@ labels_table t alias i {q = q} {r = r} e f g schema n =
 pub qualifier_or : (alias : CodeOption ℕ) (name : ℕ) → unwrap_or alias name ≡ plan.qualifier (alias_of alias) name
 qualifier_or None name = refl
 qualifier_or (Some alias) name = refl
+
+-- The same of a flag that says whether there is an alias, and the alias beside it, or 0.
+pub qualifier_parts : (alias : CodeOption ℕ) (name : ℕ) {aliased : Bool} {a : ℕ} → aliased ≡ is_some alias → a ≡ unwrap_or alias 0
+    → plan.qualifier (alias_if aliased a) name ≡ unwrap_or alias name
+qualifier_parts None name {a = a} e f = ap (λ (t : Bool). plan.qualifier (alias_if t a) name) e
+qualifier_parts (Some alias) name e f = ap₂ (λ (t : Bool) (n : ℕ). plan.qualifier (alias_if t n) name) e f
 
 module _ {records columns s : List ℕ} {lo hi i : ℕ} {x : Traced} (f : Traces records s lo hi i x) where
   pub label_said_here : (l : Label) → x ≡ traced.Said l → ColumnLabel records columns s lo hi i l

@@ -339,7 +339,11 @@ fn table_label(t: usize, alias: Option<u32>, i: usize, tables: &[u8], columns: &
     requires { RecordsAt tables.now columns.now }
     ensures { TableLabel tables.now columns.now t alias i result }
 {
-    let q = alias.unwrap_or(records::table_name(tables, t));
+    let q = qualifier(
+        alias.is_some(),
+        alias.unwrap_or(0),
+        records::table_name(tables, t),
+    );
     Label::Qualified(q, column_name(t, i, tables, columns))
 }
 

@@ -1,4 +1,4 @@
-use Rattle.labels.proofs.Texts.{labels_table, qualifier_or}
+use Rattle.labels.proofs.Texts.{labels_table, qualifier_or, qualifier_parts}
 use mathlib.Core.Path.{◌∙◌}
 use Rattle.labels.proofs.table_label.Goals as goal
 
@@ -6,4 +6,4 @@ pub column_name-requires : goal.column_name-requires
 column_name-requires c = c.requires
 
 pub returns : goal.returns
-returns c = labels_table c.args.t c.args.alias c.args.i c.table_name.ensures (c.unwrap_or-q.ensures ∙ qualifier_or c.args.alias c.table_name.result) c.column_name.ensures
+returns c = labels_table c.args.t c.args.alias c.args.i c.table_name.ensures (c.qualifier-q.ensures ∙ (qualifier_parts c.args.alias c.table_name.result c.is_some.ensures c.unwrap_or.ensures ∙ qualifier_or c.args.alias c.table_name.result)) c.column_name.ensures
