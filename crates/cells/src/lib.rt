@@ -106,7 +106,7 @@ pub fn start(s: &[u32], hi: usize) -> usize
     requires { Sized s.now hi }
     ensures { result ≡ start_at s.now hi }
 {
-    hi - s[hi - 1] as usize
+    hi - wide(s[hi - 1])
 }
 
 // The cell k over the words of d from lo up to at.

@@ -2,17 +2,16 @@
 -- Assumes nothing.
 use Prim.Native.Nat.{ℕ, ◌+◌, ◌-◌, ◌*◌, ◌≤◌, ◌<◌}
 use native.Mathlib.Omega.{arith}
-use borrow.Author.Tests.{ltb-true, ltb-false, eq-eqb}
+use borrow.Author.Tests.{eq-eqb}
 use mathlib.Core.Path.{◌≡◌, refl, sym, ap, ap₂, ◌∙◌}
 use mathlib.Core.Logic.{◌≢◌}
 use mathlib.Core.Bool.{Bool, true, false, ◌&&◌}
 use mathlib.Core.List.{List, [], ◌∷◌, ◌++◌}
-use lib.Dec.{eqb, ltb}
+use lib.Dec.{eqb}
 use lib.Pointwise.{pointwise}
 use Rattle.std.specs.Int.{w64, from_le_bytes}
-use Prim.Native.Nat.{min}
-use lib.ListN.{replicate, get_or-append, get_or-replicate, length, take, drop, get_or, length-take, length-drop, get_or-eq_default}
-use lib.Seq.{get_or-append-add, get_or-take, get_or-drop, take-append-add}
+use lib.ListN.{length, take, drop, get_or, length-take, length-drop, get_or-eq_default}
+use lib.Seq.{get_or-take, get_or-drop, take-append-add}
 use Rattle.sheet.specs.Bytes.{byte, word, bytes}
 use Rattle.sheet_laws.specs.Fits.{Word}
 use Rattle.sheet_laws.specs.Plan.{Bytes}
@@ -34,36 +33,11 @@ pub byte_behind : (s : List ℕ) (at n i : ℕ) → at + n ≤ length s → n �
 byte_behind s at n i h l = sym (get_or-eq_default (stretch s at n) 0 (omega (arith, length_stretch s at n h)))
 
 -- Eight bytes as one number, if they are those that a string begins with, and zeros behind it.
-pub mark_is : (t w : List ℕ) → ((i : ℕ) → i < 8 → get_or w i 0 ≡ byte t i) → from_le_bytes w64 w ≡ mark_of t
+pub mark_is : (t : List ℕ) {b0 b1 b2 b3 b4 b5 b6 b7 : ℕ}
+    → b0 ≡ byte t 0 → b1 ≡ byte t 1 → b2 ≡ byte t 2 → b3 ≡ byte t 3 → b4 ≡ byte t 4 → b5 ≡ byte t 5 → b6 ≡ byte t 6 → b7 ≡ byte t 7
+    → from_le_bytes w64 (b0 ∷ b1 ∷ b2 ∷ b3 ∷ b4 ∷ b5 ∷ b6 ∷ b7 ∷ []) ≡ mark_of t
 unfolding word
-mark_is t w h =
-    let b0 = h 0 (omega arith) in
-    let b1 = h 1 (omega arith) in
-    let b2 = h 2 (omega arith) in
-    let b3 = h 3 (omega arith) in
-    let b4 = h 4 (omega arith) in
-    let b5 = h 5 (omega arith) in
-    let b6 = h 6 (omega arith) in
-    let b7 = h 7 (omega arith) in
-    omega arith
-
-pub front_is : (s : List ℕ) (at n k : ℕ) (front : List ℕ) → at + n ≤ length s → k ≡ min n 8 → front ≡ take k (drop at s) → (i : ℕ) → i < 8
-    → get_or (front ++ drop k (replicate 8 0)) i 0 ≡ byte (stretch s at n) i
-front_is s at n k front h e f i l = go (ltb i k) refl
-  where
-    long : length front ≡ k
-    long = ap length f ∙ omega (arith, length-take k (drop at s), length-drop at s)
-
-    go : (b : Bool) → ltb i k ≡ b → get_or (front ++ drop k (replicate 8 0)) i 0 ≡ byte (stretch s at n) i
-    go true t =
-        let m = ltb-true i k t in
-        get_or-append front (drop k (replicate 8 0)) 0 i (omega (arith, long))
-        ∙ (ap (λ (x : List ℕ). get_or x i 0) f ∙ (get_or-take k (drop at s) i 0 m ∙ sym (get_or-take n (drop at s) i 0 (omega arith))))
-    go false t =
-        let m = ltb-false i k t in
-        let same_place : i ≡ length front + (i - k) = omega (arith, long) in
-        ap (λ (j : ℕ). get_or (front ++ drop k (replicate 8 0)) j 0) same_place
-        ∙ (get_or-append-add front (drop k (replicate 8 0)) (i - k) 0 ∙ (get_or-drop k (replicate 8 0) (i - k) 0 ∙ (get_or-replicate 8 (k + (i - k)) 0 0 (omega arith) ∙ byte_behind s at n i h (omega arith))))
+mark_is t e0 e1 e2 e3 e4 e5 e6 e7 = omega arith
 
 -- ---- comparing
 

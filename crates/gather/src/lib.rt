@@ -4,20 +4,38 @@
 
 ghost use Rattle.std.specs.Prelude.{◌≡◌, Bool, true, false, ℕ, ◌+◌, ◌-◌, ◌*◌, ◌≤◌, ◌<◌, map, length, take};
 ghost use Rattle.value.specs.Meaning.{bytes_at};
+ghost use Rattle.sheet.specs.Bytes.{byte};
 ghost use Rattle.sheet_laws.specs.Fits.{All};
 ghost use Rattle.compact.specs.Strings as Strings;
 ghost use Rattle.compact.specs.Strings.{joined};
 ghost use Rattle.gather.specs.Gather.{stretch, eight, mark_of, Begins, Inside, held, Holds, Finds, Places, Gathered};
 
-// The first eight bytes of the n from `at` on as one number. Those behind a shorter string count as 0.
+// Byte i of the n from `at` on, and 0 behind them.
+fn nth(s: &[u8], at: usize, n: usize, i: usize) -> u8
+    requires { at + n ≤ length s.now }
+    ensures { result ≡ byte (stretch s.now at n) i }
+{
+    if n <= i {
+        return 0;
+    }
+    s[at + i]
+}
+
+// The first eight bytes of the n from `at` on as one number. One by one: a copy of so few bytes is a call of C's memcpy, which the archive wants of no one.
 fn mark(s: &[u8], at: usize, n: usize) -> usize
     requires { at + n ≤ length s.now }
     ensures { result ≡ mark_of (stretch s.now at n) }
 {
-    let mut first = [0u8; 8];
-    let k = n.min(8);
-    first[..k].copy_from_slice(&s[at..at + k]);
-    usize::from_le_bytes(first)
+    usize::from_le_bytes([
+        nth(s, at, n, 0),
+        nth(s, at, n, 1),
+        nth(s, at, n, 2),
+        nth(s, at, n, 3),
+        nth(s, at, n, 4),
+        nth(s, at, n, 5),
+        nth(s, at, n, 6),
+        nth(s, at, n, 7),
+    ])
 }
 
 // ---- comparing

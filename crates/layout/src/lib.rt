@@ -249,10 +249,10 @@ fn column_fields_ok(s: &[u8], i: usize, text: usize) -> bool
 {
     let marks = word_at(s, i + 4);
     inside(text, word_at(s, i))
-        && marks < 512
-        && marks % 256 < 4
-        && word_at(s, i + 8) == 0
-        && word_at(s, i + 12) == 0
+        & (marks < 512)
+        & (marks % 256 < 4)
+        & (word_at(s, i + 8) == 0)
+        & (word_at(s, i + 12) == 0)
 }
 
 // The lowest column record that breaks its layout, by its number among the records, tables counted first. There can be many columns, so how many the tables
