@@ -2,7 +2,7 @@
 use Prim.Native.Nat.{ℕ, ◌+◌, ◌-◌, ◌*◌, ◌≤◌, ◌<◌}
 use native.Mathlib.Omega.{arith}
 use mathlib.Core.Logic.{⊎_elim}
-use mathlib.Core.Path.{◌≡◌, refl, sym, ap, ◌∙◌, subst}
+use mathlib.Core.Path.{◌≡◌, refl, sym, ap, ap₂, ◌∙◌, subst}
 use mathlib.Core.List.{List, [], ◌∷◌, ◌++◌, append_assoc}
 use lib.ListN.{length, take, drop, set, replicate, length-append, length-drop, length-replicate, take-append-drop}
 use lib.Seq.{take-paste, length-paste, take-take, take_at, length-take-le, drop_at, drop-drop, take-set-lt, set_at}
@@ -118,9 +118,10 @@ new_count from n tail = (omega arith, omega arith)
 
 -- not as many as before: x₁ is x after the words behind were moved, so that there are as many words as take their place, whatever they are
 module _ (x : List ℕ) {y : List ℕ} {n t from tail : ℕ} (inside : t ≤ length x) where
-  pub replace_moved : {x₁ d' : List ℕ} → from + tail ≤ t → n ≤ length y → n ≤ length x - from - tail → x₁ ≡ moved x (t - tail) t (from + n)
-      → d' ≡ take n y → Replaces x y n t from tail (from + n + tail) (take from x₁ ++ (d' ++ drop (from + n - from) (drop from x₁)))
-  replace_moved {x₁ = x₁} h k z e₁ c pre old post e a b y₀ w l₀ l f =
+  pub replace_moved : {x₀ x₁ d' : List ℕ} {end to : ℕ} → from + tail ≤ t → n ≤ length y → n ≤ length x - from - tail → end ≡ t - tail → to ≡ from + n
+      → x₁ ≡ moved x₀ end t to → x₀ ≡ x → d' ≡ take n y → Replaces x y n t from tail (from + n + tail) (take from x₁ ++ (d' ++ drop (from + n - from) (drop from x₁)))
+  replace_moved {x₀ = x₀} {x₁ = x₁} {end = end} {to = o} h k z is_end is_to e₀ is_x c pre old post e a b y₀ w l₀ l f =
+      let e₁ : x₁ ≡ moved x (t - tail) t (from + n) = e₀ ∙ ap (λ (s : List ℕ). moved s end t o) is_x ∙ ap₂ (λ (i j : ℕ). moved x i t j) is_end is_to in
       let to = from + n in
       let fits : to + tail ≤ length x = omega arith in
       let q = t - (t - tail) in

@@ -40,6 +40,10 @@ pub low_bytes : (w : ℕ) → take 4 (to_le_bytes w64 w) ≡ bytes w
 unfolding bytes
 low_bytes w = refl
 
+-- The same where the number is given in other words.
+pub low_bytes_at : {m : ℕ} {v : List ℕ} (w : ℕ) → v ≡ to_le_bytes w64 m → m ≡ w → take 4 v ≡ bytes w
+low_bytes_at {m} w e f = ap (take 4) e ∙ (low_bytes m ∙ ap bytes f)
+
 pub length_bytes : (w : ℕ) → length (bytes w) ≡ 4
 unfolding bytes
 length_bytes w = refl

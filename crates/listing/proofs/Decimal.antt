@@ -54,6 +54,10 @@ decimal_is n h = sym (decimal_by_steps (λ (m : ℕ) (ds : List ℕ). (k : ℕ) 
         let size = length-append ds ((48 + m % 10) ∷ []) in
         digits_more k m (omega arith) l ∙ ap (λ (x : List ℕ). x ++ ((48 + m % 10) ∷ [])) (ih (k - 1) (omega arith))
 
+-- the same where the number is given in other words
+pub decimal_at : {m : ℕ} {t : List ℕ} (n : ℕ) → t ≡ Library.decimal m → m ≡ n → n < 2 ^ 64 → t ≡ decimal n
+decimal_at n e f h = e ∙ (ap Library.decimal f ∙ decimal_is n h)
+
 -- the same words, written under another name
 pub as_written : {d : List ℕ} {at r : ℕ} {v w d' : List ℕ} → v ≡ w → Wrote d at v r d' → Wrote d at w r d'
 as_written {d} {at} {r} {v} {w} {d'} e h = subst (λ (l : List ℕ). Wrote d at l r d') e h

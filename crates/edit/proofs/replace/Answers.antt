@@ -1,4 +1,5 @@
 use Rattle.edit.proofs.Edits.{replace_long, replace_full, replace_same, replace_moved}
+use Rattle.std.proofs.Common.{rules}
 use native.Mathlib.Omega.{arith}
 use mathlib.Core.Path.{refl}
 use Rattle.edit.proofs.replace.Goals as goal
@@ -13,4 +14,4 @@ pub returns-then-x-from : goal.returns-then-x-from
 returns-then-x-from c = replace_full _ c.requires.1 c.requires.0 c.if-y-n.false c.if-x-from.true (omega arith)
 
 pub returns : goal.returns
-returns c = replace_moved _ c.requires.1 c.requires.0 c.if-y-n.false c.if-x-from.false c.copy_within.ensures.after c.copy_from_slice-2.ensures.after
+returns c = replace_moved _ c.requires.1 c.requires.0 c.if-y-n.false c.if-x-from.false (omega arith) (omega arith) c.copy_within.ensures.after (search rules) c.copy_from_slice-2.ensures.after

@@ -1,8 +1,8 @@
 use Rattle.cells.proofs.Laws.{then}
-use Rattle.listing.proofs.Decimal.{decimal_is, as_written}
+use Rattle.listing.proofs.Decimal.{decimal_at, as_written}
 use mathlib.Core.Path.{◌∙◌}
 use native.Mathlib.Omega.{arith}
 use Rattle.listing.proofs.number.Goals as goal
 
 pub returns : goal.returns
-returns c = then c.text-m.auto.d (as_written (c.as_bytes.ensures.value ∙ (c.format.ensures.text ∙ decimal_is c.args.n (omega arith))) c.text-m.ensures) c.text.ensures
+returns c = then c.text-m.auto.d (as_written (c.as_bytes.ensures.value ∙ decimal_at c.args.n c.format.ensures.text (omega arith) (omega arith)) c.text-m.ensures) c.text.ensures
