@@ -29,7 +29,8 @@ pub struct Children {
     pub aggs: usize,
 }
 
-// The sort of a cell with this tag, or none where no cell has it.
+// The sort of a cell with this tag, or none where no cell has it. It is asked for each cell, and read in place.
+#[inline(always)]
 pub fn sort_of(tag: u32) -> Option<Sort>
     ensures { Sorted tag result }
 {

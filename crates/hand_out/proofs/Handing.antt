@@ -1,12 +1,12 @@
 -- From what the code does to the outcome of the definitions.
 use Rattle.std.specs.Prelude.{Ok, Err}
-use Prim.Native.Nat.{ℕ, ◌+◌, ◌*◌, ◌/◌, ◌≤◌, ◌<◌}
+use Prim.Native.Nat.{ℕ, ◌/◌, ◌≤◌, ◌<◌}
 use native.Mathlib.Omega.{arith}
 use mathlib.Core.Path.{◌≡◌, refl, sym, ap, ◌∙◌, subst}
 use mathlib.Core.Bool.{Bool, true, false}
-use mathlib.Core.List.{List, ◌++◌}
+use mathlib.Core.List.{List}
 use lib.Dec.{leb}
-use lib.ListN.{length, take, drop}
+use lib.ListN.{length}
 use lib.Seq.{length-take-le}
 use borrow.Author.Tests.{le-leb, lt-leb}
 use Rattle.sql.specs.Plan.{Node, columns, node_size}
@@ -15,7 +15,7 @@ use Rattle.sheet.specs.Parts.{table_count}
 use Rattle.sheet.specs.Check.{Numbers, text, schema, plan}
 use Rattle.sheet.specs.Check as Check
 use Rattle.sheet.specs.Write.{write}
-use Rattle.sheet.specs.Operations.{Outcome, refuse, written, hand_out}
+use Rattle.sheet.specs.Operations.{Outcome, written, hand_out}
 use Rattle.sound.specs.Checks.{sound_fits}
 use Rattle.layout.specs.Layout.{Whole}
 use Rattle.words.specs.Words.{node_words}
@@ -28,13 +28,10 @@ use Rattle.checker.specs.Checker.{numbers, outcome}
 use Rattle.checker.specs.declared.Answer as Code
 use Rattle.cells.specs.Cells.{cell_words}
 use Rattle.cells.specs.Room.{most_words}
-use Rattle.value.specs.Value.{number}
-use Rattle.value.specs.Meaning.{error}
-use Rattle.fold_operator.specs.declared.Failure.{Failure}
-use Rattle.passes.specs.declared.Refused.{Refused}
-use Rattle.passes.specs.declared.Refused.TheVariants.{Failed}
-use Rattle.passes.specs.Passes.{Passed, Left, Leaves, number_of, place_of}
-use Rattle.hand_out.specs.HandOut.{Fit, WrittenIn, WrittenAt, Writes, AnsweredAt, HandsOut}
+use Rattle.passes.specs.Passes.{Passed}
+use Rattle.passes.specs.Passes as Passes
+use Rattle.hand_out.specs.declared.NumberedRefusal.{NumberedRefusal}
+use Rattle.hand_out.specs.HandOut.{Fit, WrittenIn, WrittenAt, Writes, Ran, numbered, Left, Leaves, AnsweredAt, HandsOut}
 
 module _ {s x : List ℕ} {n : ℕ} {node m : Node} (w : WrittenIn s x n node m) where
   words_count : length (node_words m) ≡ n
@@ -112,28 +109,30 @@ hands_done s x n count out out' a w node answer is l k = go answer l.is
     go (done m) h = w node m (record { is = is; fit = h.1.1; words_are = h.1.0; inside = h.0 }) k
     go (refused number place) h = absurd h
 
-hands_refused : (s x : List ℕ) (why : Refused) (count : ℕ) (out : List ℕ) (a : Code.Answer) → numbers a ≡ Check.refusal (number_of why) (place_of why)
+hands_refused : (s x : List ℕ) (why : NumberedRefusal) (count : ℕ) (out : List ℕ) (a : Code.Answer) → numbers a ≡ Check.refusal why.number why.place
     → HandsOut s x (Err why) count out a out
 hands_refused s x why count out a e node answer is l k = go answer l.is
   where
     go : (answer : Answer Node) → Left (Fit s node) x answer (Err why) → outcome a out ≡ hand_out s out answer
     go (done m) h = absurd h
-    go (refused k' p) h = ap (λ (z : Numbers). record { numbers = z; output = out }) (e ∙ ap (λ (z : ℕ). Check.refusal z (place_of why)) h.0 ∙ ap (Check.refusal k') h.1)
+    go (refused k' p) h = ap (λ (z : Numbers). record { numbers = z; output = out }) (e ∙ ap (λ (z : ℕ). Check.refusal z why.place) h.0 ∙ ap (Check.refusal k') h.1)
 
 -- the same of an answer that is known to be one of these
-pub hands_done_as : (s x : List ℕ) (n count : ℕ) (out out' : List ℕ) (a : Code.Answer) (r : Passed) → r ≡ Ok n → Writes s x n count out a out' → HandsOut s x r count out a out'
-hands_done_as s x n count out out' a r e w = subst (λ (z : Passed). HandsOut s x z count out a out') (sym e) (hands_done s x n count out out' a w)
+pub hands_done_as : (s x : List ℕ) (n count : ℕ) (out out' : List ℕ) (a : Code.Answer) (r : Ran) → r ≡ Ok n → Writes s x n count out a out' → HandsOut s x r count out a out'
+hands_done_as s x n count out out' a r e w = subst (λ (z : Ran). HandsOut s x z count out a out') (sym e) (hands_done s x n count out out' a w)
 
-pub hands_refused_as : (s x : List ℕ) (why : Refused) (count : ℕ) (out : List ℕ) (a : Code.Answer) (r : Passed) → r ≡ Err why
-    → numbers a ≡ Check.refusal (number_of why) (place_of why) → HandsOut s x r count out a out
-hands_refused_as s x why count out a r e h = subst (λ (z : Passed). HandsOut s x z count out a out) (sym e) (hands_refused s x why count out a h)
+pub hands_refused_as : (s x : List ℕ) (why : NumberedRefusal) (count : ℕ) (out : List ℕ) (a : Code.Answer) (r : Ran) → r ≡ Err why
+    → numbers a ≡ Check.refusal why.number why.place → HandsOut s x r count out a out
+hands_refused_as s x why count out a r e h = subst (λ (z : Ran). HandsOut s x z count out a out) (sym e) (hands_refused s x why count out a h)
 
--- ---- refused
+-- ---- with the refusal by number and place
 
-module _ {a : Code.Answer} {why : Refused} where
-  pub known_said : {known : Refused} → why ≡ known → numbers a ≡ Check.refusal (number_of known) (place_of known) → numbers a ≡ Check.refusal (number_of why) (place_of why)
-  known_said e h = h ∙ sym (ap (λ (w : Refused). Check.refusal (number_of w) (place_of w)) e)
-
-  pub failed_said : {failure : Failure} {said : ℕ} → why ≡ Failed failure → said ≡ number (error failure.error) → numbers a ≡ Check.refusal said failure.place
-      → numbers a ≡ Check.refusal (number_of why) (place_of why)
-  failed_said {failure} e q h = known_said e (h ∙ ap (λ (z : ℕ). Check.refusal z failure.place) q)
+-- What a pass leaves, it leaves so.
+pub left_numbered : {Fit : Node → Type 0} {x : List ℕ} {answer : Answer Node} {r : Passed} → Passes.Leaves Fit x answer r → Leaves Fit x answer (numbered r)
+left_numbered {Fit} {x} {answer} {r} l = record { is = go answer r l.is }
+  where
+    go : (answer : Answer Node) (r : Passed) → Passes.Left Fit x answer r → Left Fit x answer (numbered r)
+    go (done m) (Ok n) h = h
+    go (done m) (Err why) h = h
+    go (refused number place) (Ok n) h = h
+    go (refused number place) (Err why) h = h

@@ -1,7 +1,7 @@
 -- What an operation hands out: the outcome of the code beside that of the definitions (crate sheet, Operations).
-use Rattle.std.specs.Prelude.{ℕ, ◌≤◌, ◌≡◌, List, leb, length, take}
+use Rattle.std.specs.Prelude.{ℕ, ◌≤◌, ◌≡◌, List, leb, length, take, Result, Ok, Err}
 use Rattle.sql.specs.Plan.{Node, columns}
-use Rattle.sql.specs.Answer.{Answer, done}
+use Rattle.sql.specs.Answer.{Answer, done, refused}
 use Rattle.sheet.specs.Parts.{table_count}
 use Rattle.sheet.specs.Cell.{origins}
 use Rattle.sheet.specs.Check.{text, schema, plan}
@@ -13,7 +13,9 @@ use Rattle.kept.specs.Kept.{Kept}
 use Rattle.checker.specs.Checker.{outcome}
 use Rattle.checker.specs.declared.Answer as Code
 use Rattle.cells.specs.Room.{most_words}
-use Rattle.passes.specs.Passes.{Passed, Leaves}
+use Rattle.passes.specs.declared.Refused.{Refused}
+use Rattle.passes.specs.Passes.{Passed, number_of, place_of}
+use Rattle.hand_out.specs.declared.NumberedRefusal.{NumberedRefusal}
 
 -- m can take the place of a sheet's plan.
 abbrev pub Fit : List ℕ → Node → Node → Type 0
@@ -44,8 +46,30 @@ pub record Counted (s : List ℕ) (count : ℕ) : Type 0 where
   pub is : plan s ≡ done node
   pub wide : count ≡ columns (schema s) node
 
+-- What is handed out: where the plan that a run leaves ends, or a refusal, whatever its number and place.
+abbrev pub Ran : Type 0
+Ran = Result ℕ NumberedRefusal
+
+-- The refusal of a pass by its number and place, and what a run has left with its refusal so.
+abbrev pub numbered_refusal : Refused → NumberedRefusal
+numbered_refusal why = record { number = number_of why; place = place_of why }
+
+abbrev pub numbered : Passed → Ran
+numbered (Ok n) = Ok n
+numbered (Err why) = Err (numbered_refusal why)
+
+-- The plan of a done answer is the first n words of x, and is fit; or the refusal's number and place are given back.
+abbrev pub Left : (Node → Type 0) → List ℕ → Answer Node → Ran → Type 0
+Left Fit x (done m) (Ok n) = (n ≤ length x) × ((take n x ≡ node_words m) × Fit m)
+Left Fit x (done m) (Err why) = ⊥
+Left Fit x (refused number place) (Ok n) = ⊥
+Left Fit x (refused number place) (Err why) = (why.number ≡ number) × (why.place ≡ place)
+
+pub record Leaves (Fit : Node → Type 0) (x : List ℕ) (answer : Answer Node) (r : Ran) : Type 0 where
+  pub is : Left Fit x answer r
+
 -- s stands for some plan, and a run on it has left an answer in x and r.
-pub record AnsweredAt (s x : List ℕ) (r : Passed) : Type 0 where
+pub record AnsweredAt (s x : List ℕ) (r : Ran) : Type 0 where
   pub node : Node
   pub is : plan s ≡ done node
   pub answer : Answer Node
@@ -53,7 +77,7 @@ pub record AnsweredAt (s x : List ℕ) (r : Passed) : Type 0 where
   pub origins_are : (m : Node) → answer ≡ done m → OriginsBelow (origins s) m
   pub short : length x ≤ most_words
 
-abbrev pub HandsOut : (s x : List ℕ) → Passed → (count : ℕ) (out : List ℕ) → Code.Answer → List ℕ → Type 0
+abbrev pub HandsOut : (s x : List ℕ) → Ran → (count : ℕ) (out : List ℕ) → Code.Answer → List ℕ → Type 0
 HandsOut s x r count out a out' =
     (node : Node) (answer : Answer Node) → plan s ≡ done node → Leaves (Fit s node) x answer r → count ≡ columns (schema s) node
     → outcome a out' ≡ hand_out s out answer

@@ -2,10 +2,7 @@
 #![tactic(auto)]
 
 ghost use Rattle.std.specs.Prelude.{◌≡◌};
-ghost use Rattle.sheet.specs.Check;
-ghost use Rattle.checker.specs.Checker.{numbers};
-ghost use Rattle.passes.specs.Passes.{number_of, place_of};
-ghost use Rattle.hand_out.specs.HandOut.{Counted, WrittenAt, Writes, AnsweredAt, HandsOut};
+ghost use Rattle.hand_out.specs.HandOut.{Counted, WrittenAt, Writes, numbered_refusal, numbered, AnsweredAt, HandsOut};
 
 use checker::Answer;
 use passes::Refused;
@@ -29,23 +26,42 @@ fn write(s: &[u8], x: &[u32], n: usize, columns: usize, out: &mut [u8]) -> Answe
     }
 }
 
-// The answer for what a pass refuses.
-fn refused(why: Refused) -> Answer
-    ensures { numbers result ≡ Check.refusal (number_of why) (place_of why) }
-{
-    match why {
-        Refused::NoRoom => checker::refusal(14, 0),
-        Refused::Failed(failure) => {
-            checker::refusal(failure.error.number() as usize, failure.place)
+// A refusal by its number and its place, whichever they are.
+#[derive(Clone, Copy)]
+pub struct NumberedRefusal {
+    pub number: u32,
+    pub place: usize,
+}
+
+impl From<Refused> for NumberedRefusal {
+    ghost from_gives = { λ why r. r ≡ numbered_refusal why };
+
+    fn from(why: Refused) -> NumberedRefusal {
+        match why {
+            Refused::NoRoom => NumberedRefusal {
+                number: 14,
+                place: 0,
+            },
+            Refused::Failed(failure) => NumberedRefusal {
+                number: failure.error.number(),
+                place: failure.place,
+            },
         }
     }
+}
+
+// What a run has left, with its refusal by number and place.
+pub fn numbered(r: Result<usize, Refused>) -> Result<usize, NumberedRefusal>
+    ensures { result ≡ numbered r }
+{
+    Ok(r?)
 }
 
 // What a run on the plan of s, which has so many columns, has left in x.
 pub fn hand_out(
     s: &[u8],
     x: &[u32],
-    r: Result<usize, Refused>,
+    r: Result<usize, NumberedRefusal>,
     columns: usize,
     out: &mut [u8],
 ) -> Answer
@@ -55,6 +71,6 @@ pub fn hand_out(
 {
     match r {
         Ok(n) => write(s, x, n, columns, out),
-        Err(why) => refused(why),
+        Err(why) => checker::refusal(why.number as usize, why.place),
     }
 }

@@ -511,7 +511,8 @@ fn row_to_63(tag: u32) -> Row
     }
 }
 
-// The row of a tag. Those from 64 on are unknown.
+// The row of a tag. Those from 64 on are unknown. Read in place, a row's fields stay in registers: it is asked for each cell.
+#[inline(always)]
 fn row_of(tag: u32) -> Row
     ensures { tag_from result ≡ tag_of tag }
 {

@@ -33,11 +33,12 @@ use Rattle.encode.specs.Encode.{cells_in}
 use Rattle.encode.proofs.Says.{node_cells}
 use Rattle.decode.specs.Decode.{Acceptable, Decodes}
 use Rattle.checker.specs.declared.Answer as Code
-use Rattle.hand_out.specs.HandOut.{Fit, AnsweredAt, HandsOut}
+use Rattle.hand_out.specs.HandOut.{Fit, Ran, numbered, Leaves, AnsweredAt, HandsOut}
+use Rattle.hand_out.proofs.Handing.{left_numbered}
 use Rattle.optimizer.specs.Choices.{chosen}
 use Rattle.optimizer.specs.declared.Chosen.{Chosen}
 use Rattle.optimizer.specs.declared.Chosen.TheVariants.{One, All}
-use Rattle.passes.specs.Passes.{Lent, PlanIn, PlanAt, Alike, Leaves, Runs, ForAll, Passed}
+use Rattle.passes.specs.Passes.{Lent, PlanIn, PlanAt, Alike, Runs, ForAll, Passed}
 use Rattle.sheet_passes.specs.SheetPasses.{RunAt, RunsOn}
 
 module _ (s : List ℕ) (b : Bytes s) (n : Node) (h : plan s ≡ done n) where
@@ -107,13 +108,14 @@ module _ (s : List ℕ) (b : Bytes s) {x y z w : List ℕ} (at : RunAt s x y z w
       let a = at.alike in
       record { second = omega (arith, a.second, same); third = omega (arith, a.third, same); fourth = omega (arith, a.fourth, same) }
 
-  module _ (c : Chosen) (y' : List ℕ) (long : length y' ≡ length y) (r : Passed) (run : Runs (ForAll text' tables columns) (chosen c) x' t y' r) where
+  module _ (c : Chosen) (y' : List ℕ) (long : length y' ≡ length y) (r : Passed) (run : Runs (ForAll text' tables columns) (chosen c) x' t y' r) (q : Ran) (by : q ≡ numbered r) where
     left : (node : Node) (room : ℕ) → plan s ≡ done node → node_size node ≤ room → length x ≡ cell_words * room
-        → Leaves (Fit s node) y' (chosen c room (schema s) node) r
+        → Leaves (Fit s node) y' (chosen c room (schema s) node) q
     left node room is fits all =
-        run (schema s) (text s) (table_count s) room node (given s b node is text' e f g) (decoded s b node is x t x' room d same at.short all fits)
+        subst (λ (z : Ran). Leaves (Fit s node) y' (chosen c room (schema s) node) z) (sym by)
+        (left_numbered (run (schema s) (text s) (table_count s) room node (given s b node is text' e f g) (decoded s b node is x t x' room d same at.short all fits)))
 
-    pub answered : AnsweredAt s y' r
+    pub answered : AnsweredAt s y' q
     answered =
         record {
           node = at.node;
@@ -124,7 +126,7 @@ module _ (s : List ℕ) (b : Bytes s) {x y z w : List ℕ} (at : RunAt s x y z w
           short = omega (arith, at.short, at.alike.second, long);
         }
 
-    pub runs_on : (count : ℕ) (out : List ℕ) (a : Code.Answer) (out' : List ℕ) → HandsOut s y' r count out a out' → RunsOn s c count x out a out'
+    pub runs_on : (count : ℕ) (out : List ℕ) (a : Code.Answer) (out' : List ℕ) → HandsOut s y' q count out a out' → RunsOn s c count x out a out'
     runs_on count out a out' h node room is fits all k = h node (chosen c room (schema s) node) is (left node room is fits all) k
 
 pub all_whole : {s x y z w : List ℕ} → RunAt s x y z w → Whole s

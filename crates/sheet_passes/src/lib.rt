@@ -29,5 +29,5 @@ pub fn run(
     let text = schema::text(s);
     let t = decode::decode(s, x);
     let r = optimizer::run(c, text, x, y, z, w, t, tables, columns);
-    hand_out::hand_out(s, y, r, count, out)
+    hand_out::hand_out(s, y, hand_out::numbered(r), count, out)
 }

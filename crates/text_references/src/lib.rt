@@ -16,7 +16,8 @@ pub fn a_refers(tag: u32, flag: usize) -> bool
 {
     match tag {
         tags::STRING => true,
-        tags::LABEL | tags::ITEM => 1 <= flag,
+        tags::LABEL => 1 <= flag,
+        tags::ITEM => 1 <= flag,
         _ => false,
     }
 }
@@ -26,8 +27,11 @@ pub fn b_refers(tag: u32, flag: usize) -> bool
     ensures { result ≡ asks_b (tag_of tag) flag }
 {
     match tag {
-        tags::LABEL | tags::ITEM | tags::SCAN => 2 <= flag,
-        tags::INDEX_LOOKUP | tags::KEY_LOOKUP => 1 <= flag,
+        tags::LABEL => 2 <= flag,
+        tags::ITEM => 2 <= flag,
+        tags::INDEX_LOOKUP => 1 <= flag,
+        tags::KEY_LOOKUP => 1 <= flag,
+        tags::SCAN => 2 <= flag,
         _ => false,
     }
 }
@@ -39,7 +43,8 @@ pub enum Slot {
     Reference(usize),
 }
 
-// Fields a and b of a cell.
+// Fields a and b of a cell. They are asked for each cell twice, and read in place.
+#[inline(always)]
 pub fn fields(k: layout::Cell) -> (Slot, Slot)
     ensures { Fields k result.0 result.1 }
 {

@@ -1,5 +1,4 @@
 use Rattle.hand_out.proofs.Handing.{asked_length, encodable, too_short, long_enough}
-use Prim.Native.Nat.{◌-◌}
 use native.Mathlib.Omega.{arith}
 use Rattle.hand_out.proofs.write.Goals as goal
 

@@ -19,7 +19,7 @@ pub run-r-requires : goal.run-r-requires
 run-r-requires c = record { choice = c.requires.choice; plan_at = ready c.args.s.now (λ i. omega (arith, c.shared_slice_known-1.given i)) c.requires.run_at _ _ c.decode-t.ensures c.decode-t.auto.x _ c.text-text.ensures c.table_records-tables.ensures c.column_records-columns.ensures; alike = still_alike c.args.s.now (λ i. omega (arith, c.shared_slice_known-1.given i)) c.requires.run_at _ _ c.decode-t.ensures c.decode-t.auto.x _ c.text-text.ensures c.table_records-tables.ensures c.column_records-columns.ensures }
 
 pub hand_out-requires : goal.hand_out-requires
-hand_out-requires c = record { answered_at = answered c.args.s.now (λ i. omega (arith, c.shared_slice_known-1.given i)) c.requires.run_at _ _ c.decode-t.ensures c.decode-t.auto.x _ c.text-text.ensures c.table_records-tables.ensures c.column_records-columns.ensures c.args.c _ c.run-r.auto.y _ c.run-r.ensures; counted = c.requires.counted }
+hand_out-requires c = record { answered_at = answered c.args.s.now (λ i. omega (arith, c.shared_slice_known-1.given i)) c.requires.run_at _ _ c.decode-t.ensures c.decode-t.auto.x _ c.text-text.ensures c.table_records-tables.ensures c.column_records-columns.ensures c.args.c _ c.run-r.auto.y _ c.run-r.ensures _ c.numbered.ensures; counted = c.requires.counted }
 
 pub shape_of-x : goal.shape_of-x
 shape_of-x c = c.run-r.auto.x ∙ c.decode-t.auto.x
@@ -37,4 +37,4 @@ pub shape_of-out : goal.shape_of-out
 shape_of-out c = c.hand_out.auto.out
 
 pub returns : goal.returns
-returns c = runs_on c.args.s.now (λ i. omega (arith, c.shared_slice_known-1.given i)) c.requires.run_at _ _ c.decode-t.ensures c.decode-t.auto.x _ c.text-text.ensures c.table_records-tables.ensures c.column_records-columns.ensures c.args.c _ c.run-r.auto.y _ c.run-r.ensures c.args.count c.args.out.now _ _ c.hand_out.ensures
+returns c = runs_on c.args.s.now (λ i. omega (arith, c.shared_slice_known-1.given i)) c.requires.run_at _ _ c.decode-t.ensures c.decode-t.auto.x _ c.text-text.ensures c.table_records-tables.ensures c.column_records-columns.ensures c.args.c _ c.run-r.auto.y _ c.run-r.ensures _ c.numbered.ensures c.args.count c.args.out.now _ _ c.hand_out.ensures

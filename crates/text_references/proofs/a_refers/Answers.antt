@@ -10,8 +10,8 @@ returns-in-5 c = always c.args.flag ∙ a_asks c.args.tag c.args.flag (some 0) (
 pub returns-in-40 : goal.returns-in-40
 returns-in-40 c = a_asks c.args.tag c.args.flag (some 1) (a_label c.args.tag (omega arith) (omega arith))
 
-pub returns-in_default : goal.returns-in_default
-returns-in_default c = a_asks c.args.tag c.args.flag none (a_none c.args.tag (omega arith) (omega arith) (omega arith))
+pub returns-in-41 : goal.returns-in-41
+returns-in-41 c = a_asks c.args.tag c.args.flag (some 1) (a_label c.args.tag (omega arith) (omega arith))
 
-pub returns-in_default-2 : goal.returns-in_default-2
-returns-in_default-2 c = a_asks c.args.tag c.args.flag none (a_none c.args.tag (omega arith) (omega arith) (omega arith))
+pub returns-in_default : goal.returns-in_default
+returns-in_default c = a_asks c.args.tag c.args.flag none (a_none c.args.tag (omega (arith, c.in_default)) (omega (arith, c.in_default)) (omega (arith, c.in_default)))
