@@ -6,4 +6,4 @@ pub returns-then-n-i : goal.returns-then-n-i
 returns-then-n-i c = byte_behind c.args.s.now c.args.at c.args.n c.args.i (omega arith) (omega arith)
 
 pub returns : goal.returns
-returns c = byte_in c.args.s.now c.args.at c.args.n c.args.i (omega arith)
+returns c = omega (arith, byte_in c.args.s.now c.args.at c.args.n c.args.i (omega arith))
